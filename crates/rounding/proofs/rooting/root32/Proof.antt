@@ -1,0 +1,52 @@
+-- `rounding::rooting::root32` meets its contract: finite and above zero by `root_pattern`, and elsewhere by the laws of the edges.
+use mathlib.Core.Path.{refl, subst}
+use Prim.Native.Nat.{ℕ}
+use native.Mathlib.Nat.{le-of-lt, zero-add}
+use lib.Ieee.{Float, binary32, ofBits, nanBits}
+use lib.Ieee.Bits.{ofBits-toBits}
+use Rattle.rounding.specs.Root.{IsRoot}
+use Rattle.rounding.proofs.Edges.{above-number, bits-pos, infinite-root, zero-root, no-root, no-nan}
+use borrow.Author.Needs.{needs}
+use Rattle.rounding.proofs.rooting.root32.Statement.{statement}
+use Rattle.rounding.proofs.rooting.root32.Tie as tie
+
+float-to-bits-b : tie.Need-float-to-bits-b
+float-to-bits-b c = above-number binary32 (c .before .args .x) (c .if1 .taken)
+
+cast-root-pattern : tie.Need-cast-root-pattern
+cast-root-pattern c = search needs
+
+root-pattern-requires : tie.Need-root-pattern-requires
+root-pattern-requires c κs = (record { digits = refl; lead = refl; least = refl; more = search needs; fits = search needs }, (bits-pos binary32 (c .before .before .args .x) (c .before .if1 .taken) (search needs), search needs))
+
+cast-result : tie.Need-cast-result
+cast-result c = search needs
+
+float-from-bits-result : tie.Need-float-from-bits-result
+float-from-bits-result c = no-nan binary32 (c .root-pattern .result) (le-of-lt (c .root-pattern .ensures .fine))
+
+returns : tie.Need-returns
+returns c = subst (λ (y : Float). IsRoot binary32 y (ofBits binary32 (c .root-pattern .result))) (ofBits-toBits binary32 (c .before .before .before .args .x) (search needs)) (c .root-pattern .ensures .is)
+
+returns-2 : tie.Need-returns-2
+returns-2 c = infinite-root binary32 (c .before .before .args .x) (c .before .if1 .taken) (search needs) (search needs)
+
+returns-3 : tie.Need-returns-3
+returns-3 c = zero-root binary32 (c .before .before .args .x) (c .if3 .taken)
+
+returns-4 : tie.Need-returns-4
+returns-4 c = no-root binary32 (c .before .before .args .x) (c .before .if1 .left) (c .if3 .left)
+
+pub root32-spec : {M : Type 1} → statement M
+root32-spec =
+    tie.close
+    (tie.spec
+    float-to-bits-b
+    cast-root-pattern
+    root-pattern-requires
+    cast-result
+    float-from-bits-result
+    returns
+    returns-2
+    returns-3
+    returns-4)

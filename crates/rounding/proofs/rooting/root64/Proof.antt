@@ -1,0 +1,44 @@
+-- `rounding::rooting::root64` meets its contract: finite and above zero by `root_pattern`, and elsewhere by the laws of the edges.
+use mathlib.Core.Path.{refl, subst}
+use Prim.Native.Nat.{ℕ}
+use native.Mathlib.Nat.{le-of-lt, zero-add}
+use lib.Ieee.{Float, binary64, ofBits, nanBits}
+use lib.Ieee.Bits.{ofBits-toBits}
+use Rattle.rounding.specs.Root.{IsRoot}
+use Rattle.rounding.proofs.Edges.{above-number, bits-pos, infinite-root, zero-root, no-root, no-nan}
+use borrow.Author.Needs.{needs}
+use Rattle.rounding.proofs.rooting.root64.Statement.{statement}
+use Rattle.rounding.proofs.rooting.root64.Tie as tie
+
+float-to-bits-b : tie.Need-float-to-bits-b
+float-to-bits-b c = above-number binary64 (c .before .args .x) (c .if1 .taken)
+
+root-pattern-requires : tie.Need-root-pattern-requires
+root-pattern-requires c κs = (record { digits = refl; lead = refl; least = refl; more = search needs; fits = search needs }, (bits-pos binary64 (c .before .before .args .x) (c .before .if1 .taken) (search needs), search needs))
+
+float-from-bits-result : tie.Need-float-from-bits-result
+float-from-bits-result c = no-nan binary64 (c .root-pattern .result) (le-of-lt (c .root-pattern .ensures .fine))
+
+returns : tie.Need-returns
+returns c = subst (λ (y : Float). IsRoot binary64 y (ofBits binary64 (c .root-pattern .result))) (ofBits-toBits binary64 (c .before .before .before .args .x) (search needs)) (c .root-pattern .ensures .is)
+
+returns-2 : tie.Need-returns-2
+returns-2 c = infinite-root binary64 (c .before .before .args .x) (c .before .if1 .taken) (search needs) (search needs)
+
+returns-3 : tie.Need-returns-3
+returns-3 c = zero-root binary64 (c .before .before .args .x) (c .if3 .taken)
+
+returns-4 : tie.Need-returns-4
+returns-4 c = no-root binary64 (c .before .before .args .x) (c .before .if1 .left) (c .if3 .left)
+
+pub root64-spec : {M : Type 1} → statement M
+root64-spec =
+    tie.close
+    (tie.spec
+    float-to-bits-b
+    root-pattern-requires
+    float-from-bits-result
+    returns
+    returns-2
+    returns-3
+    returns-4)

@@ -1,0 +1,31 @@
+-- Rounding to nearest, a tie to the even value: which value of a format is nearest to a number, said by comparing whole numbers.
+-- Definitions only. `proofs/Nearest.antt` shows that there is one such value, and only one.
+use mathlib.Core.Path.{_≡_}
+use mathlib.Core.Logic.{_⊎_}
+use Prim.Native.Nat.{ℕ, suc, _+_, _*_, _%_, _^_, _<_}
+use mathlib.Core.Bool.{Bool}
+use lib.Dec.{T}
+use lib.Ieee.{Float, nan, inf, fin, Format, emax, low, up, down, fits, toBits}
+
+-- z is a value of the format f with the sign s, and in size it is Z of f's smallest values, Z * 2 ^ -low.
+-- A finite z is m * 2 ^ e, the fraction m * up e / down e. An infinity counts as 2 ^ (emax + 1), with which the format would go on.
+abbrev pub Sized : Format → Bool → Float → ℕ → Type 0
+Sized f s nan Z = ⊥
+Sized f s (inf t) Z = (t ≡ s) × (Z ≡ 2 ^ (low f + suc (emax f)))
+Sized f s (fin t m e) Z = T (fits f (fin t m e)) × (t ≡ s) × (m * up e * 2 ^ low f ≡ Z * down e)
+
+-- the last digit of y's pattern is 0
+abbrev pub Even : Format → Float → Type 0
+Even f y = toBits f y % 2 ≡ 0
+
+-- y is the value of f nearest to a number that is not negative, with the sign s. Of the number this is known: the whole number v is to it as the whole number `mid M` is to M / 2 smallest values.
+-- So `mid (Y + Z)` against v says on which side of the point midway between Y and Z the number lies. It lies on Y's side for every other value Z, or midway, and then y is even.
+pub record Nearest (f : Format) (s : Bool) (v : ℕ) (mid : ℕ → ℕ) (y : Float) : Type 0 where
+  pub Y : ℕ
+  pub sized : Sized f s y Y
+  pub over : (z : Float) (Z : ℕ) → Sized f s z Z → Z < Y → (mid (Y + Z) < v) ⊎ ((mid (Y + Z) ≡ v) × Even f y)
+  pub under : (z : Float) (Z : ℕ) → Sized f s z Z → Y < Z → (v < mid (Y + Z)) ⊎ ((mid (Y + Z) ≡ v) × Even f y)
+
+-- y is the value of f nearest to the fraction a / c: that is a * 2 ^ low / c smallest values, and M / 2 of them are compared with it by M * c against 2 * (a * 2 ^ low)
+abbrev pub Rounds : Format → Bool → ℕ → ℕ → Float → Type 0
+Rounds f s a c y = Nearest f s (2 * (a * 2 ^ low f)) (λ M. M * c) y

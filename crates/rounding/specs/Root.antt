@@ -1,0 +1,29 @@
+-- The square root, rounded once to the nearest value, a tie to the even one. Rust's `sqrt`.
+use mathlib.Core.Path.{_≡_}
+use Prim.Native.Nat.{ℕ, zero, suc, _+_, _*_, _^_}
+use mathlib.Core.Bool.{true, false, cond}
+use lib.IntN.{ℤ}
+use lib.Ieee.{Float, nan, inf, fin, Format, low, up, down}
+use Rattle.rounding.specs.Nearest.{Nearest}
+use Rattle.rounding.specs.Pick.{pick}
+
+-- The root of m * 2 ^ e, which is m * up e * 2 ^ (low + low) / down e squares of the smallest value: M / 2 smallest values are compared with the root by their squares, M * M * down e against 4 * (m * up e * 2 ^ (low + low)).
+abbrev pub radicand : Format → ℕ → ℤ → ℕ
+radicand f m e = 4 * (m * up e * 2 ^ (low f + low f))
+
+-- y is the root of x
+abbrev pub IsRoot : Format → Float → Float → Type 0
+IsRoot f nan y = y ≡ nan
+IsRoot f (inf s) y = y ≡ cond s nan (inf false)
+IsRoot f (fin s zero e) y = y ≡ fin s zero e
+IsRoot f (fin true (suc m) e) y = y ≡ nan
+IsRoot f (fin false (suc m) e) y = Nearest f false (radicand f (suc m) e) (λ M. M * M * down e) y
+
+-- the one y that `IsRoot` allows (`proofs/Root.antt`), to compute with
+unfoldable pub root : Format → Float → Float
+unfolding pick
+root f nan = nan
+root f (inf s) = cond s nan (inf false)
+root f (fin s zero e) = fin s zero e
+root f (fin true (suc m) e) = nan
+root f (fin false (suc m) e) = pick f false (radicand f (suc m) e) (λ M. M * M * down e)

@@ -1,0 +1,59 @@
+// The square root of a float, rounded once, from its pattern.
+ghost use mathlib.Core.Path.{_≡_};
+ghost use Prim.Native.Nat.{_*_, _<_};
+ghost use lib.Ieee.{binary32, binary64, ones};
+ghost use Rattle.rounding.specs.Root.{IsRoot};
+ghost use Rattle.rounding.specs.Parts.{formatOf, Widths, Rooting};
+use crate::pattern;
+use crate::whole;
+
+// The root of x: Rust's `x.sqrt()`.
+pub fn root32(x: f32) -> f32
+    ensures { λ r. ⌜ IsRoot binary32 x r ⌝ }
+{
+    if x > 0.0 {
+        let b = f32::to_bits(x);
+        if b < 0x7f80_0000 {
+            f32::from_bits(root_pattern(b as u64, 24, 0x80_0000, 149, 0) as u32)
+        } else {
+            x
+        }
+    } else if x == 0.0 {
+        x
+    } else {
+        0.0 / 0.0
+    }
+}
+
+// The root of x: Rust's `x.sqrt()`.
+pub fn root64(x: f64) -> f64
+    ensures { λ r. ⌜ IsRoot binary64 x r ⌝ }
+{
+    if x > 0.0 {
+        let b = f64::to_bits(x);
+        if b < 0x7ff0_0000_0000_0000 {
+            f64::from_bits(root_pattern(b, 53, 0x10_0000_0000_0000, 1074, 26))
+        } else {
+            x
+        }
+    } else if x == 0.0 {
+        x
+    } else {
+        0.0 / 0.0
+    }
+}
+
+// The pattern of the root of what has the pattern b, finite and above zero. The whole root of the
+// number under b, grown to twice the format's digits and one or two more, has one digit more than
+// the format keeps, and half of it, rounded up, is nearest.
+fn root_pattern(b: u64, prec: u64, hid: u64, low: u64, n: u64) -> u64
+    requires { ⌜ Widths (formatOf prec) prec hid low n ⌝ ∗ ⌜ 0 < b ⌝ ∗ ⌜ b < ones (formatOf prec) * hid ⌝ }
+    ensures { λ r. ⌜ Rooting (formatOf prec) b r ⌝ }
+{
+    let x = pattern::taken(b, hid);
+    let y = pattern::normal(x.m, x.e + low, hid);
+    let e = y.e;
+    let grown = prec + 1 + (e + prec + 1) % 2;
+    let r = whole::root_digits(y.m << (grown - n * 2), n);
+    ((e - grown) / 2 + 1) * hid + (r.root + 1) / 2
+}
