@@ -1,11 +1,10 @@
 -- A float cut to a whole number from 0 to 255: by whether it is below 1, below 256, or neither.
-use mathlib.Core.Path.{_≡_, refl, sym, ap, _∙_, subst}
+use mathlib.Core.Path.{_≡_, refl, sym, _∙_}
 use Prim.Native.Nat.{ℕ, _+_, _-_, _*_, _/_, _^_, _≤_, _<_, min}
-use native.Mathlib.Nat.{le-trans, le-of-eq, lt-of-le-of-lt, mul-one, div-lt-iff-lt-mul, le-div-iff-mul-le}
+use native.Mathlib.Nat.{div-lt-iff-lt-mul, le-div-iff-mul-le}
 use native.Mathlib.Omega.{arith}
 use mathlib.Core.Bool.{Bool, true, false, _&&_, _||_, true≢false, false≢true}
 use lib.IntN.{ℤ, pos}
-use lib.Arith.{lt-of-le-ne}
 use lib.Dec.{T, ltb, eqb, lt→ltb}
 use lib.Ieee.{Float, nan, inf, fin, binary32, up, down, lt, le, ofBits, toUnsigned}
 use lib.Ieee.Fits.{down-pos}

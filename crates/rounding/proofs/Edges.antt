@@ -2,14 +2,14 @@
 use mathlib.Core.Path.{_≡_, refl, sym, ap, _∙_, subst}
 use mathlib.Core.Logic.{_⊎_, inl, inr}
 use Prim.Native.Nat.{ℕ, zero, suc, _+_, _*_, _%_, _≤_, _<_}
-use native.Mathlib.Nat.{le-trans, le-of-eq, lt-irrefl, lt-of-le-of-lt, eq-zero-or-pos, zero-lt-suc, zero-mul, zero-add, mul-pos, mod-le, add-mod-left}
-use mathlib.Core.Bool.{Bool, true, false, not, _&&_, cond, true≢false, false≢true}
+use native.Mathlib.Nat.{le-trans, le-of-eq, lt-irrefl, lt-of-le-of-lt, eq-zero-or-pos, zero-lt-suc, zero-mul, mul-pos, mod-le, add-mod-left}
+use mathlib.Core.Bool.{Bool, true, false, not, true≢false, false≢true}
 use lib.IntN.{ℤ, pos}
-use lib.Dec.{T, ltb, eqb, eqb→eq, nltb→le}
+use lib.Dec.{T, eqb, eqb→eq, nltb→le}
 use lib.Ieee.{Float, nan, inf, fin, Format, binary32, binary64, up, down, hid, ones, top, level, lt, eq, ne, div, ofBits, toBits, fits, isNan, nanBits}
 use lib.Ieee.Bits.{ofBits-toBits, nanBits-above, nanBits-is}
 use lib.Ieee.Compare.{nan-differs}
-use lib.Ieee.Fits.{up-pos, down-pos, and-l}
+use lib.Ieee.Fits.{up-pos, and-l}
 use borrow.Author.Tests.{ltb-true, lt-ltb, le-ltb}
 use Rattle.rounding.specs.Root.{IsRoot}
 use Rattle.rounding.proofs.Patterns.{toBits-lt}

@@ -1,14 +1,14 @@
 -- The f32 of an f64 is the one value that `IsNarrowed` allows; and `closest` of a pattern's digits gives its pattern.
 use mathlib.Core.Path.{_≡_, refl, sym, ap, _∙_, subst}
 use mathlib.Core.Logic.{_⊎_, inl, inr}
-use Prim.Native.Nat.{ℕ, zero, suc, _+_, _-_, _*_, _/_, _%_, _^_, _≤_, _<_, compare}
-use native.Mathlib.Nat.{le-trans, le-of-eq, le-of-lt, le-refl, le-of-suc-le-suc, lt-of-not-le, le-add-left, mul-assoc, lt-of-lt-of-le, mul-pos, mul-lt-mul-of-pos-right, div-lt-iff-lt-mul, le-div-iff-mul-le, div-eq-of-lt, mod-eq-of-lt}
+use Prim.Native.Nat.{ℕ, _+_, _-_, _*_, _/_, _%_, _^_, _≤_, _<_, compare}
+use native.Mathlib.Nat.{le-trans, le-of-eq, le-of-lt, le-refl, le-of-suc-le-suc, lt-of-not-le, le-add-left, mul-assoc, lt-of-lt-of-le, mul-lt-mul-of-pos-right, div-lt-iff-lt-mul, le-div-iff-mul-le, div-eq-of-lt, mod-eq-of-lt}
 use native.Mathlib.Decide.{decLt}
 use native.Mathlib.Omega.{arith}
 use mathlib.Core.Bool.{Bool, true, false, cond}
 use lib.Dec.{T, eqb, eqb→eq}
 use lib.Pow.{pow-add, pow-pos, pow-mono}
-use lib.Ieee.{Float, nan, inf, fin, binary32, binary64, low, up, down, nearest, hid, ones, ne, div, ofBits}
+use lib.Ieee.{Float, nan, inf, fin, binary32, binary64, low, up, down, hid, ones, ne, div, ofBits}
 use lib.Ieee.Compare.{differs-from-itself}
 use lib.Ieee.Exact.{HasValue}
 use lib.Ieee.Fits.{down-pos, nearest-le}

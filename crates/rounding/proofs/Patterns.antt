@@ -2,21 +2,21 @@
 use mathlib.Core.Path.{_≡_, refl, sym, ap, _∙_, subst}
 use mathlib.Core.Logic.{_⊎_, inl, inr}
 use Prim.Native.Nat.{ℕ, zero, suc, _+_, _-_, _*_, _/_, _%_, _^_, _≤_, _<_}
-use native.Mathlib.Nat.{add-zero, zero-add, add-comm, add-assoc, add-mod-left, add-mul-mod-self-left, mul-one, one-mul, mul-comm, mul-right-comm, le-refl, le-trans, le-of-eq, le-of-lt, lt-irrefl, lt-of-lt-of-le, lt-of-le-of-lt, le-add-right, lt-suc-self, mod-lt, mod-eq-of-lt, mul-div-cancel, mul-mod-left, mul-add-mod-self-left, div-add-mod', div-lt-iff-lt-mul, mul-lt-mul-of-pos-right, pow-succ', eq-or-lt-of-le, eq-of-mul-eq-mul-right}
+use native.Mathlib.Nat.{add-zero, zero-add, add-comm, add-assoc, add-mod-left, mul-comm, mul-right-comm, le-refl, le-trans, le-of-eq, le-of-lt, lt-irrefl, lt-of-lt-of-le, lt-of-le-of-lt, le-add-right, lt-suc-self, mod-lt, mod-eq-of-lt, mul-div-cancel, mul-mod-left, mul-add-mod-self-left, div-add-mod', div-lt-iff-lt-mul, mul-lt-mul-of-pos-right, pow-succ', eq-or-lt-of-le, eq-of-mul-eq-mul-right}
 use native.Mathlib.Decide.{le-ind}
 use native.Mathlib.Omega.{arith}
 use mathlib.Core.Bool.{Bool, true, false, not, cond}
 use lib.IntN.{ℤ}
 use lib.Dec.{T, leb, ltb, eqb, eqb·suc-zero, le→leb, not-T, eqb→eq, ltb→lt, nltb→le, lit≤}
 use lib.Arith.{digits-div, digits-mod, lt→nleb}
-use lib.Pow.{pow-add, pow-pos, pow-mono, pow-lt}
+use lib.Pow.{pow-add, pow-pos}
 use lib.Ieee.{Float, nan, inf, fin, Format, binary32, binary64, prec, emax, low, up, down, size, odd, hid, ones, top, ofFields, ofBits, toBits, fits, isNan}
 use lib.Ieee.Bits.{ofBits-fits, ofBits-toBits, toBits-ofBits, is-true, is-false, cond-no}
 use lib.Ieee.Digits.{size-le}
-use lib.Ieee.Fits.{two, down-pos, kept-lt, eq→eqb}
+use lib.Ieee.Fits.{two, down-pos, kept-lt}
 use lib.Ieee.Exact.{HasValue, odd-sign}
-use Rattle.float_laws.proofs.Value.{Held, held, zero-exp}
-use Rattle.rounding.specs.Nearest.{Sized, Even}
+use Rattle.float_laws.proofs.Value.{held}
+use Rattle.rounding.specs.Nearest.{Sized}
 use Rattle.rounding.specs.Pick.{digitsOf, count}
 
 -- ---- the numbers of a format

@@ -1,11 +1,10 @@
 -- The root is the one value that `IsRoot` allows; and half of a whole root, rounded up, is the root's pattern. Over the format.
 use mathlib.Core.Path.{_≡_, refl, sym, ap, _∙_, subst}
-use mathlib.Core.Logic.{_⊎_, inl, inr}
-use Prim.Native.Nat.{ℕ, zero, suc, _+_, _-_, _*_, _/_, _%_, _^_, _≤_, _<_, zero-le, compare, Ordering, Ordering·lt, Ordering·gt}
-use native.Mathlib.Nat.{le-trans, le-of-eq, le-of-lt, lt-irrefl, lt-of-lt-of-le, lt-of-le-of-lt, lt-of-not-le, not-le-of-lt, zero-lt-suc, zero-add, one-mul, mod-lt, div-add-mod', div-lt-iff-lt-mul, zero-mul, mul-one, mul-pos, mul-le-mul, mul-le-mul-left, mul-le-mul-right, pow-succ', mul-lt-mul-of-pos-right, mul-assoc, add-suc, lt-suc-self}
+use mathlib.Core.Logic.{inr}
+use Prim.Native.Nat.{ℕ, zero, suc, _+_, _-_, _*_, _/_, _%_, _^_, _≤_, _<_, zero-le, compare}
+use native.Mathlib.Nat.{le-trans, le-of-eq, le-of-lt, lt-irrefl, lt-of-lt-of-le, lt-of-le-of-lt, lt-of-not-le, not-le-of-lt, zero-lt-suc, zero-add, one-mul, mod-lt, div-add-mod', div-lt-iff-lt-mul, zero-mul, mul-pos, mul-le-mul, mul-le-mul-left, mul-le-mul-right, pow-succ', mul-lt-mul-of-pos-right, mul-assoc, add-suc, lt-suc-self}
 use native.Mathlib.Omega.{arith}
 use mathlib.Core.Bool.{Bool, true, false, cond, true≢false}
-use lib.IntN.{ℤ}
 use lib.Arith.{lt-of-le-ne}
 use lib.Bits.{shifted-even}
 use lib.Dec.{T, eqb, eqb→eq, lit≤}

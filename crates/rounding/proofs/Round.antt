@@ -1,14 +1,14 @@
 -- A fraction rounded to nearest: the value nearest to a / d * 2 ^ k smallest values is `closest a d` of them, 2 ^ k times, and `round`, by which sums and products round, is the nearest value. Over the format.
 use mathlib.Core.Path.{_≡_, refl, sym, ap, _∙_, subst}
 use mathlib.Core.Logic.{_⊎_, inl, inr}
-use Prim.Native.Nat.{ℕ, zero, suc, _+_, _-_, _*_, _/_, _%_, _^_, _≤_, _<_, compare, Ordering, Ordering·lt, Ordering·eq, Ordering·gt}
-use native.Mathlib.Nat.{add-comm, add-assoc, add-mul, mul-assoc, mul-comm, mul-right-comm, mul-pos, mul-le-mul-right, mul-lt-mul-of-pos-right, lt-of-mul-lt-mul-right, le-of-mul-le-mul-right, eq-of-mul-eq-mul-right, mul-add-mod-self-left, le-trans, le-of-eq, le-antisymm, lt-of-not-le, le-of-lt, le-of-suc-le-suc, lt-of-lt-of-le, lt-of-le-of-lt, lt-suc-self, mod-lt, div-add-mod', div-div-eq-div-mul, le-div-iff-mul-le, eq-zero-or-pos}
+use Prim.Native.Nat.{ℕ, suc, _+_, _-_, _*_, _/_, _%_, _^_, _≤_, _<_, compare, Ordering, Ordering·lt, Ordering·eq, Ordering·gt}
+use native.Mathlib.Nat.{add-assoc, mul-pos, mul-le-mul-right, mul-lt-mul-of-pos-right, lt-of-mul-lt-mul-right, le-of-mul-le-mul-right, mul-add-mod-self-left, le-trans, le-of-eq, le-antisymm, lt-of-not-le, le-of-lt, le-of-suc-le-suc, lt-of-lt-of-le, lt-of-le-of-lt, lt-suc-self, mod-lt, div-add-mod', div-div-eq-div-mul, le-div-iff-mul-le, eq-zero-or-pos}
 use native.Mathlib.Decide.{decLt}
 use native.Mathlib.Omega.{arith}
-use mathlib.Core.Bool.{Bool, true, false, cond}
-use lib.Dec.{T, ltb, lt→ltb}
+use mathlib.Core.Bool.{Bool, cond}
+use lib.Dec.{T}
 use lib.Pow.{pow-add, pow-pos, pow-lt}
-use lib.Ieee.{Float, inf, Format, prec, emax, low, size, nearest, odd, units, round, hid, ones, top, fits}
+use lib.Ieee.{Float, inf, Format, prec, emax, low, size, nearest, units, round, hid, ones, top, fits}
 use lib.Ieee.Bits.{ofBits-fits}
 use lib.Ieee.Digits.{size-reaches}
 use lib.Ieee.Exact.{HasValue, units-val}

@@ -1,11 +1,11 @@
 -- The whole part of a root, in whole numbers: Newton's step stays at the root or above it and comes down, and one division gives as many digits again.
 use mathlib.Core.Path.{_≡_, refl, sym, ap, _∙_, subst}
 use Prim.Native.Nat.{ℕ, zero, suc, _+_, _-_, _*_, _/_, _%_, _^_, _≤_, _<_}
-use native.Mathlib.Nat.{le-trans, le-of-eq, le-of-lt, le-of-suc-le-suc, lt-of-lt-of-le, lt-of-not-le, not-le-of-lt, not-suc-le-zero, lt-suc-self, zero-lt-suc, mul-comm, mul-pos, mul-le-mul, mul-le-mul-left, mul-le-mul-right, mul-lt-mul-of-pos-right, le-of-mul-le-mul-right, div-lt-iff-lt-mul, div-add-mod', mod-lt, one-le-pow, one-mul, pow-suc, pow-le-pow-right}
+use native.Mathlib.Nat.{le-trans, le-of-eq, le-of-lt, le-of-suc-le-suc, lt-of-lt-of-le, lt-of-not-le, not-le-of-lt, not-suc-le-zero, lt-suc-self, zero-lt-suc, mul-comm, mul-pos, mul-le-mul, mul-le-mul-left, mul-le-mul-right, le-of-mul-le-mul-right, div-lt-iff-lt-mul, div-add-mod', mod-lt, one-mul, pow-suc}
 use native.Mathlib.Decide.{decLe}
 use native.Mathlib.Omega.{arith}
 use lib.Dec.{lit≤}
-use lib.Pow.{pow-pos, shl-exact}
+use lib.Pow.{shl-exact}
 use Rattle.rounding.specs.Parts.{Under}
 
 -- ---- what `Under` says

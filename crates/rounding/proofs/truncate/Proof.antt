@@ -1,5 +1,5 @@
 -- `rounding::truncate` meets its contract: below 1, below 256, or neither (`Cut`).
-use mathlib.Core.Path.{_≡_, sym, _∙_, subst}
+use mathlib.Core.Path.{sym, _∙_, subst}
 use Prim.Native.Nat.{ℕ, _<_}
 use Rattle.rounding.proofs.Cut.{Mid, in-range, asks, cut, above, below}
 use Rattle.rounding.proofs.truncate.Statement.{statement}

@@ -1,6 +1,6 @@
 -- `rounding::narrowing::narrow` meets its contract: NaN to NaN, and the pattern without its sign by `narrow_pattern`.
-use mathlib.Core.Path.{_≡_, sym, ap, _∙_, subst}
-use Prim.Native.Nat.{ℕ, _+_, _-_, _%_}
+use mathlib.Core.Path.{_≡_, ap, _∙_, subst}
+use Prim.Native.Nat.{ℕ, _+_, _%_}
 use native.Mathlib.Nat.{mod-eq-of-lt, zero-add, add-sub-of-le}
 use mathlib.Core.Bool.{true, false}
 use lib.Ieee.{Float, binary32, binary64, ofBits, toBits, top}

@@ -1,5 +1,5 @@
 -- `rounding::narrowing::nearest_quotient` meets its contract: its tests are the comparison in `closest`.
-use mathlib.Core.Path.{_≡_, sym, ap, _∙_}
+use mathlib.Core.Path.{sym, ap, _∙_}
 use Prim.Native.Nat.{_*_, _/_, _%_}
 use native.Mathlib.Nat.{mod-lt, div-le-self}
 use native.Mathlib.Numerals.{add-one}

@@ -1,6 +1,6 @@
 -- `rounding::pattern::normal` meets its contract. The invariant: a * 2 ^ d is m * 2 ^ e. The exponent falls, and does not reach 0 while a is below hid.
 use mathlib.Core.Path.{_≡_, refl, sym, ap, _∙_}
-use Prim.Native.Nat.{ℕ, zero, suc, _+_, _-_, _*_, _^_, _≤_, _<_}
+use Prim.Native.Nat.{ℕ, zero, suc, _-_, _*_, _^_, _≤_, _<_}
 use native.Mathlib.Nat.{le-trans, le-of-eq, lt-irrefl, lt-of-lt-of-le, zero-lt-suc, one-mul, mul-one, mul-assoc, mul-le-mul-right, pow-succ'}
 use borrow.Author.Needs.{needs}
 use native.Mathlib.Omega.{arith}

@@ -1,8 +1,7 @@
 -- `rounding::rooting::root32` meets its contract: finite and above zero by `root_pattern`, and elsewhere by the laws of the edges.
 use mathlib.Core.Path.{refl, subst}
-use Prim.Native.Nat.{ℕ}
-use native.Mathlib.Nat.{le-of-lt, zero-add}
-use lib.Ieee.{Float, binary32, ofBits, nanBits}
+use native.Mathlib.Nat.{le-of-lt}
+use lib.Ieee.{Float, binary32, ofBits}
 use lib.Ieee.Bits.{ofBits-toBits}
 use Rattle.rounding.specs.Root.{IsRoot}
 use Rattle.rounding.proofs.Edges.{above-number, bits-pos, infinite-root, zero-root, no-root, no-nan}

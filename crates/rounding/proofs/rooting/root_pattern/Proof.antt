@@ -1,6 +1,6 @@
 -- `rounding::rooting::root_pattern` meets its contract: each number fits, and the law of the root (`Widths.answer`) gives the pattern.
-use mathlib.Core.Path.{_≡_, sym, ap, _∙_, subst}
-use Prim.Native.Nat.{ℕ, _+_, _-_, _*_, _/_, _%_, _^_, _≤_, _<_}
+use mathlib.Core.Path.{sym, ap, _∙_, subst}
+use Prim.Native.Nat.{ℕ, _+_, _-_, _*_, _/_, _^_, _<_}
 use native.Mathlib.Nat.{le-trans, le-add-left, le-add-right, lt-of-le-of-lt, div-lt-iff-lt-mul}
 use lib.Pow.{pow-mono}
 use Rattle.rounding.specs.Pick.{digitsOf}

@@ -1,5 +1,5 @@
 -- `rounding::whole::more_digits` meets its contract: what it computes fits (`divided`), and `settled` gives the root.
-use Prim.Native.Nat.{ℕ, _*_, _/_, _%_}
+use Prim.Native.Nat.{_*_, _/_, _%_}
 use Rattle.rounding.proofs.WholeRoot.{Divided, divided, square-of}
 use borrow.Author.Needs.{needs}
 use native.Mathlib.Omega.{arith}
