@@ -4,5 +4,7 @@ pub mod Swap
 pub mod Negation
 pub mod Squared
 pub mod Value
+pub mod Fraction
+pub mod Smallest
 pub mod Zero
 pub mod Whole
