@@ -7,4 +7,5 @@ pub mod Value
 pub mod Fraction
 pub mod Smallest
 pub mod Zero
+pub mod Running
 pub mod Whole
