@@ -1,14 +1,14 @@
 -- Each value that a format holds is a whole number of its smallest values, and no such number but 0 rounds to -0: the smallest value
 -- itself is above zero, and rounding keeps the order.
 use mathlib.Core.Path.{_≡_, refl, sym, ap, _∙_, subst}
-use Prim.Native.Nat.{ℕ, zero, suc, _+_, _*_, _^_, _<_, _≤_}
+use Prim.Native.Nat.{ℕ, zero, suc, _*_, _^_, _<_}
 use native.Mathlib.Nat.{zero-mul, zero-lt-suc, mul-le-mul-right}
 use native.Mathlib.Omega.{arith}
 use mathlib.Core.Bool.{Bool, true, false}
-use lib.IntN.{ℤ, pos}
+use lib.IntN.{pos}
 use lib.Dec.{T}
 use lib.Pow.{pow-pos, pow-lt}
-use lib.Ieee.{Float, nan, inf, fin, Format, prec, emax, low, up, down, round, neg, fits}
+use lib.Ieee.{Float, nan, inf, fin, Format, prec, low, up, down, round, neg, fits}
 use lib.Ieee.Fits.{down-pos, two, two-le-pos}
 use lib.Ieee.Exact.{HasValue, round-exact}
 use lib.Ieee.Order.{round-mono}
@@ -16,7 +16,7 @@ use lib.Ieee.Positive.{above, above-of-le, positive-of-value}
 use lib.Ieee.Scale.{finite, round-same}
 use Rattle.float_laws.specs.Zero.{signedZero, minusZero, sign}
 use Rattle.float_laws.proofs.Negation.{neg-round}
-use Rattle.float_laws.proofs.Value.{Smallest, smallest, round-own}
+use Rattle.float_laws.proofs.Value.{smallest, round-own}
 
 pub zero-fits : (f : Format) (s : Bool) → T (fits f (signedZero s))
 unfolding fits
