@@ -1,2 +1,3 @@
 pub mod Zero
 pub mod Running
+pub mod Examples

@@ -1,7 +1,7 @@
 -- The two zeros, the sign of a value, and what a sum that starts from +0 can be.
 use mathlib.Core.Logic.{_≢_}
 use mathlib.Core.Bool.{Bool, true, false}
-use lib.IntN.{ℤ, pos}
+use lib.IntN.{pos}
 use lib.Dec.{T}
 use lib.Ieee.{Float, nan, inf, fin, Format, fits}
 
