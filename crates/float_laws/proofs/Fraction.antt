@@ -1,16 +1,22 @@
--- A sum and a product turn on the values of the two alone, so these may be taken by any fractions that they equal: a fraction
--- multiplied through rounds as before, and so does a sum over one denominator.
+-- A value may be taken by any fraction that it equals. The fraction rounds to it, and a sum and a product turn on the values of the two
+-- alone: a fraction multiplied through rounds as before, and so does a sum over one denominator.
 use mathlib.Core.Path.{_≡_, sym, _∙_}
 use Prim.Native.Nat.{ℕ, _+_, _-_, _*_, _<_}
 use native.Mathlib.Nat.{mul-comm, mul-assoc, mul-right-comm, mul-mul-mul-comm, add-mul, mul-sub, mul-pos, mul-lt-mul-of-pos-right, zero-mul}
 use mathlib.Core.Bool.{Bool, false}
 use lib.IntN.{ℤ}
-use lib.Ieee.{Float, fin, Format, unlike, up, down, round, sum, add, mul}
+use lib.Dec.{T}
+use lib.Ieee.{Float, fin, Format, unlike, up, down, round, sum, add, mul, fits}
 use lib.Ieee.Fits.{down-pos}
 use lib.Ieee.Exact.{HasValue}
 use lib.Ieee.Scale.{round-same}
 use Rattle.float_laws.proofs.Sum.{Way, like, less, more, level, way, sum-is}
-use Rattle.float_laws.proofs.Value.{written}
+use Rattle.float_laws.proofs.Value.{written, round-own}
+
+pub round-value : (f : Format) (x : Float) (s : Bool) (a c : ℕ) → 0 < c → T (fits f x) → HasValue x s a c → round f s a c ≡ x
+round-value f x s a c C h v =
+    let (m, e, p, g) = written x s a c v in
+    round-same f s a c (m * up e) (down e) C (down-pos e) (sym g) ∙ round-own f s m e (rw (← p) h) ∙ sym p
 
 -- ---- multiplied through by k
 sub-mul : (a b k : ℕ) → a * k - b * k ≡ (a - b) * k

@@ -1,11 +1,13 @@
-pub mod Sign
-pub mod Sum
+-- the laws
 pub mod Swap
 pub mod Negation
 pub mod Squared
 pub mod Value
 pub mod Fraction
-pub mod Smallest
 pub mod Zero
 pub mod Running
 pub mod Whole
+-- what their proofs share
+pub mod Sign
+pub mod Sum
+pub mod Smallest

@@ -1,5 +1,5 @@
--- A running sum from +0 is never -0, whatever the terms, so that a zero term of either sign leaves it as it is: by induction on how many
--- terms there are. Each step is stated by itself too, for a sum that is not taken in index order.
+-- A running sum from +0 is never -0, so a zero term of either sign leaves it as it is: by induction on the number of terms.
+-- Each step is a law of its own, for a sum whose terms come in some other order.
 use mathlib.Core.Path.{_≡_, refl, ap, ap₂}
 use mathlib.Core.Logic.{_≢_}
 use Prim.Native.Nat.{ℕ, zero, suc, _<_}
@@ -13,7 +13,7 @@ use lib.Ieee.Scale.{finite}
 use Rattle.float_laws.specs.Zero.{signedZero, plusZero, minusZero, sign, FromZero}
 use Rattle.float_laws.specs.Running.{running, AllFit}
 use Rattle.float_laws.proofs.Smallest.{zero-fits}
-use Rattle.float_laws.proofs.Zero.{sum-minusZero, add-plusZero, add-minusZero, mul-signedZero, signedZero-mul}
+use Rattle.float_laws.proofs.Zero.{minusZero-terms, add-plusZero, add-minusZero, mul-signedZero, signedZero-mul}
 
 -- ---- one step
 module _ (f : Format) where
@@ -23,7 +23,7 @@ module _ (f : Format) where
   pub add-fromZero : (x y : Float) → FromZero f x → T (fits f y) → FromZero f (add f x y)
   add-fromZero x y z h = record {
     fitting = add-fits f x y;
-    not-minusZero = λ e. z .not-minusZero (sum-minusZero f x y (z .fitting) h e .0);
+    not-minusZero = λ e. z .not-minusZero (minusZero-terms f x y (z .fitting) h e .0);
   }
 
   pub add-zero-term : (x : Float) (s : Bool) → FromZero f x → add f x (signedZero s) ≡ x

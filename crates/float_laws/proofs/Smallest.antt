@@ -5,25 +5,28 @@ use Prim.Native.Nat.{ℕ, zero, suc, _*_, _^_, _<_}
 use native.Mathlib.Nat.{zero-mul, zero-lt-suc, mul-le-mul-right}
 use native.Mathlib.Omega.{arith}
 use mathlib.Core.Bool.{Bool, true, false}
-use lib.IntN.{pos}
 use lib.Dec.{T}
 use lib.Pow.{pow-pos, pow-lt}
-use lib.Ieee.{Float, nan, inf, fin, Format, prec, low, up, down, round, neg, fits}
-use lib.Ieee.Fits.{down-pos, two, two-le-pos}
+use lib.Ieee.{Float, nan, inf, fin, Format, prec, low, round, neg, fits}
+use lib.Ieee.Fits.{two, two-le-pos}
 use lib.Ieee.Exact.{HasValue, round-exact}
 use lib.Ieee.Order.{round-mono}
 use lib.Ieee.Positive.{above, above-of-le, positive-of-value}
-use lib.Ieee.Scale.{finite, round-same}
+use lib.Ieee.Scale.{finite}
 use Rattle.float_laws.specs.Zero.{signedZero, minusZero, sign}
 use Rattle.float_laws.proofs.Negation.{neg-round}
-use Rattle.float_laws.proofs.Value.{smallest, round-own}
+use Rattle.float_laws.proofs.Value.{multiple}
+use Rattle.float_laws.proofs.Fraction.{round-value}
 
 pub zero-fits : (f : Format) (s : Bool) → T (fits f (signedZero s))
 unfolding fits
 zero-fits f s = tt
 
+pub zero-value : (s : Bool) (c : ℕ) → HasValue (signedZero s) s 0 c
+zero-value s c = (refl, zero-mul c)
+
 pub round-zero : (f : Format) (s : Bool) (c : ℕ) → 0 < c → round f s 0 c ≡ signedZero s
-round-zero f s c C = round-same f s 0 c 0 1 C (zero-lt-suc 0) (sym (zero-mul c)) ∙ round-own f s 0 (pos 0) (zero-fits f s)
+round-zero f s c C = round-value f (signedZero s) s 0 c C (zero-fits f s) (zero-value s c)
 
 -- 1 is so many of the smallest values
 abbrev pub scale : Format → ℕ
@@ -49,10 +52,7 @@ module _ (f : Format) where
   round-minusZero true (suc k) e =
       absurd (subst (λ (x : Float). T (above x)) (sym (neg-round f true (suc k) (scale f)) ∙ ap neg e) (round-above k))
 
-  pub in-smallest : (x : Float) → T (fits f x) → T (finite x) → (k : ℕ) × HasValue x (sign x) k (scale f) × (x ≡ round f (sign x) k (scale f))
+  pub in-smallest : (x : Float) → T (fits f x) → T (finite x) → (k : ℕ) × HasValue x (sign x) k (scale f)
   in-smallest nan h p = absurd p
   in-smallest (inf s) h p = absurd p
-  in-smallest (fin s m e) h p =
-      let u = smallest f s m e h in
-      let k = u .digits * 2 ^ u .shift in
-      (k, (refl, u .is), sym (round-own f s m e h) ∙ round-same f s (m * up e) (down e) k (scale f) (down-pos e) (scale-pos f) (u .is))
+  in-smallest (fin s m e) h p = let u = multiple f s m e h in (u .digits * 2 ^ u .shift, (refl, u .is))

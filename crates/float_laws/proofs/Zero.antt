@@ -1,27 +1,24 @@
--- What a zero does. x + 0 is x unless x is -0, x + -0 and x - 0 are x; a sum is -0 only if both terms are; a finite value times a zero is
--- a zero. A sum is taken over the format's smallest value, where the way its two terms meet tells the answer.
+-- What a zero does: x + 0 is x unless x is -0; x + -0 and x - 0 are x; a sum is -0 only if both terms are; a finite value times a zero
+-- is a zero. A sum is taken in smallest values, by the way its two terms meet; no number of them but 0 rounds to a zero.
 use mathlib.Core.Path.{_≡_, refl, sym, _∙_}
 use mathlib.Core.Logic.{_≢_}
-use Prim.Native.Nat.{ℕ, _+_, _-_, _*_}
-use native.Mathlib.Nat.{zero-mul, mul-zero, add-zero, sub-zero, mul-pos, zero-lt-suc}
+use Prim.Native.Nat.{ℕ, _*_}
+use native.Mathlib.Nat.{mul-zero, add-zero, sub-zero, mul-pos, zero-lt-suc}
 use native.Mathlib.Omega.{arith}
 use mathlib.Core.Bool.{Bool, true, false, true≢false, false≢true}
 use lib.Dec.{T}
-use lib.Ieee.{Float, nan, inf, fin, Format, unlike, up, down, round, sum, add, sub, neg, mul, fits}
+use lib.Ieee.{Float, nan, inf, fin, Format, unlike, up, down, round, add, sub, neg, mul, fits}
 use lib.Ieee.Fits.{down-pos}
 use lib.Ieee.Exact.{HasValue}
 use lib.Ieee.Scale.{finite}
 use Rattle.float_laws.specs.Zero.{signedZero, plusZero, minusZero, sign}
-use Rattle.float_laws.proofs.Sign.{plus-minus, minus-plus, unlike-comm}
-use Rattle.float_laws.proofs.Sum.{Way, like, less, more, level, way, sum-is}
+use Rattle.float_laws.proofs.Sign.{plus-minus, minus-plus, unlike-comm, beq-self}
+use Rattle.float_laws.proofs.Sum.{Way, like, less, more, level, way, signOf, sizeOf, sum-is}
 use Rattle.float_laws.proofs.Swap.{add-comm, mul-comm}
 use Rattle.float_laws.proofs.Squared.{sub-squared}
 use Rattle.float_laws.proofs.Value.{value-unique}
-use Rattle.float_laws.proofs.Fraction.{add-value}
-use Rattle.float_laws.proofs.Smallest.{scale, scale-pos, zero-fits, round-zero, round-minusZero, in-smallest}
-
-zero-value : (f : Format) (s : Bool) → HasValue (signedZero s) s 0 (scale f)
-zero-value f s = (refl, zero-mul (scale f))
+use Rattle.float_laws.proofs.Fraction.{round-value, add-value}
+use Rattle.float_laws.proofs.Smallest.{scale, scale-pos, zero-fits, zero-value, round-zero, round-minusZero, in-smallest}
 
 -- ---- a sum that is -0
 pub finite-terms : (f : Format) (x y : Float) → T (finite (add f x y)) → T (finite x) × T (finite y)
@@ -38,46 +35,47 @@ finite-terms f (fin s m e) (inf t) h = absurd h
 finite-terms f (fin s m e) (fin t n d) h = (tt, tt)
 
 module _ (f : Format) where
-  both-minusZero : {s t : Bool} {a b : ℕ} → Way s a t b → sum f s a t b (scale f) ≡ minusZero → (s ≡ true) × (a ≡ 0) × (t ≡ true) × (b ≡ 0)
-  both-minusZero (like {s} {a} {b}) e =
-      let (p, z) = round-minusZero f s (a + b) (sym (sum-is f (scale f) like) ∙ e) in
-      (p, omega arith, p, omega arith)
-  both-minusZero (less {t} {a} {b} o h) e =
-      let (p, z) = round-minusZero f t (b - a) (sym (sum-is f (scale f) (less o h)) ∙ e) in
-      absurd (omega arith)
-  both-minusZero (more {s} {a} {b} o h) e =
-      let (p, z) = round-minusZero f s (a - b) (sym (sum-is f (scale f) (more o h)) ∙ e) in
-      absurd (omega arith)
-  both-minusZero (level o) e = absurd (false≢true (round-minusZero f false 0 (sym (sum-is f (scale f) (level o)) ∙ e) .0))
+  both-zero : {s t : Bool} {a b : ℕ} (w : Way s a t b) → signOf w ≡ true → sizeOf w ≡ 0
+      → (s ≡ true) × (a ≡ 0) × (t ≡ true) × (b ≡ 0)
+  both-zero like p z = (p, omega arith, p, omega arith)
+  both-zero (less o h) p z = absurd (omega arith)
+  both-zero (more o h) p z = absurd (omega arith)
+  both-zero (level o) p z = absurd (false≢true p)
 
   is-minusZero : (x : Float) → T (fits f x) → HasValue x true 0 (scale f) → x ≡ minusZero
-  is-minusZero x h v = value-unique f x minusZero true 0 (scale f) (scale-pos f) h (zero-fits f true) v (zero-value f true)
+  is-minusZero x h v = value-unique f x minusZero true 0 (scale f) (scale-pos f) h (zero-fits f true) v (zero-value true (scale f))
 
-  pub sum-minusZero : (x y : Float) → T (fits f x) → T (fits f y) → add f x y ≡ minusZero → (x ≡ minusZero) × (y ≡ minusZero)
-  sum-minusZero x y h k e =
+  pub minusZero-terms : (x y : Float) → T (fits f x) → T (fits f y) → add f x y ≡ minusZero → (x ≡ minusZero) × (y ≡ minusZero)
+  minusZero-terms x y h k e =
       let (p, q) = finite-terms f x y (rw e tt) in
-      let (a, v, _) = in-smallest f x h p in
-      let (b, w, _) = in-smallest f y k q in
-      let sum = add-value f x y (sign x) (sign y) a b (scale f) (scale-pos f) v w in
-      let (s, A, t, B) = both-minusZero (way (sign x) a (sign y) b) (sym sum ∙ e) in
-      (is-minusZero x h (rw (s, A) at v), is-minusZero y k (rw (t, B) at w))
+      let (a, u) = in-smallest f x h p in
+      let (b, v) = in-smallest f y k q in
+      let w = way (sign x) a (sign y) b in
+      let rounded = add-value f x y (sign x) (sign y) a b (scale f) (scale-pos f) u v ∙ sum-is f (scale f) w in
+      let (r, z) = round-minusZero f (signOf w) (sizeOf w) (sym rounded ∙ e) in
+      let (s, A, t, B) = both-zero w r z in
+      (is-minusZero x h (rw (s, A) at u), is-minusZero y k (rw (t, B) at v))
 
   -- ---- a zero as a term
-  nothing-added : {s t : Bool} {k : ℕ} → Way s k t 0 → (t ≡ false → round f s k (scale f) ≢ minusZero)
-      → sum f s k t 0 (scale f) ≡ round f s k (scale f)
-  nothing-added (like {a = k}) n = sum-is f (scale f) like ∙ rw (add-zero k)
-  nothing-added (less o h) n = absurd (omega arith)
-  nothing-added (more {a = k} o h) n = sum-is f (scale f) (more o h) ∙ rw (sub-zero k)
-  nothing-added (level plus-minus) n = sum-is f (scale f) (level plus-minus)
-  nothing-added (level minus-plus) n = absurd (n refl (round-zero f true (scale f) (scale-pos f)))
+  unchanged : {s t : Bool} {k : ℕ} (w : Way s k t 0) → (t ≡ false → round f s k (scale f) ≢ minusZero)
+      → round f (signOf w) (sizeOf w) (scale f) ≡ round f s k (scale f)
+  unchanged (like {a = k}) n = rw (add-zero k)
+  unchanged (less o h) n = absurd (omega arith)
+  unchanged (more {a = k} o h) n = rw (sub-zero k)
+  unchanged (level plus-minus) n = refl
+  unchanged (level minus-plus) n = absurd (n refl (round-zero f true (scale f) (scale-pos f)))
 
   add-finite : (x : Float) (t : Bool) → T (fits f x) → T (finite x) → (t ≡ false → x ≢ minusZero) → add f x (signedZero t) ≡ x
   add-finite x t h p n =
-      let (k, v, e) = in-smallest f x h p in
-      add-value f x (signedZero t) (sign x) t k 0 (scale f) (scale-pos f) v (zero-value f t)
-      ∙ nothing-added (way (sign x) k t 0) (λ z r. n z (e ∙ r))
-      ∙ sym e
+      let (k, v) = in-smallest f x h p in
+      let own : round f (sign x) k (scale f) ≡ x = round-value f x (sign x) k (scale f) (scale-pos f) h v in
+      let w = way (sign x) k t 0 in
+      add-value f x (signedZero t) (sign x) t k 0 (scale f) (scale-pos f) v (zero-value t (scale f))
+      ∙ sum-is f (scale f) w
+      ∙ unchanged w (λ z e. n z (sym own ∙ e))
+      ∙ own
 
+  -- unless the zero is +0 and x is -0
   add-signedZero : (x : Float) (t : Bool) → T (fits f x) → (t ≡ false → x ≢ minusZero) → add f x (signedZero t) ≡ x
   unfolding add
   add-signedZero nan t h n = refl
@@ -116,3 +114,6 @@ module _ (f : Format) where
 
   pub signedZero-mul : (s : Bool) (y : Float) → T (finite y) → mul f (signedZero s) y ≡ signedZero (unlike s (sign y))
   signedZero-mul s y h = mul-comm f (signedZero s) y ∙ rw (unlike-comm s (sign y)) (mul-signedZero y s h)
+
+  pub zero-squared : (s : Bool) → mul f (signedZero s) (signedZero s) ≡ plusZero
+  zero-squared s = mul-signedZero (signedZero s) s tt ∙ rw (beq-self s)
