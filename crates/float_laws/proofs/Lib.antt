@@ -1,5 +1,13 @@
-pub mod Value
-pub mod Zero
+-- the laws
 pub mod Swap
+pub mod Negation
 pub mod Squared
+pub mod Value
+pub mod Fraction
+pub mod Zero
+pub mod Running
 pub mod Whole
+-- what their proofs share
+pub mod Sign
+pub mod Sum
+pub mod Smallest

@@ -1,141 +1,119 @@
--- A sum of two values that a format holds is -0 only if both are. So a running sum from +0 never is. Assumes nothing.
-use mathlib.Core.Path.{_≡_, refl, sym, ap, _∙_, subst}
-use mathlib.Core.Logic.{_⊎_, inl, inr}
-use Prim.Native.Nat.{ℕ, zero, suc, _+_, _-_, _*_, _/_, _%_, _^_, _<_, _≤_, compare}
-use native.Mathlib.Nat.{le-trans, le-of-eq, le-refl, lt-of-lt-of-le, lt-irrefl, mul-pos, zero-lt-suc, zero-mul, mul-one, one-mul, mul-assoc, mul-comm, mul-right-comm, add-mul, mul-sub, le-div-iff-mul-le, div-div-eq-div-mul, le-add-right, mul-le-mul-right, lt-of-mul-lt-mul-right, mul-lt-mul-of-pos-right, eq-zero-or-pos}
+-- What a zero does: x + 0 is x unless x is -0; x + -0 and x - 0 are x; a sum is -0 only if both terms are; a finite value times a zero
+-- is a zero. A sum is taken in smallest values, by the way its two terms meet; no number of them but 0 rounds to a zero.
+use mathlib.Core.Path.{_≡_, refl, sym, _∙_}
+use mathlib.Core.Logic.{_≢_}
+use Prim.Native.Nat.{ℕ, _*_}
+use native.Mathlib.Nat.{mul-zero, add-zero, sub-zero, mul-pos, zero-lt-suc}
 use native.Mathlib.Omega.{arith}
-use mathlib.Core.Bool.{Bool, true, false, not, _&&_, Bool·beq, cond, true≢false, false≢true}
-use lib.IntN.{ℤ, pos}
-use lib.Dec.{T, ltb, ltb→lt, nltb→le}
-use lib.Pow.{pow-pos}
-use lib.Ieee.{Float, nan, inf, fin, Format, prec, emax, low, up, down, size, nearest, odd, units, round, sum, add, fits}
-use lib.Ieee.Digits.{size-reaches}
-use lib.Ieee.Fits.{round-is, down-pos, two, two-le-pos}
-use lib.Ieee.Exact.{HasValue, odd-sign}
-use lib.Ieee.Nearest.{closest, nearest-ge}
-use Rattle.float_laws.proofs.Value.{Held, held, in-units, minusZero, zero-exp}
+use mathlib.Core.Bool.{Bool, true, false, true≢false, false≢true}
+use lib.Dec.{T}
+use lib.Ieee.{Float, nan, inf, fin, Format, unlike, up, down, round, add, sub, neg, mul, fits}
+use lib.Ieee.Fits.{down-pos}
+use lib.Ieee.Exact.{HasValue}
+use lib.Ieee.Scale.{finite}
+use Rattle.float_laws.specs.Zero.{signedZero, plusZero, minusZero, sign}
+use Rattle.float_laws.proofs.Sign.{plus-minus, minus-plus, unlike-comm, beq-self}
+use Rattle.float_laws.proofs.Sum.{Way, like, less, more, level, way, signOf, sizeOf, sum-is}
+use Rattle.float_laws.proofs.Swap.{add-comm, mul-comm}
+use Rattle.float_laws.proofs.Squared.{sub-squared}
+use Rattle.float_laws.proofs.Value.{value-unique}
+use Rattle.float_laws.proofs.Fraction.{round-value, add-value}
+use Rattle.float_laws.proofs.Smallest.{scale, scale-pos, zero-fits, zero-value, round-zero, round-minusZero, in-smallest}
 
--- ---- a fraction of one smallest value or more does not round to zero, and what is not negative does not round to -0
-dropped-le : (w p : ℕ) → 0 < p → 1 ≤ w → 2 ^ (size w - p) ≤ w
-dropped-le w p P h = go (eq-zero-or-pos (size w - p))
-  where
-    less : (z p : ℕ) → 0 < z - p → 0 < p → z - p < z
-    less z p a b = omega arith
-
-    go : (size w - p ≡ 0) ⊎ (0 < size w - p) → 2 ^ (size w - p) ≤ w
-    go (inl z) = rw z h
-    go (inr g) = size-reaches w (size w - p) (less (size w) p g P)
-
-units-zero : (f : Format) (s : Bool) (q k : ℕ) → units f s q k ≡ fin true 0 (pos 0) → (s ≡ true) × (q * 2 ^ k ≡ 0)
-unfolding units
-units-zero f s q k e = go (ltb (q * 2 ^ k) (2 ^ (low f + suc (emax f)))) e
-  where
-    says : HasValue (fin true 0 (pos 0)) s (q * 2 ^ k) (2 ^ low f) → (s ≡ true) × (q * 2 ^ k ≡ 0)
-    says v = (sym (v .0), sym (mul-one (q * 2 ^ k)) ∙ sym (v .1) ∙ zero-mul (2 ^ low f))
-
-    go : (b : Bool) → cond b (odd (suc (prec f)) s q k (low f)) (inf s) ≡ fin true 0 (pos 0) → (s ≡ true) × (q * 2 ^ k ≡ 0)
-    go true e = says (subst (λ (x : Float). HasValue x s (q * 2 ^ k) (2 ^ low f)) e (odd-sign (suc (prec f)) s q k (low f)))
-    go false e = absurd (let z : _≡_ {A = ℕ} 0 1 = cc in zero-one z)
-      where
-        zero-one : _≡_ {A = ℕ} 0 1 → ⊥
-        zero-one h = omega arith
-
-round-zero : (f : Format) (s : Bool) (a c : ℕ) → 0 < c → c ≤ a * 2 ^ low f → round f s a c ≡ fin true 0 (pos 0) → ⊥
-round-zero f s a c C h e =
-    let n = a * 2 ^ low f in
-    let k = size (n / c) - prec f in
-    let w : 1 ≤ n / c = le-div-iff-mul-le C .1 (le-trans (le-of-eq (one-mul c)) h) in
-    let q : 1 ≤ closest n (c * 2 ^ k) = le-trans (le-trans (le-div-iff-mul-le (pow-pos k) .1 (le-trans (le-of-eq (one-mul (2 ^ k))) (dropped-le (n / c) (prec f) (two-le-pos (prec f) (two f)) w))) (le-of-eq (div-div-eq-div-mul n c (2 ^ k)))) (nearest-ge (n / (c * 2 ^ k)) (compare (n % (c * 2 ^ k) * 2) (c * 2 ^ k))) in
-    lt-irrefl 0 (subst (λ (x : ℕ). 0 < x) (units-zero f s (closest n (c * 2 ^ k)) k (sym (round-is f s a c) ∙ e) .1) (mul-pos q (pow-pos k)))
-
-round-plus : (f : Format) (a c : ℕ) → round f false a c ≡ fin true 0 (pos 0) → ⊥
-round-plus f a c e = false≢true (units-zero f false _ _ (sym (round-is f false a c) ∙ e) .0)
-
--- ---- each value is a whole number of smallest values
-pub in-smallest : (f : Format) (s : Bool) (m : ℕ) (e : ℤ) → T (fits f (fin s m e)) → (M : ℕ) × (m * up e * 2 ^ low f ≡ M * down e) × (0 < m → 0 < M)
-in-smallest f s zero e t = (0, ap (λ (x : ℕ). x * 2 ^ low f) (zero-mul (up e)) ∙ zero-mul (2 ^ low f) ∙ sym (zero-mul (down e)), λ h. h)
-in-smallest f s (suc m) e t =
-    let u = in-units (low f) e (held f s m e t .deep) in
-    (suc m * 2 ^ (u .0), u .1 (suc m), λ h. mul-pos h (pow-pos (u .0)))
-
--- A and B are M and N smallest values over the same c
-first : (u d l M x : ℕ) → u * l ≡ M * d → u * x * l ≡ M * (d * x)
-first u d l M x h = mul-right-comm u x l ∙ ap (λ (z : ℕ). z * x) h ∙ mul-assoc M d x
-
-one-more : (A B L M N C : ℕ) → A * L ≡ M * C → B * L ≡ N * C → 0 < L → A < B → C ≤ (B - A) * L
-one-more A B L M N C p q P h =
-    let l : M < N = lt-of-mul-lt-mul-right C (lt-of-lt-of-le (lt-of-lt-of-le (lt-of-le-of-lt′ (le-of-eq (sym p)) (mul-lt-mul-of-pos-right h P)) (le-of-eq q)) (le-refl (N * C))) in
-    let d : B * L ≡ A * L + (B - A) * L = ap (λ (z : ℕ). z * L) (sym (join A B h)) ∙ add-mul A (B - A) L in
-    let e : suc M * C ≤ N * C = mul-le-mul-right C l in
-    finish (A * L) (B * L) ((B - A) * L) M N C p q d e
-  where
-    lt-of-le-of-lt′ : {a b c : ℕ} → a ≤ b → b < c → a < c
-    lt-of-le-of-lt′ x y = native.Mathlib.Nat.lt-of-le-of-lt x y
-
-    join : (A B : ℕ) → A < B → A + (B - A) ≡ B
-    join A B h = omega arith
-
-    finish : (a b d M N C : ℕ) → a ≡ M * C → b ≡ N * C → b ≡ a + d → suc M * C ≤ N * C → C ≤ d
-    finish a b d M N C p q r s = omega arith
-
--- ---- the sum
-module _ (f : Format) (A B M N C : ℕ) (p : A * 2 ^ low f ≡ M * C) (q : B * 2 ^ low f ≡ N * C) (pC : 0 < C) where
-  like : (s : Bool) → (s ≡ true → 0 < M) → round f s (A + B) C ≡ fin true 0 (pos 0) → ⊥
-  like true h e = round-zero f true (A + B) C pC (le-trans (le-trans (le-of-eq (sym (one-mul C))) (mul-le-mul-right C (h refl))) (le-trans (le-of-eq (sym p)) (mul-le-mul-right (2 ^ low f) (le-add-right A B)))) e
-  like false h e = round-plus f (A + B) C e
-
-  apart : (s t : Bool) (x y : Bool) → (T x → A < B) → (T y → B < A) → cond x (round f t (B - A) C) (round f (s && y) (A - B) C) ≡ fin true 0 (pos 0) → ⊥
-  apart s t true y h k e = round-zero f t (B - A) C pC (one-more A B (2 ^ low f) M N C p q (pow-pos (low f)) (h tt)) e
-  apart true t false true h k e = round-zero f true (A - B) C pC (one-more B A (2 ^ low f) N M C q p (pow-pos (low f)) (k tt)) e
-  apart true t false false h k e = round-plus f (A - B) C e
-  apart false t false y h k e = round-plus f (A - B) C e
-
-  sum-some : (s t : Bool) → (s ≡ true → 0 < M) → sum f s A t B C ≡ fin true 0 (pos 0) → ⊥
-  unfolding sum
-  sum-some true true h e = like true h e
-  sum-some false false h e = like false h e
-  sum-some true false h e = apart true false (ltb A B) (ltb B A) (ltb→lt A B) (ltb→lt B A) e
-  sum-some false true h e = apart false true (ltb A B) (ltb B A) (ltb→lt A B) (ltb→lt B A) e
-
-pub add-some : (f : Format) (x y : Float) → T (fits f x) → T (fits f y) → (minusZero x → ⊥) → minusZero (add f x y) → ⊥
+-- ---- a sum that is -0
+pub finite-terms : (f : Format) (x y : Float) → T (finite (add f x y)) → T (finite x) × T (finite y)
 unfolding add
-add-some f nan y h k n e = absurd (let z : _≡_ {A = ℕ} 0 1 = cc in zero-one z)
-  where
-    zero-one : _≡_ {A = ℕ} 0 1 → ⊥
-    zero-one h = omega arith
-add-some f (inf s) nan h k n e = absurd (let z : _≡_ {A = ℕ} 0 1 = cc in zero-one z)
-  where
-    zero-one : _≡_ {A = ℕ} 0 1 → ⊥
-    zero-one h = omega arith
-add-some f (inf s) (inf t) h k n e = go (Bool·beq s t) e
-  where
-    zero-one : _≡_ {A = ℕ} 0 1 → ⊥
-    zero-one h = omega arith
+finite-terms f nan y h = absurd h
+finite-terms f (inf s) nan h = absurd h
+finite-terms f (inf true) (inf true) h = absurd h
+finite-terms f (inf true) (inf false) h = absurd h
+finite-terms f (inf false) (inf true) h = absurd h
+finite-terms f (inf false) (inf false) h = absurd h
+finite-terms f (inf s) (fin t n d) h = absurd h
+finite-terms f (fin s m e) nan h = absurd h
+finite-terms f (fin s m e) (inf t) h = absurd h
+finite-terms f (fin s m e) (fin t n d) h = (tt, tt)
 
-    go : (b : Bool) → cond b (inf s) nan ≡ fin true 0 (pos 0) → ⊥
-    go true e = let z : _≡_ {A = ℕ} 0 1 = cc in zero-one z
-    go false e = let z : _≡_ {A = ℕ} 0 1 = cc in zero-one z
-add-some f (inf s) (fin t m d) h k n e = absurd (let z : _≡_ {A = ℕ} 0 1 = cc in zero-one z)
-  where
-    zero-one : _≡_ {A = ℕ} 0 1 → ⊥
-    zero-one h = omega arith
-add-some f (fin s m e) nan h k n z = absurd (let w : _≡_ {A = ℕ} 0 1 = cc in zero-one w)
-  where
-    zero-one : _≡_ {A = ℕ} 0 1 → ⊥
-    zero-one h = omega arith
-add-some f (fin s m e) (inf t) h k n z = absurd (let w : _≡_ {A = ℕ} 0 1 = cc in zero-one w)
-  where
-    zero-one : _≡_ {A = ℕ} 0 1 → ⊥
-    zero-one h = omega arith
-add-some f (fin s m e) (fin t o d) h k n z =
-    let M = in-smallest f s m e h in
-    let N = in-smallest f t o d k in
-    sum-some f (m * up e * down d) (o * up d * down e) (M .0) (N .0) (down e * down d)
-    (first (m * up e) (down e) (2 ^ low f) (M .0) (down d) (M .1))
-    (first (o * up d) (down d) (2 ^ low f) (N .0) (down e) (N .1) ∙ ap (λ (c : ℕ). N .0 * c) (mul-comm (down d) (down e)))
-    (mul-pos (down-pos e) (down-pos d)) s t
-    (λ (r : s ≡ true). M .2 (above m h n r)) z
-  where
-    above : (m : ℕ) → T (fits f (fin s m e)) → (fin s m e ≡ fin true 0 (pos 0) → ⊥) → s ≡ true → 0 < m
-    above zero h n r = absurd (n (λ i. fin (r i) 0 (zero-exp f s e h i)))
-    above (suc m) h n r = zero-lt-suc m
+module _ (f : Format) where
+  both-zero : {s t : Bool} {a b : ℕ} (w : Way s a t b) → signOf w ≡ true → sizeOf w ≡ 0
+      → (s ≡ true) × (a ≡ 0) × (t ≡ true) × (b ≡ 0)
+  both-zero like p z = (p, omega arith, p, omega arith)
+  both-zero (less o h) p z = absurd (omega arith)
+  both-zero (more o h) p z = absurd (omega arith)
+  both-zero (level o) p z = absurd (false≢true p)
+
+  is-minusZero : (x : Float) → T (fits f x) → HasValue x true 0 (scale f) → x ≡ minusZero
+  is-minusZero x h v = value-unique f x minusZero true 0 (scale f) (scale-pos f) h (zero-fits f true) v (zero-value true (scale f))
+
+  pub minusZero-terms : (x y : Float) → T (fits f x) → T (fits f y) → add f x y ≡ minusZero → (x ≡ minusZero) × (y ≡ minusZero)
+  minusZero-terms x y h k e =
+      let (p, q) = finite-terms f x y (rw e tt) in
+      let (a, u) = in-smallest f x h p in
+      let (b, v) = in-smallest f y k q in
+      let w = way (sign x) a (sign y) b in
+      let rounded = add-value f x y (sign x) (sign y) a b (scale f) (scale-pos f) u v ∙ sum-is f (scale f) w in
+      let (r, z) = round-minusZero f (signOf w) (sizeOf w) (sym rounded ∙ e) in
+      let (s, A, t, B) = both-zero w r z in
+      (is-minusZero x h (rw (s, A) at u), is-minusZero y k (rw (t, B) at v))
+
+  -- ---- a zero as a term
+  unchanged : {s t : Bool} {k : ℕ} (w : Way s k t 0) → (t ≡ false → round f s k (scale f) ≢ minusZero)
+      → round f (signOf w) (sizeOf w) (scale f) ≡ round f s k (scale f)
+  unchanged (like {a = k}) n = rw (add-zero k)
+  unchanged (less o h) n = absurd (omega arith)
+  unchanged (more {a = k} o h) n = rw (sub-zero k)
+  unchanged (level plus-minus) n = refl
+  unchanged (level minus-plus) n = absurd (n refl (round-zero f true (scale f) (scale-pos f)))
+
+  add-finite : (x : Float) (t : Bool) → T (fits f x) → T (finite x) → (t ≡ false → x ≢ minusZero) → add f x (signedZero t) ≡ x
+  add-finite x t h p n =
+      let (k, v) = in-smallest f x h p in
+      let own : round f (sign x) k (scale f) ≡ x = round-value f x (sign x) k (scale f) (scale-pos f) h v in
+      let w = way (sign x) k t 0 in
+      add-value f x (signedZero t) (sign x) t k 0 (scale f) (scale-pos f) v (zero-value t (scale f))
+      ∙ sum-is f (scale f) w
+      ∙ unchanged w (λ z e. n z (sym own ∙ e))
+      ∙ own
+
+  -- unless the zero is +0 and x is -0
+  add-signedZero : (x : Float) (t : Bool) → T (fits f x) → (t ≡ false → x ≢ minusZero) → add f x (signedZero t) ≡ x
+  unfolding add
+  add-signedZero nan t h n = refl
+  add-signedZero (inf s) t h n = refl
+  add-signedZero (fin s m e) t h n = add-finite (fin s m e) t h tt n
+
+  pub add-plusZero : (x : Float) → T (fits f x) → x ≢ minusZero → add f x plusZero ≡ x
+  add-plusZero x h n = add-signedZero x false h (λ _. n)
+
+  pub plusZero-add : (x : Float) → T (fits f x) → x ≢ minusZero → add f plusZero x ≡ x
+  plusZero-add x h n = add-comm f plusZero x ∙ add-plusZero x h n
+
+  pub add-minusZero : (x : Float) → T (fits f x) → add f x minusZero ≡ x
+  add-minusZero x h = add-signedZero x true h (λ e. absurd (true≢false e))
+
+  pub minusZero-add : (x : Float) → T (fits f x) → add f minusZero x ≡ x
+  minusZero-add x h = add-comm f minusZero x ∙ add-minusZero x h
+
+  -- ---- a zero taken off
+  pub sub-plusZero : (x : Float) → T (fits f x) → sub f x plusZero ≡ x
+  unfolding sub neg
+  sub-plusZero x h = add-minusZero x h
+
+  pub sub-plusZero-squared : (x : Float) → T (fits f x) → mul f (sub f x plusZero) (sub f x plusZero) ≡ mul f x x
+  sub-plusZero-squared x h = rw (sub-plusZero x h)
+
+  pub plusZero-sub-squared : (x : Float) → T (fits f x) → mul f (sub f plusZero x) (sub f plusZero x) ≡ mul f x x
+  plusZero-sub-squared x h = sub-squared f plusZero x ∙ sub-plusZero-squared x h
+
+  -- ---- a zero as a factor
+  pub mul-signedZero : (x : Float) (t : Bool) → T (finite x) → mul f x (signedZero t) ≡ signedZero (unlike (sign x) t)
+  unfolding mul
+  mul-signedZero nan t h = absurd h
+  mul-signedZero (inf s) t h = absurd h
+  mul-signedZero (fin s m e) t h = rw (mul-zero (m * up e)) (round-zero f (unlike s t) (down e * 1) (mul-pos (down-pos e) (zero-lt-suc 0)))
+
+  pub signedZero-mul : (s : Bool) (y : Float) → T (finite y) → mul f (signedZero s) y ≡ signedZero (unlike s (sign y))
+  signedZero-mul s y h = mul-comm f (signedZero s) y ∙ rw (unlike-comm s (sign y)) (mul-signedZero y s h)
+
+  pub zero-squared : (s : Bool) → mul f (signedZero s) (signedZero s) ≡ plusZero
+  zero-squared s = mul-signedZero (signedZero s) s tt ∙ rw (beq-self s)
