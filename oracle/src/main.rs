@@ -1,6 +1,12 @@
 //! The Rust side of differential runs: the vector module of turso_core, unchanged, beside
-//! document 01.
+//! document 01. `oracle answer` answers lines as our programs must.
 
+mod differences;
+mod hex;
+mod lines;
+mod oracle;
+mod original;
+mod rules;
 mod stand_ins;
 
 /// The six files as published: the build copies them here and changes nothing.
@@ -20,4 +26,55 @@ mod vector {
 // The names under which the six files look for what they import.
 use stand_ins::{alloc, turso_debug_assert, types, LimboError, Result, ValueBlob};
 
-fn main() {}
+use std::io::{self, BufRead, BufWriter, Write};
+use std::process::ExitCode;
+
+use lines::Program;
+use oracle::Oracle;
+
+const USAGE: &str = "usage: oracle answer vecdist|vecprobe < lines";
+
+fn main() -> ExitCode {
+    let arguments: Vec<String> = std::env::args().skip(1).collect();
+    let arguments: Vec<&str> = arguments.iter().map(String::as_str).collect();
+    let done = match arguments[..] {
+        ["answer", name] => Program::named(name).map(answer),
+        _ => None,
+    };
+    match done {
+        Some(Ok(true)) => ExitCode::SUCCESS,
+        Some(Ok(false)) => ExitCode::FAILURE,
+        Some(Err(error)) => {
+            eprintln!("oracle: {error}");
+            ExitCode::from(2)
+        }
+        None => {
+            eprintln!("{USAGE}");
+            ExitCode::from(2)
+        }
+    }
+}
+
+/// Answers the lines of standard input; false if the Rust parted from document 01 anywhere.
+fn answer(program: Program) -> io::Result<bool> {
+    let mut input = io::stdin().lock();
+    let mut output = BufWriter::new(io::stdout().lock());
+    let mut oracle = Oracle::default();
+    let mut agreed = true;
+    let mut line = Vec::new();
+    for number in 1.. {
+        line.clear();
+        if input.read_until(b'\n', &mut line)? == 0 {
+            break;
+        }
+        let line = line.strip_suffix(b"\n").unwrap_or(&line);
+        writeln!(output, "{number}\t{}", program.answer(line, &mut oracle))?;
+        for finding in oracle.take_findings() {
+            agreed = false;
+            let line = String::from_utf8_lossy(line);
+            eprintln!("MISMATCH in line {number}: {line:.400}: {finding:.400}");
+        }
+    }
+    output.flush()?;
+    Ok(agreed)
+}
