@@ -1,7 +1,8 @@
 //! The Rust side of differential runs: the vector module of turso_core, unchanged, beside
-//! document 01. `oracle answer` answers lines as our programs must.
+//! document 01. `oracle answer` answers lines as our programs must; `oracle gen` makes lines.
 
 mod differences;
+mod generate;
 mod hex;
 mod lines;
 mod oracle;
@@ -32,13 +33,20 @@ use std::process::ExitCode;
 use lines::Program;
 use oracle::Oracle;
 
-const USAGE: &str = "usage: oracle answer vecdist|vecprobe < lines";
+const USAGE: &str = "usage: oracle answer vecdist|vecprobe < lines
+       oracle gen dist|read|strict|write|conv|near|rounding|short SEED COUNT";
 
 fn main() -> ExitCode {
     let arguments: Vec<String> = std::env::args().skip(1).collect();
     let arguments: Vec<&str> = arguments.iter().map(String::as_str).collect();
     let done = match arguments[..] {
         ["answer", name] => Program::named(name).map(answer),
+        ["gen", mode, seed, count] => match (seed.parse(), count.parse()) {
+            (Ok(seed), Ok(count)) => {
+                generate::lines(mode, seed).map(|lines| print(lines, seed, count))
+            }
+            _ => None,
+        },
         _ => None,
     };
     match done {
@@ -77,4 +85,20 @@ fn answer(program: Program) -> io::Result<bool> {
     }
     output.flush()?;
     Ok(agreed)
+}
+
+/// Prints so many lines; the last has no newline where the seed is odd.
+fn print(lines: impl Iterator<Item = Vec<u8>>, seed: u64, count: usize) -> io::Result<bool> {
+    let mut output = BufWriter::new(io::stdout().lock());
+    for (place, line) in lines.take(count).enumerate() {
+        if place > 0 {
+            output.write_all(b"\n")?;
+        }
+        output.write_all(&line)?;
+    }
+    if count > 0 && seed.is_multiple_of(2) {
+        output.write_all(b"\n")?;
+    }
+    output.flush()?;
+    Ok(true)
 }
