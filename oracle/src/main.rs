@@ -39,17 +39,7 @@ const USAGE: &str = "usage: oracle answer vecdist|vecprobe < lines
 fn main() -> ExitCode {
     let arguments: Vec<String> = std::env::args().skip(1).collect();
     let arguments: Vec<&str> = arguments.iter().map(String::as_str).collect();
-    let done = match arguments[..] {
-        ["answer", name] => Program::named(name).map(answer),
-        ["gen", mode, seed, count] => match (seed.parse(), count.parse()) {
-            (Ok(seed), Ok(count)) => {
-                generate::lines(mode, seed).map(|lines| print(lines, seed, count))
-            }
-            _ => None,
-        },
-        _ => None,
-    };
-    match done {
+    match run(&arguments) {
         Some(Ok(true)) => ExitCode::SUCCESS,
         Some(Ok(false)) => ExitCode::FAILURE,
         Some(Err(error)) => {
@@ -63,6 +53,19 @@ fn main() -> ExitCode {
     }
 }
 
+/// Nothing for arguments that are not understood.
+fn run(arguments: &[&str]) -> Option<io::Result<bool>> {
+    match *arguments {
+        ["answer", program] => Some(answer(Program::named(program)?)),
+        ["gen", mode, seed, count] => {
+            let (seed, count) = (seed.parse().ok()?, count.parse().ok()?);
+            let lines = generate::lines(mode, seed)?;
+            Some(print(lines, seed, count))
+        }
+        _ => None,
+    }
+}
+
 /// Answers the lines of standard input; false if the Rust parted from document 01 anywhere.
 fn answer(program: Program) -> io::Result<bool> {
     let mut input = io::stdin().lock();
@@ -70,7 +73,7 @@ fn answer(program: Program) -> io::Result<bool> {
     let mut oracle = Oracle::default();
     let mut agreed = true;
     let mut line = Vec::new();
-    for number in 1.. {
+    for number in 1u64.. {
         line.clear();
         if input.read_until(b'\n', &mut line)? == 0 {
             break;

@@ -85,15 +85,19 @@ impl Random {
             1 => (0..dims).map(|_| self.pick(&[0, 255])).collect(),
             _ => self.bytes(dims),
         };
-        let padding = dims.next_multiple_of(4) - dims;
-        body.extend(if self.one_in(3) {
-            self.bytes(padding)
-        } else {
-            vec![0; padding]
-        });
+        body.extend(self.padding(dims.next_multiple_of(4) - dims));
         body.extend(self.floats(SINGLE, 1));
         body.extend(self.floats(SINGLE, 1));
         body
+    }
+
+    /// Bytes that nothing tests: zero as the writer has them, or odd.
+    fn padding(&mut self, count: usize) -> Vec<u8> {
+        if self.one_in(3) {
+            self.bytes(count)
+        } else {
+            vec![0; count]
+        }
     }
 
     /// Sparse entries with rising indices, or repeated, unsorted or out of range.
@@ -117,13 +121,16 @@ impl Random {
 
     /// A body to compare with another: often close to it, so that sums cancel and distances tie.
     pub fn relative(&mut self, kind: Kind, dims: usize, body: &[u8]) -> Vec<u8> {
+        let change = self.below(8);
+        if change > 3 {
+            return self.body(kind, dims);
+        }
         let mut other = body.to_vec();
         let (reach, width) = match kind {
             Kind::Float32Sparse => (body.len() / 2, 4),
             Kind::Float64Dense => (body.len(), 8),
             _ => (body.len(), 4),
         };
-        let change = self.below(8);
         for element in other[..reach].chunks_mut(width) {
             let last = element.len() - 1;
             match change {
@@ -133,10 +140,7 @@ impl Random {
                 _ => {}
             }
         }
-        match change {
-            0..=3 => other,
-            _ => self.body(kind, dims),
-        }
+        other
     }
 
     /// The blob of a body, with whatever freedom its kind leaves the maker.
@@ -148,22 +152,17 @@ impl Random {
             Kind::Float1Bit => {
                 let shortest = (body.len() + 1).next_multiple_of(2);
                 let spare = (255 + dims - 8 * shortest) / 16;
-                let n = shortest
-                    + if self.one_in(3) {
-                        2 * self.below(spare + 1)
-                    } else {
-                        0
-                    };
-                let padding = n - 1 - body.len();
-                blob.extend(if self.one_in(2) {
-                    self.bytes(padding)
+                let more = if self.one_in(3) {
+                    self.below(spare + 1)
                 } else {
-                    vec![0; padding]
-                });
+                    0
+                };
+                let n = shortest + 2 * more;
+                blob.extend(self.padding(n - 1 - body.len()));
                 blob.push((8 * n - dims) as u8);
             }
             Kind::Float8 => {
-                blob.push(if self.one_in(3) { self.byte() } else { 0 });
+                blob.extend(self.padding(1));
                 blob.push((dims.next_multiple_of(4) - dims) as u8);
             }
             Kind::Float32Sparse => blob.extend((dims as u32).to_le_bytes()),
@@ -201,23 +200,27 @@ impl Random {
 
     /// A blob next to one of the limits.
     pub fn blob_at_limit(&mut self) -> Vec<u8> {
-        let kind = self.kind();
-        let near = |random: &mut Self, limit: usize| limit - 2 + random.below(5);
-        let dims = near(self, MOST_DIMS);
-        match self.below(8) {
-            0 => {
-                let length = near(self, MOST_LENGTH);
-                self.bytes(length)
-            }
-            1 if kind == Kind::Float32Sparse => {
-                let count = near(self, MOST_DIMS);
-                let body = self.entries(dims, count);
-                self.blob(kind, dims, &body)
-            }
-            _ => {
-                let body = self.body(kind, dims);
-                self.blob(kind, dims, &body)
-            }
+        if self.one_in(8) {
+            let length = self.near(MOST_LENGTH);
+            return self.bytes(length);
         }
+        let (kind, dims) = (self.kind(), self.near(MOST_DIMS));
+        let body = self.body_at_limit(kind, dims);
+        self.blob(kind, dims, &body)
+    }
+
+    /// A body for dims next to the limit; a sparse one has as many entries.
+    pub fn body_at_limit(&mut self, kind: Kind, dims: usize) -> Vec<u8> {
+        if kind == Kind::Float32Sparse {
+            let count = self.near(MOST_DIMS);
+            self.entries(dims, count)
+        } else {
+            self.body(kind, dims)
+        }
+    }
+
+    /// A limit, the number past it, or one of the three before it.
+    pub fn near(&mut self, limit: usize) -> usize {
+        self.between(limit - 3..=limit + 1)
     }
 }

@@ -30,6 +30,7 @@ pub fn lines(mode: &str, seed: u64) -> Option<Box<dyn Iterator<Item = Vec<u8>>>>
     let mut random = Random::new(seed);
     Some(Box::new(std::iter::repeat_with(move || {
         let line = request(&mut random);
-        random.perhaps_spoiled(program, line)
+        let line = random.perhaps_stretched(program, line);
+        random.perhaps_spoiled(line)
     })))
 }

@@ -1,6 +1,7 @@
 //! Lines for `vecdist` and `vecprobe`, and lines that are none.
 
 use super::random::Random;
+use crate::differences::MOST_DIMS;
 use crate::hex;
 use crate::lines::Program;
 use crate::rules::Kind;
@@ -31,7 +32,7 @@ impl Random {
     pub fn nearer_line(&mut self) -> Vec<u8> {
         let blobs = if self.one_in(4_000) {
             let kind = self.pick(&[Kind::Float1Bit, Kind::Float8, Kind::Float32Sparse]);
-            let dims = self.between(65_535..=65_537);
+            let dims = self.near(MOST_DIMS);
             self.relatives(kind, dims)
         } else {
             self.blobs_to_compare()
@@ -53,17 +54,12 @@ impl Random {
 
     pub fn writing_line(&mut self) -> Vec<u8> {
         let kind = self.kind();
-        let large = self.one_in(4_000);
-        let mut dims = if large {
-            self.between(65_534..=65_538)
+        let (mut dims, mut body) = if self.one_in(4_000) {
+            let dims = self.near(MOST_DIMS);
+            (dims, self.body_at_limit(kind, dims))
         } else {
-            self.dims(kind)
-        };
-        let mut body = if large && kind == Kind::Float32Sparse {
-            let count = self.between(65_534..=65_538);
-            self.entries(dims, count)
-        } else {
-            self.body(kind, dims)
+            let dims = self.dims(kind);
+            (dims, self.body(kind, dims))
         };
         match self.below(16) {
             0 => body = self.damaged(body),
@@ -76,13 +72,17 @@ impl Random {
         line(&["write", &kind, &dims, &hex::encode(&body)])
     }
 
-    /// The line, but the shape of a few is broken, and fewer are stretched to the longest line
-    /// that a program takes or just past it.
-    pub fn perhaps_spoiled(&mut self, program: Program, mut line: Vec<u8>) -> Vec<u8> {
+    /// The line; a few are stretched to the longest that a program takes, or just past it.
+    pub fn perhaps_stretched(&mut self, program: Program, mut line: Vec<u8>) -> Vec<u8> {
         if self.one_in(20_000) {
             let length = program.longest() - 1 + self.below(4);
             line.resize(length.max(line.len()), b'0');
         }
+        line
+    }
+
+    /// The line, but the shape of some is broken.
+    pub fn perhaps_spoiled(&mut self, mut line: Vec<u8>) -> Vec<u8> {
         if !self.one_in(64) {
             return line;
         }

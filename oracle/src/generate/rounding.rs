@@ -5,7 +5,10 @@ use super::random::Random;
 
 /// All edges, then random lines without end.
 pub fn lines(mut random: Random) -> impl Iterator<Item = Vec<u8>> {
-    edges().chain(std::iter::repeat_with(move || random.rounding_line()))
+    edges().chain(std::iter::repeat_with(move || {
+        let line = random.rounding_line();
+        random.perhaps_spoiled(line)
+    }))
 }
 
 fn edges() -> impl Iterator<Item = Vec<u8>> {
@@ -70,7 +73,7 @@ fn steps(format: Format, pattern: u64, first: i64) -> [u64; 4] {
 }
 
 impl Random {
-    pub fn rounding_line(&mut self) -> Vec<u8> {
+    fn rounding_line(&mut self) -> Vec<u8> {
         match self.below(5) {
             0 => root(SINGLE, self.radicand(SINGLE)),
             1 => root(DOUBLE, self.radicand(DOUBLE)),
