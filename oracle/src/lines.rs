@@ -1,0 +1,268 @@
+//! What a line of `vecdist` or `vecprobe` asks, and how its answer is printed.
+
+use crate::differences::{bits_32, bits_64};
+use crate::hex;
+use crate::oracle::{Oracle, Refused};
+use crate::rules::{Kind, Measure, Refusal, View};
+
+#[derive(Clone, Copy)]
+pub enum Program {
+    Vecdist,
+    Vecprobe,
+}
+
+impl Program {
+    pub fn named(name: &str) -> Option<Self> {
+        match name {
+            "vecdist" => Some(Self::Vecdist),
+            "vecprobe" => Some(Self::Vecprobe),
+            _ => None,
+        }
+    }
+
+    /// How many bytes a line may have before its newline.
+    pub const fn longest(self) -> usize {
+        match self {
+            Self::Vecdist => 32_768,
+            Self::Vecprobe => 1_100_000,
+        }
+    }
+
+    /// The answer to a line, without its number; `X` for a line of another shape.
+    pub fn answer(self, line: &[u8], oracle: &mut Oracle) -> String {
+        let fields: Vec<&[u8]> = line.split(|&byte| byte == b'\t').collect();
+        let answer = match self {
+            _ if line.len() > self.longest() => None,
+            Self::Vecdist => vecdist(&fields, oracle),
+            Self::Vecprobe => vecprobe(&fields, oracle),
+        };
+        answer.unwrap_or_else(|| "X".to_string())
+    }
+}
+
+fn vecdist(fields: &[&[u8]], oracle: &mut Oracle) -> Option<String> {
+    let &[name, a, b] = fields else { return None };
+    let (a, b) = (hex::decode(a)?, hex::decode(b)?);
+    Some(match oracle.distance(measure(name)?, &a, &b) {
+        Ok(distance) => format!("D\t{:016x}", distance.to_bits()),
+        Err(refused) => named(refused),
+    })
+}
+
+fn vecprobe(fields: &[&[u8]], oracle: &mut Oracle) -> Option<String> {
+    Some(match *fields {
+        [b"root", b"32", f] => format!("F\t{:08x}", bits_32(single(f)?.sqrt())),
+        [b"root", b"64", f] => format!("F\t{:016x}", bits_64(double(f)?.sqrt())),
+        [b"narrow", f] => format!("F\t{:08x}", bits_32(double(f)? as f32)),
+        [b"widen", f] => format!("F\t{:016x}", bits_64(single(f)? as f64)),
+        [b"trunc", f] => format!("F\t{:02x}", truncated(single(f)?)),
+        [b"read", blob] => shown('V', oracle.read(&hex::decode(blob)?)),
+        [b"strict", blob] => shown('V', oracle.strict(&hex::decode(blob)?)),
+        [b"conv", target, blob] => {
+            let (target, blob) = (kind(target)?, hex::decode(blob)?);
+            shown('C', oracle.convert(&blob, target))
+        }
+        [b"write", to, count, body] => {
+            let (to, dims, body) = (kind(to)?, dims(count)?, hex::decode(body)?);
+            match oracle.write(to, dims, &body) {
+                Ok(blob) => format!("W\t{}", hex::encode(&blob)),
+                Err(number) => format!("R\t{number}"),
+            }
+        }
+        [b"near", name, probe, a, b] => {
+            let blobs = [hex::decode(probe)?, hex::decode(a)?, hex::decode(b)?];
+            match oracle.nearer(measure(name)?, blobs.each_ref().map(Vec::as_slice)) {
+                Ok((which, distance)) => format!("N\t{which}\t{:016x}", distance.to_bits()),
+                Err(refused) => named(refused),
+            }
+        }
+        _ => return None,
+    })
+}
+
+/// Truncation as `convert.rs` has it.
+fn truncated(x: f32) -> u8 {
+    (x as i32).clamp(0, 255) as u8
+}
+
+fn shown(letter: char, answer: Result<View, Refusal>) -> String {
+    match answer {
+        Ok(View { kind, dims, body }) => {
+            format!("{letter}\t{}\t{dims}\t{}", kind as u8, hex::encode(&body))
+        }
+        Err(number) => format!("R\t{number}"),
+    }
+}
+
+fn named(Refused { number, blob }: Refused) -> String {
+    format!("R\t{number}\t{blob}")
+}
+
+fn measure(name: &[u8]) -> Option<Measure> {
+    match name {
+        b"cos" => Some(Measure::Cos),
+        b"l2" => Some(Measure::L2),
+        b"dot" => Some(Measure::Dot),
+        b"jac" => Some(Measure::Jac),
+        _ => None,
+    }
+}
+
+fn kind(digits: &[u8]) -> Option<Kind> {
+    Kind::ALL
+        .into_iter()
+        .find(|&kind| [b'0' + kind as u8] == digits)
+}
+
+/// One to ten decimal digits.
+fn dims(digits: &[u8]) -> Option<usize> {
+    let decimal = (1..=10).contains(&digits.len()) && digits.iter().all(u8::is_ascii_digit);
+    decimal.then(|| {
+        let digit = |&byte: &u8| usize::from(byte - b'0');
+        digits
+            .iter()
+            .map(digit)
+            .fold(0, |dims, digit| 10 * dims + digit)
+    })
+}
+
+fn single(digits: &[u8]) -> Option<f32> {
+    hex::pattern(digits).map(f32::from_be_bytes)
+}
+
+fn double(digits: &[u8]) -> Option<f64> {
+    hex::pattern(digits).map(f64::from_be_bytes)
+}
+
+#[cfg(test)]
+mod tests {
+    use super::*;
+
+    /// Asks lines in which `|` stands for a tab, each with its answer after ` = `.
+    fn ask(program: Program, lines: &[&str]) {
+        let mut oracle = Oracle::default();
+        for line in lines {
+            let (asked, expected) = line.split_once(" = ").expect("an answer");
+            let answer = program.answer(asked.replace('|', "\t").as_bytes(), &mut oracle);
+            assert_eq!(answer.replace('\t', "|"), expected, "{asked}");
+            assert_eq!(oracle.take_findings(), [""; 0], "{asked}");
+        }
+    }
+
+    #[test]
+    fn the_example_of_document_01() {
+        let lines = [
+            "cos|| = D|0000000000000000",
+            "dot|aa0803|ab0803 = D|c018000000000000",
+            "l2|aa0803|ab0803 = R|14|-",
+            "cos|07|05 = R|3|a",
+            "cos|0200000009|0200000009 = D|7ff8000000000000",
+            "hello = X",
+        ];
+        ask(Program::Vecdist, &lines);
+    }
+
+    #[test]
+    fn examples_on_each_side() {
+        let float8 = |t: &str, answer: &str| format!("read|{:0<26}{t}04 = {answer}", "");
+        let blobs = [
+            "read| = V|1|0|",
+            "read|01 = V|1|0|",
+            "read|05 = R|2",
+            "read|03 = R|4",
+            "read|aa0803 = V|3|8|aa",
+            "read|aa0703 = R|6",
+            "read|aa1003 = R|7",
+            "read|aa1103 = R|5",
+            &float8("03", "V|4|1|000000000000000000000000"),
+            &float8("04", "R|7"),
+            &float8("05", "R|5"),
+            "read|0000803f020000000200000009 = R|8",
+        ];
+        ask(Program::Vecprobe, &blobs);
+        let distances = [
+            "cos|aa0803|ab0803 = D|3ff0000000000000",
+            "jac|aa0803|ab0803 = D|3fc9999999999998",
+            "l2|0000000000000000|0000404000008040 = D|4014000000000000",
+            "dot|0000803f00000000|000000000000803f = D|8000000000000000",
+            "cos|050000000000000000000000000304|070000000000000000000000000304 \
+             = D|7ff8000000000000",
+        ];
+        ask(Program::Vecdist, &distances);
+    }
+
+    #[test]
+    fn every_request_of_vecprobe() {
+        let lines = [
+            "root|32|40800000 = F|40000000",
+            "root|64|c010000000000000 = F|7ff8000000000000",
+            "root|32|80000000 = F|80000000",
+            "narrow|36a0000000000000 = F|00000001",
+            "narrow|3690000000000000 = F|00000000",
+            "widen|ff800001 = F|7ff8000000000000",
+            "trunc|437fffff = F|ff",
+            "trunc|c37fffff = F|00",
+            "strict|ff0903 = R|11",
+            "strict|7f0903 = V|3|7|7f",
+            "strict|000080bf0000803f01000000000000000200000009 = R|10",
+            "conv|4|00000000ffff7f7f = C|4|2|00ff00008080807b00000000",
+            "conv|1|000080bf0000803f01000000010000000200000009 = C|1|2|000000000000803f",
+            "write|3|8|aa = W|aa0803",
+            "write|3|0| = R|16",
+            "write|3|9|aa = R|7",
+            "write|9|0000000002|0000803f01000000 = W|0000803f010000000200000009",
+            "write|9|4294967298|0000803f01000000 = R|9",
+            "near|l2||| = N|1|0000000000000000",
+            "near|cos|aa0803|ab0803|aa0803 = N|2|0000000000000000",
+            "near|l2|aa0803|ab0803|aa0903 = R|12|-",
+            "near|cos|aa0803|07|05 = R|3|a",
+            "near|jac|000803|000803|000803 = R|18|-",
+        ];
+        ask(Program::Vecprobe, &lines);
+    }
+
+    #[test]
+    fn lines_of_no_shape() {
+        ask(
+            Program::Vecdist,
+            &[
+                " = X",
+                "cos| = X",
+                "cos|07|zz = X",
+                "cos|0|00 = X",
+                "COS|| = X",
+                "cos||| = X",
+                "cos||\r = X",
+            ],
+        );
+        ask(
+            Program::Vecprobe,
+            &[
+                "root|16|0000 = X",
+                "root|32|0000000 = X",
+                "root|32|00000000000000ff = X",
+                "narrow|0000000A00000000 = X",
+                "conv|5| = X",
+                "conv|01| = X",
+                "write|1|| = X",
+                "write|1|+0| = X",
+                "write|1|00000000000| = X",
+            ],
+        );
+    }
+
+    #[test]
+    fn the_longest_line() {
+        let float8 = format!("{:0<16380}04", "");
+        let longest = format!("l2|{float8}|{float8}");
+        assert_eq!(longest.len(), Program::Vecdist.longest());
+        ask(
+            Program::Vecdist,
+            &[&format!("{longest} = D|0000000000000000")],
+        );
+        ask(
+            Program::Vecdist,
+            &[&format!("{} = X", longest.replace("l2", "cos"))],
+        );
+    }
+}

@@ -1,0 +1,126 @@
+//! Document 01's answers, each held against the Rust's; where the two part there is a finding.
+
+use std::fmt::Debug;
+
+use crate::rules::{self, Kind, Measure, Refusal, View};
+use crate::{differences, original};
+
+/// Stands where document 01 expects a value and the Rust has none; a finding says why.
+const NO_ANSWER: Refusal = 0;
+
+/// A refusal and the blob it names: `p`, `a`, `b`, or `-` for none.
+pub struct Refused {
+    pub number: Refusal,
+    pub blob: char,
+}
+
+/// A blob that was read, beside what was seen of it.
+struct Seen<'a> {
+    blob: &'a [u8],
+    view: View,
+}
+
+#[derive(Default)]
+pub struct Oracle {
+    findings: Vec<String>,
+}
+
+impl Oracle {
+    /// What the Rust did otherwise since the last call.
+    pub fn take_findings(&mut self) -> Vec<String> {
+        std::mem::take(&mut self.findings)
+    }
+
+    pub fn read(&mut self, blob: &[u8]) -> Result<View, Refusal> {
+        self.hold(&rules::layout(blob), &original::read(blob));
+        rules::read(blob)
+    }
+
+    pub fn strict(&mut self, blob: &[u8]) -> Result<View, Refusal> {
+        let view = self.read(blob)?;
+        let strict = rules::strict(&view);
+        if view.kind == Kind::Float32Sparse {
+            self.hold(&Ok(strict.is_ok()), &original::indices_are_sorted(blob));
+        }
+        strict.map(|()| view)
+    }
+
+    pub fn convert(&mut self, blob: &[u8], target: Kind) -> Result<View, Refusal> {
+        let View { kind, dims, .. } = self.read(blob)?;
+        let rust = original::convert(blob, target);
+        let shape = |view: &View| (view.kind, view.dims, view.kind.fits(dims, view.body.len()));
+        let found = rust.as_ref().map(shape).map_err(String::clone);
+        self.hold(&Ok((target, dims, true)), &found);
+        rust.map(|view| differences::converted(kind, view))
+            .map_err(|_| NO_ANSWER)
+    }
+
+    pub fn write(&mut self, kind: Kind, dims: usize, body: &[u8]) -> Result<Vec<u8>, Refusal> {
+        let blob = rules::write(kind, dims, body)?;
+        let body = body.to_vec();
+        self.hold(&Ok(View { kind, dims, body }), &original::read(&blob));
+        Ok(blob)
+    }
+
+    pub fn distance(&mut self, measure: Measure, a: &[u8], b: &[u8]) -> Result<f64, Refused> {
+        let first = self.see(a, 'a')?;
+        let second = self.see(b, 'b')?;
+        self.pair(measure, &first, &second).map_err(unnamed)
+    }
+
+    /// Which candidate is nearer to the probe, 1 or 2, and its distance.
+    pub fn nearer(
+        &mut self,
+        measure: Measure,
+        [probe, first, second]: [&[u8]; 3],
+    ) -> Result<(u8, f64), Refused> {
+        let probe = self.see(probe, 'p')?;
+        let first = self.see(first, 'a')?;
+        let second = self.see(second, 'b')?;
+        let distances = [&first, &second].map(|other| self.pair(measure, &probe, other));
+        rules::alike(&probe.view, &first.view)
+            .and_then(|()| rules::alike(&probe.view, &second.view))
+            .and_then(|()| rules::defined(measure, probe.view.kind))
+            .map_err(unnamed)?;
+        let [first, second] = distances;
+        let (first, second) = (first.map_err(unnamed)?, second.map_err(unnamed)?);
+        let which = rules::nearer(first, second).map_err(unnamed)?;
+        Ok((which, if which == 1 { first } else { second }))
+    }
+
+    fn see<'a>(&mut self, blob: &'a [u8], name: char) -> Result<Seen<'a>, Refused> {
+        match self.read(blob) {
+            Ok(view) => Ok(Seen { blob, view }),
+            Err(number) => Err(Refused { number, blob: name }),
+        }
+    }
+
+    /// The distance of two blobs that were read: 12, 13, 14, or the Rust's answer.
+    fn pair(&mut self, measure: Measure, first: &Seen, second: &Seen) -> Result<f64, Refusal> {
+        let allowed = rules::alike(&first.view, &second.view)
+            .and_then(|()| rules::defined(measure, first.view.kind));
+        let [one, other] = [first, second].map(|x| differences::before(measure, &x.view, x.blob));
+        let rust = original::distance(measure, &one, &other);
+        self.hold(&allowed, &rust.as_ref().map(|_| ()).map_err(String::clone));
+        allowed?;
+        rust.map(|answer| differences::distance(measure, first.view.dims, answer))
+            .map_err(|_| NO_ANSWER)
+    }
+
+    /// A finding, unless both accept with the same facts or both refuse for the same reason.
+    fn hold<T: PartialEq + Debug>(&mut self, rules: &Result<T, Refusal>, rust: &Result<T, String>) {
+        let same = match (rules, rust) {
+            (Ok(expected), Ok(found)) => expected == found,
+            (Err(number), Err(words)) => original::number(words) == Some(*number),
+            _ => false,
+        };
+        if !same {
+            let finding = format!("01 says {rules:?}, the Rust {rust:?}");
+            self.findings.push(finding);
+        }
+    }
+}
+
+fn unnamed(number: Refusal) -> Refused {
+    Refused { number, blob: '-' }
+}

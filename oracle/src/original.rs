@@ -1,0 +1,150 @@
+//! The six files themselves, run on 8-aligned copies. A refusal comes back in their own words,
+//! and so does a panic.
+
+use std::any::Any;
+use std::ops::Deref;
+use std::panic::{catch_unwind, AssertUnwindSafe};
+
+use crate::rules::{Kind, Measure, Refusal, View};
+use crate::vector::operations::{
+    convert::vector_convert, distance_cos::vector_distance_cos, distance_dot::vector_distance_dot,
+    distance_l2::vector_distance_l2, jaccard::vector_distance_jaccard,
+};
+use crate::vector::vector_types::{Vector, VectorType};
+
+pub fn read(blob: &[u8]) -> Result<View, String> {
+    run(|| {
+        let copy = Aligned::new(blob);
+        Ok(view(&Vector::from_slice(&copy)?))
+    })
+}
+
+/// What the debug assertion of the sparse view would test.
+pub fn indices_are_sorted(blob: &[u8]) -> Result<bool, String> {
+    run(|| {
+        let copy = Aligned::new(blob);
+        let vector = Vector::from_slice(&copy)?;
+        Ok(vector.as_f32_sparse().idx.is_sorted())
+    })
+}
+
+pub fn convert(blob: &[u8], target: Kind) -> Result<View, String> {
+    run(|| {
+        let copy = Aligned::new(blob);
+        let vector = Vector::from_slice(&copy)?;
+        Ok(view(&vector_convert(vector, target.into())?))
+    })
+}
+
+pub fn distance(measure: Measure, first: &[u8], second: &[u8]) -> Result<f64, String> {
+    let function = match measure {
+        Measure::Cos => vector_distance_cos,
+        Measure::L2 => vector_distance_l2,
+        Measure::Dot => vector_distance_dot,
+        Measure::Jac => vector_distance_jaccard,
+    };
+    run(|| {
+        let (first, second) = (Aligned::new(first), Aligned::new(second));
+        function(&Vector::from_slice(&first)?, &Vector::from_slice(&second)?)
+    })
+}
+
+/// Document 01's number for the Rust's words; a panic has none.
+pub fn number(words: &str) -> Option<Refusal> {
+    const WORDS: [(&str, Refusal); 13] = [
+        ("unsupported vector type from LibSQL", 2),
+        ("unknown vector type", 3),
+        ("must be even and non-empty", 4),
+        ("must have even length >= 2", 4),
+        ("exceed blob capacity", 5),
+        ("is too short for", 5),
+        ("data bytes but blob holds", 6),
+        ("unexpected data length", 7),
+        ("data length mismatch", 7),
+        ("out of range for", 8),
+        ("must have the same dimensions", 12),
+        ("must be of the same type", 13),
+        ("not supported for float1bit", 14),
+    ];
+    WORDS
+        .iter()
+        .find(|(part, _)| words.contains(part) && !words.starts_with(PANIC))
+        .map(|&(_, number)| number)
+}
+
+const PANIC: &str = "panic: ";
+
+fn run<T>(work: impl FnOnce() -> crate::Result<T>) -> Result<T, String> {
+    match catch_unwind(AssertUnwindSafe(work)) {
+        Ok(answer) => answer.map_err(|error| error.to_string()),
+        Err(panic) => Err(format!("{PANIC}{}", message(&*panic))),
+    }
+}
+
+fn message(panic: &(dyn Any + Send)) -> &str {
+    let owned = panic.downcast_ref::<String>().map(String::as_str);
+    owned
+        .or_else(|| panic.downcast_ref::<&str>().copied())
+        .unwrap_or("no words")
+}
+
+fn view(vector: &Vector) -> View {
+    View {
+        kind: vector.vector_type.into(),
+        dims: vector.dims,
+        body: vector.bin_data().to_vec(),
+    }
+}
+
+/// A copy of a blob that starts at a multiple of 8, as the Rust's slices of floats need it.
+struct Aligned {
+    room: Vec<u8>,
+    start: usize,
+    length: usize,
+}
+
+impl Aligned {
+    fn new(blob: &[u8]) -> Self {
+        let length = blob.len();
+        let mut room = vec![0; length + 7];
+        let start = room.as_ptr().align_offset(8);
+        room[start..start + length].copy_from_slice(blob);
+        Self {
+            room,
+            start,
+            length,
+        }
+    }
+}
+
+impl Deref for Aligned {
+    type Target = [u8];
+
+    fn deref(&self) -> &[u8] {
+        &self.room[self.start..self.start + self.length]
+    }
+}
+
+impl From<VectorType> for Kind {
+    fn from(vector_type: VectorType) -> Self {
+        match vector_type {
+            VectorType::Float32Dense => Kind::Float32Dense,
+            VectorType::Float64Dense => Kind::Float64Dense,
+            VectorType::Float1Bit => Kind::Float1Bit,
+            VectorType::Float8 => Kind::Float8,
+            VectorType::Float32Sparse => Kind::Float32Sparse,
+        }
+    }
+}
+
+impl From<Kind> for VectorType {
+    fn from(kind: Kind) -> Self {
+        match kind {
+            Kind::Float32Dense => VectorType::Float32Dense,
+            Kind::Float64Dense => VectorType::Float64Dense,
+            Kind::Float1Bit => VectorType::Float1Bit,
+            Kind::Float8 => VectorType::Float8,
+            Kind::Float32Sparse => VectorType::Float32Sparse,
+        }
+    }
+}
