@@ -1,10 +1,14 @@
+-- Laws for callers
+pub mod RootLaw
+pub mod NarrowLaw
+pub mod Round
+pub mod Nearest
+pub mod Determined
+
+-- what they rest on
 mod Compare
 mod Patterns
-mod Nearest
-mod Round
 mod WholeRoot
-mod RootLaw
 mod Widths
 mod Edges
-pub mod NarrowLaw
 mod Cut
