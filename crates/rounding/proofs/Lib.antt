@@ -4,7 +4,6 @@ pub mod NarrowLaw
 pub mod Round
 pub mod Nearest
 pub mod Determined
-
 -- what they rest on
 mod Compare
 mod Patterns

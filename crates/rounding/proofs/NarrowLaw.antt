@@ -18,10 +18,9 @@ use Rattle.rounding.specs.Pick.{digitsOf, count}
 use Rattle.rounding.specs.Narrow.{IsNarrowed, narrowed}
 use Rattle.rounding.specs.Parts.{Narrowing}
 use Rattle.rounding.proofs.Compare.{is-lt}
-use Rattle.rounding.proofs.Patterns.{Full, signed, infinity, finite, count-is}
+use Rattle.rounding.proofs.Patterns.{Full, digits-lt, signed, infinity, finite, count-is}
 use Rattle.rounding.proofs.Nearest.{only, nearest-scale}
 use Rattle.rounding.proofs.Round.{round-nearest, place-fine, place-over}
-use Rattle.rounding.proofs.RootLaw.{digits-lt}
 use Rattle.rounding.proofs.Edges.{quotient}
 
 -- ---- one value, and only one

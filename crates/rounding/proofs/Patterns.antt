@@ -1,17 +1,17 @@
 -- A format's patterns, without their sign, from 0 to an infinity's: `count` rises from each to the next, and each value of the format has one. Over the format.
-use mathlib.Core.Path.{_≡_, refl, sym, ap, _∙_, subst}
+use mathlib.Core.Path.{_≡_, refl, sym, ap, _∙_}
 use mathlib.Core.Logic.{_⊎_, inl, inr}
 use Prim.Native.Nat.{ℕ, zero, suc, _+_, _-_, _*_, _/_, _%_, _^_, _≤_, _<_}
-use native.Mathlib.Nat.{add-zero, zero-add, add-comm, add-assoc, add-mod-left, mul-comm, mul-right-comm, le-refl, le-trans, le-of-eq, le-of-lt, lt-irrefl, lt-of-lt-of-le, lt-of-le-of-lt, le-add-right, lt-suc-self, mod-lt, mod-eq-of-lt, mul-div-cancel, mul-mod-left, mul-add-mod-self-left, div-add-mod', div-lt-iff-lt-mul, mul-lt-mul-of-pos-right, pow-succ', eq-or-lt-of-le, eq-of-mul-eq-mul-right}
-use native.Mathlib.Decide.{le-ind}
+use native.Mathlib.Nat.{add-zero, zero-add, add-comm, add-assoc, add-mod-left, mul-comm, mul-right-comm, le-refl, le-trans, le-of-eq, le-of-lt, le-of-suc-le-suc, lt-of-not-le, not-le-of-lt, lt-irrefl, mul-assoc, mul-le-mul-right, mul-pos, zero-mul, lt-of-lt-of-le, lt-of-le-of-lt, le-add-right, lt-suc-self, mod-lt, mod-eq-of-lt, mul-div-cancel, mul-mod-left, mul-add-mod-self-left, div-add-mod', div-lt-iff-lt-mul, mul-lt-mul-of-pos-right, pow-succ', eq-or-lt-of-le, eq-of-mul-eq-mul-right}
+use native.Mathlib.Decide.{decLt, le-ind}
 use native.Mathlib.Omega.{arith}
 use mathlib.Core.Bool.{Bool, true, false, not, cond}
 use lib.IntN.{ℤ}
-use lib.Dec.{T, leb, ltb, eqb, eqb·suc-zero, le→leb, not-T, eqb→eq, ltb→lt, nltb→le, lit≤}
+use lib.Dec.{T, leb, eqb, eqb·suc-zero, le→leb, not-T, eqb→eq, lit≤}
 use lib.Arith.{digits-div, digits-mod, lt→nleb}
 use lib.Pow.{pow-add, pow-pos}
-use lib.Ieee.{Float, nan, inf, fin, Format, binary32, binary64, prec, emax, low, up, down, size, odd, hid, ones, top, ofFields, ofBits, toBits, fits, isNan}
-use lib.Ieee.Bits.{ofBits-fits, ofBits-toBits, toBits-ofBits, is-true, is-false, cond-no}
+use lib.Ieee.{Float, nan, inf, fin, Format, binary32, binary64, prec, emax, low, up, down, size, hid, ones, top, ofFields, ofBits, toBits, fits, isNan}
+use lib.Ieee.Bits.{ofBits-fits, ofBits-toBits, toBits-ofBits, is-true, is-false}
 use lib.Ieee.Digits.{size-le}
 use lib.Ieee.Fits.{two, down-pos, kept-lt}
 use lib.Ieee.Exact.{HasValue, odd-sign}
@@ -24,17 +24,18 @@ pub hid-pos : (f : Format) → 0 < hid f
 hid-pos f = pow-pos (prec f - 1)
 
 pub twice-hid : (f : Format) → 2 * hid f ≡ 2 ^ prec f
-twice-hid f = sym (pow-succ' 2 (prec f - 1)) ∙ ap (λ (x : ℕ). 2 ^ x) (back (prec f) (two f))
-  where
-    back : (p : ℕ) → 2 ≤ p → suc (p - 1) ≡ p
-    back p h = omega arith
+twice-hid f = let e : suc (prec f - 1) ≡ prec f = omega (arith, two f) in sym (pow-succ' 2 (prec f - 1)) ∙ rw e
 
 -- the exponent's field has an even weight, so a pattern is even where its digits are
 pub hid-even : (f : Format) → hid f ≡ 2 * 2 ^ (prec f - 2)
-hid-even f = ap (λ (x : ℕ). 2 ^ x) (back (prec f) (two f)) ∙ pow-succ' 2 (prec f - 2)
-  where
-    back : (p : ℕ) → 2 ≤ p → p - 1 ≡ suc (p - 2)
-    back p h = omega arith
+hid-even f = let e : prec f - 1 ≡ suc (prec f - 2) = omega (arith, two f) in rw e (pow-succ' 2 (prec f - 2))
+
+some-emax : (f : Format) → 1 ≤ emax f
+some-emax binary32 = lit≤ tt
+some-emax binary64 = lit≤ tt
+
+pred-suc : (x : ℕ) → suc x - 1 ≡ x
+pred-suc x = omega arith
 
 -- ---- the pattern k * hid + q stands for q * 2 ^ k, where k is 0 or q has all the digits
 abbrev pub Full : ℕ → ℕ → ℕ → Type 0
@@ -45,52 +46,31 @@ value h b = digitsOf h b * 2 ^ (b / h - 1)
 
 -- with the field x + 1 and the digits t
 value-suc : (h x t : ℕ) → t < h → value h (suc x * h + t) ≡ (h + t) * 2 ^ x
-value-suc h x t l =
-    ap (λ (y : ℕ). ((suc x * h + t) % h + cond (eqb y 0) 0 h) * 2 ^ (y - 1)) (digits-div (suc x) l)
-    ∙ ap (λ (y : ℕ). (y + cond (eqb (suc x) 0) 0 h) * 2 ^ (suc x - 1)) (digits-mod (suc x) l)
-    ∙ ap (λ (b : Bool). (t + cond b 0 h) * 2 ^ (suc x - 1)) (eqb·suc-zero x)
-    ∙ ap (λ (y : ℕ). y * 2 ^ (suc x - 1)) (add-comm t h)
-    ∙ ap (λ (y : ℕ). (h + t) * 2 ^ y) (pred x)
-  where
-    pred : (x : ℕ) → suc x - 1 ≡ x
-    pred x = omega arith
+value-suc h x t l = rw (digits-div (suc x) l, digits-mod (suc x) l, eqb·suc-zero x, add-comm t h, pred-suc x)
 
 -- with the field 0
 value-zero : (h t : ℕ) → t < h → value h (0 * h + t) ≡ t * 1
-value-zero h t l =
-    ap (λ (y : ℕ). ((0 * h + t) % h + cond (eqb y 0) 0 h) * 2 ^ (y - 1)) (digits-div 0 l)
-    ∙ ap (λ (y : ℕ). (y + 0) * 1) (digits-mod 0 l)
-    ∙ ap (λ (y : ℕ). y * 1) (add-zero t)
+value-zero h t l = rw (digits-div 0 l, digits-mod 0 l, add-zero t)
 
 value-full : (h k q : ℕ) → 0 < h → h ≤ q → q ≤ 2 * h → value h (k * h + q) ≡ q * 2 ^ k
 value-full h k q H a b = go (eq-or-lt-of-le b)
   where
-    carried : (h k q : ℕ) → q ≡ 2 * h → k * h + q ≡ suc (suc k) * h + 0
-    carried h k q e = omega arith
-
-    apart : (h k q : ℕ) → h ≤ q → k * h + q ≡ suc k * h + (q - h)
-    apart h k q a = omega arith
-
-    twice : (h q p : ℕ) → q ≡ 2 * h → (h + 0) * (2 * p) ≡ q * p
-    twice h q p e = rw e (omega arith)
-
-    join : (h q : ℕ) → h ≤ q → h + (q - h) ≡ q
-    join h q a = omega arith
-
-    less : (h q : ℕ) → h ≤ q → q < 2 * h → q - h < h
-    less h q a l = omega arith
-
     go : (q ≡ 2 * h) ⊎ (q < 2 * h) → value h (k * h + q) ≡ q * 2 ^ k
-    go (inl e) = rw (carried h k q e) (value-suc h (suc k) 0 H ∙ ap (λ (y : ℕ). (h + 0) * y) (pow-succ' 2 k) ∙ twice h q (2 ^ k) e)
-    go (inr l) = rw (apart h k q a) (value-suc h k (q - h) (less h q a l) ∙ ap (λ (y : ℕ). y * 2 ^ k) (join h q a))
+    go (inl e) =
+        let carried : k * h + q ≡ suc (suc k) * h + 0 = omega arith in
+        rw carried (value-suc h (suc k) 0 H ∙ rw (pow-succ' 2 k, e) (omega arith))
+    go (inr l) =
+        let apart : k * h + q ≡ suc k * h + (q - h) = omega arith in
+        let join : h + (q - h) ≡ q = omega arith in
+        rw apart (value-suc h k (q - h) (omega arith) ∙ rw join)
 
 value-at : (h k q : ℕ) → 0 < h → Full h k q → q ≤ 2 * h → value h (k * h + q) ≡ q * 2 ^ k
 value-at h k q H (inr a) b = value-full h k q H a b
-value-at h k q H (inl z) b = go (ltb q h) (ltb→lt q h) (nltb→le q h)
+value-at h k q H (inl z) b = go (decLt q h)
   where
-    go : (t : Bool) → (T t → q < h) → (T (not t) → h ≤ q) → value h (k * h + q) ≡ q * 2 ^ k
-    go true x y = rw z (value-zero h q (x tt))
-    go false x y = value-full h k q H (y tt) b
+    go : Dec (q < h) → value h (k * h + q) ≡ q * 2 ^ k
+    go (yes l) = rw z (value-zero h q l)
+    go (no n) = value-full h k q H (le-of-suc-le-suc (lt-of-not-le n)) b
 
 pub count-is : (f : Format) (b : ℕ) → count f b ≡ value (hid f) b
 unfolding count
@@ -102,29 +82,28 @@ count-at f k q full most = count-is f (k * hid f + q) ∙ value-at (hid f) k q (
 -- an infinity's pattern
 pub count-top : (f : Format) → count f (ones f * hid f) ≡ 2 ^ (low f + suc (emax f))
 count-top f =
-    ap (count f) (move (hid f) (ones f) (some f))
-    ∙ count-at f (ones f - 1) (hid f) (inr (le-refl (hid f))) (twice (hid f))
-    ∙ sym (pow-add 2 (prec f - 1) (ones f - 1))
-    ∙ ap (λ (x : ℕ). 2 ^ x) (sum (prec f) (emax f) (two f) (some-emax f))
+    let k = 2 * emax f in
+    let place : ones f * hid f ≡ k * hid f + hid f = one-more k (hid f) in
+    let exponent : prec f - 1 + k ≡ low f + suc (emax f) = omega (arith, two f, some-emax f) in
+    rw place (count-at f k (hid f) (inr (le-refl (hid f))) (omega arith) ∙ sym (pow-add 2 (prec f - 1) k) ∙ rw exponent)
   where
-    some : (f : Format) → 1 ≤ ones f
-    some f = omega arith
+    one-more : (k h : ℕ) → (k + 1) * h ≡ k * h + h
+    one-more k h = omega arith
 
-    some-emax : (f : Format) → 1 ≤ emax f
-    some-emax binary32 = lit≤ tt
-    some-emax binary64 = lit≤ tt
+-- ---- a pattern's digits
+pub digits-lt : (h b : ℕ) → 0 < h → digitsOf h b < 2 * h
+digits-lt h b p = go (eqb (b / h) 0) (mod-lt b p)
+  where
+    go : (x : Bool) → b % h < h → b % h + cond x 0 h < 2 * h
+    go true l = omega arith
+    go false l = omega arith
 
-    one-more : (h n : ℕ) → suc n * h ≡ n * h + h
-    one-more h n = omega arith
-
-    move : (h n : ℕ) → 1 ≤ n → n * h ≡ (n - 1) * h + h
-    move h n a = let e : n ≡ suc (n - 1) = omega arith in ap (λ (x : ℕ). x * h) e ∙ one-more h (n - 1)
-
-    twice : (h : ℕ) → h ≤ 2 * h
-    twice h = omega arith
-
-    sum : (p e : ℕ) → 2 ≤ p → 1 ≤ e → p - 1 + (2 * e + 1 - 1) ≡ e + p - 2 + suc e
-    sum p e a b = omega arith
+pub digits-pos : (h b : ℕ) → 0 < h → 0 < b → 0 < digitsOf h b
+digits-pos h b p q = go (eqb (b / h) 0) (eqb→eq (b / h) 0)
+  where
+    go : (x : Bool) → (T x → b / h ≡ 0) → 0 < b % h + cond x 0 h
+    go true z = let e : 0 * h + b % h ≡ b = rw (z tt) at (div-add-mod' b h) in omega arith
+    go false z = omega arith
 
 -- ---- patterns rise with their values
 -- every pattern is such a k * hid + q, with room for one more in q
@@ -138,12 +117,9 @@ pub record Parted (h b : ℕ) : Type 0 where
 pub parted : (h b : ℕ) → 0 < h → Parted h b
 parted h b H = go (b / h) (b % h) (div-add-mod' b h) (mod-lt b H)
   where
-    shift : (h x t b : ℕ) → suc x * h + t ≡ b → b ≡ x * h + (h + t)
-    shift h x t b e = omega arith
-
     go : (x t : ℕ) → x * h + t ≡ b → t < h → Parted h b
     go zero t e l = record { k = 0; q = t; is = sym e; full = inl refl; less = omega arith }
-    go (suc x) t e l = record { k = x; q = h + t; is = shift h x t b e; full = inr (le-add-right h t); less = omega arith }
+    go (suc x) t e l = record { k = x; q = h + t; is = omega arith; full = inr (le-add-right h t); less = omega arith }
 
 pub full-suc : (h k q : ℕ) → Full h k q → Full h k (suc q)
 full-suc h k q (inl z) = inl z
@@ -153,11 +129,9 @@ pub count-suc : (f : Format) (b : ℕ) → count f b < count f (suc b)
 count-suc f b =
     let p = parted (hid f) b (hid-pos f) in
     let at : count f b ≡ p .q * 2 ^ p .k = ap (count f) (p .is) ∙ count-at f (p .k) (p .q) (p .full) (le-of-lt (p .less)) in
-    let next : count f (suc b) ≡ suc (p .q) * 2 ^ p .k = ap (count f) (ap suc (p .is) ∙ up (p .k * hid f) (p .q)) ∙ count-at f (p .k) (suc (p .q)) (full-suc (hid f) (p .k) (p .q) (p .full)) (p .less) in
-    lt-of-le-of-lt (le-of-eq at) (lt-of-lt-of-le (mul-lt-mul-of-pos-right (lt-suc-self (p .q)) (pow-pos (p .k))) (le-of-eq (sym next)))
-  where
-    up : (a q : ℕ) → suc (a + q) ≡ a + suc q
-    up a q = omega arith
+    let up : suc b ≡ p .k * hid f + suc (p .q) = omega (arith, p .is) in
+    let next : count f (suc b) ≡ suc (p .q) * 2 ^ p .k = ap (count f) up ∙ count-at f (p .k) (suc (p .q)) (full-suc (hid f) (p .k) (p .q) (p .full)) (p .less) in
+    rw (at, next) (mul-lt-mul-of-pos-right (lt-suc-self (p .q)) (pow-pos (p .k)))
 
 pub count-lt : (f : Format) (a b : ℕ) → a < b → count f a < count f b
 count-lt f a b = le-ind (λ (x : ℕ). count f a < count f x) (count-suc f a) (λ m h l. lt-of-lt-of-le l (le-of-lt (count-suc f m))) b
@@ -171,7 +145,7 @@ count-le f a b h = go (eq-or-lt-of-le h)
 
 -- the other way: the order of two values is that of their patterns
 pub count-back : (f : Format) (a b : ℕ) → count f a < count f b → a < b
-count-back f a b l = native.Mathlib.Nat.lt-of-not-le (λ (h : b ≤ a). native.Mathlib.Nat.not-le-of-lt l (count-le f b a h))
+count-back f a b l = lt-of-not-le (λ h. not-le-of-lt l (count-le f b a h))
 
 -- ---- what a pattern stands for, with a sign
 abbrev pub signed : Format → Bool → ℕ → Float
@@ -182,26 +156,20 @@ unfolding ofBits
 ofBits-is f b = refl
 
 below-top : (f : Format) (b : ℕ) → b ≤ ones f * hid f → b < top f
-below-top f b h = lt-of-le-of-lt h (lt-of-lt-of-le (mul-lt-mul-of-pos-right (lt-suc-self (ones f)) (hid-pos f)) (le-of-eq (mul-comm (suc (ones f)) (hid f))))
+below-top f b h = rw (mul-comm (hid f) (suc (ones f))) (lt-of-le-of-lt h (mul-lt-mul-of-pos-right (lt-suc-self (ones f)) (hid-pos f)))
 
 fields : (f : Format) (s : Bool) (b : ℕ) → b ≤ ones f * hid f → signed f s b ≡ ofFields f s (b / hid f) (b % hid f)
-fields f s b h = ofBits-is f (cond s (top f) 0 + b) ∙ go s
-  where
-    low-part : (b : ℕ) → b ≤ ones f * hid f → b % top f / hid f ≡ b / hid f
-    low-part b h = ap (λ (a : ℕ). a / hid f) (mod-eq-of-lt (below-top f b h))
-
-    go : (s : Bool) → ofFields f (leb (top f) (cond s (top f) 0 + b)) ((cond s (top f) 0 + b) % top f / hid f) ((cond s (top f) 0 + b) % hid f) ≡ ofFields f s (b / hid f) (b % hid f)
-    go true =
-        rw (is-true (leb (top f) (top f + b)) (le→leb (top f) (top f + b) (le-add-right (top f) b)), add-mod-left (top f) b, low-part b h, mul-add-mod-self-left (hid f) (suc (ones f)) b)
-    go false = rw (zero-add b, is-false (leb (top f) b) (lt→nleb (top f) b (below-top f b h)), low-part b h)
+fields f true b h =
+    let size : b % top f ≡ b = mod-eq-of-lt (below-top f b h) in
+    ofBits-is f (top f + b)
+    ∙ rw (is-true (leb (top f) (top f + b)) (le→leb (top f) (top f + b) (le-add-right (top f) b)), add-mod-left (top f) b, size, mul-add-mod-self-left (hid f) (suc (ones f)) b)
+fields f false b h =
+    let size : b % top f ≡ b = mod-eq-of-lt (below-top f b h) in
+    ofBits-is f (0 + b) ∙ rw (zero-add b, is-false (leb (top f) b) (lt→nleb (top f) b (below-top f b h)), size)
 
 pub infinity : (f : Format) (s : Bool) → signed f s (ones f * hid f) ≡ inf s
 unfolding ofFields
-infinity f s =
-    fields f s (ones f * hid f) (le-refl (ones f * hid f))
-    ∙ ap (λ (x : ℕ). ofFields f s x (ones f * hid f % hid f)) (mul-div-cancel (ones f) (hid-pos f))
-    ∙ ap (ofFields f s (ones f)) (mul-mod-left (ones f) (hid f))
-    ∙ at f
+infinity f s = fields f s (ones f * hid f) (le-refl (ones f * hid f)) ∙ rw (mul-div-cancel (ones f) (hid-pos f), mul-mod-left (ones f) (hid f)) (at f)
   where
     at : (f : Format) → ofFields f s (ones f) 0 ≡ inf s
     at binary32 = refl
@@ -211,16 +179,8 @@ fields-value : (f : Format) (s : Bool) (x t : ℕ) → x < ones f → HasValue (
 unfolding ofFields
 fields-value f s zero t h = rw (add-zero t) (odd-sign (prec f) s t 0 (low f))
 fields-value f s (suc x) t h =
-    rw (
-      cond-no (eqb (suc x) (ones f)) (cond (eqb t 0) (inf s) nan) (odd (prec f) s (hid f + t) x (low f)) (not-T (eqb (suc x) (ones f)) (λ z. lt-irrefl (ones f) (subst (λ (y : ℕ). y < ones f) (eqb→eq (suc x) (ones f) z) h))),
-      eqb·suc-zero x,
-      add-comm t (hid f),
-      pred x,
-    )
-    (odd-sign (prec f) s (hid f + t) x (low f))
-  where
-    pred : (x : ℕ) → suc x - 1 ≡ x
-    pred x = omega arith
+    let below : T (not (eqb (suc x) (ones f))) = not-T (eqb (suc x) (ones f)) (λ z. lt-irrefl (ones f) (rw (eqb→eq (suc x) (ones f) z) at h)) in
+    rw (is-false (eqb (suc x) (ones f)) below, eqb·suc-zero x, add-comm t (hid f), pred-suc x) (odd-sign (prec f) s (hid f + t) x (low f))
 
 pub finite : (f : Format) (s : Bool) (b : ℕ) → b < ones f * hid f → HasValue (signed f s b) s (count f b) (2 ^ low f)
 finite f s b h = rw (count-is f b, fields f s b (le-of-lt h)) (fields-value f s (b / hid f) (b % hid f) (div-lt-iff-lt-mul (hid-pos f) .1 h))
@@ -264,35 +224,29 @@ bits-lt : (f : Format) (m : ℕ) (e : ℤ) → m * up e < 2 ^ suc (emax f) * dow
 bits-lt f m e high =
     let n = m * up e * 2 ^ low f / down e in
     let k = size n - prec f in
-    let n-lt : n < 2 ^ (suc (emax f) + low f) = div-lt-iff-lt-mul (down-pos e) .1 (lt-of-lt-of-le (mul-lt-mul-of-pos-right high (pow-pos (low f))) (le-of-eq (mul-right-comm (2 ^ suc (emax f)) (down e) (2 ^ low f) ∙ ap (λ (x : ℕ). x * down e) (sym (pow-add 2 (suc (emax f)) (low f)))))) in
-    let k-le : k + 2 ≤ ones f = room (size n) (prec f) (emax f) (size-le n (suc (emax f) + low f) n-lt) (two f) (some f) in
-    lt-of-lt-of-le (small k (hid f) (n / 2 ^ k) (lt-of-lt-of-le (kept-lt (prec f) n) (le-of-eq (sym (twice-hid f))))) (native.Mathlib.Nat.mul-le-mul-right (hid f) k-le)
+    let scaled : m * up e * 2 ^ low f < 2 ^ (suc (emax f) + low f) * down e = rw (pow-add 2 (suc (emax f)) (low f), mul-right-comm (2 ^ suc (emax f)) (2 ^ low f) (down e)) (mul-lt-mul-of-pos-right high (pow-pos (low f))) in
+    let digits : size n ≤ suc (emax f) + low f = size-le n (suc (emax f) + low f) (div-lt-iff-lt-mul (down-pos e) .1 scaled) in
+    let room : k + 2 ≤ ones f = omega (arith, two f, some-emax f) in
+    let kept : n / 2 ^ k < 2 * hid f = rw (twice-hid f) (kept-lt (prec f) n) in
+    lt-of-lt-of-le (small k (hid f) (n / 2 ^ k) kept) (mul-le-mul-right (hid f) room)
   where
-    some : (f : Format) → 1 ≤ emax f
-    some binary32 = lit≤ tt
-    some binary64 = lit≤ tt
-
-    room : (z p x : ℕ) → z ≤ suc x + (x + p - 2) → 2 ≤ p → 1 ≤ x → z - p + 2 ≤ 2 * x + 1
-    room z p x a b c = omega arith
-
     small : (k h q : ℕ) → q < 2 * h → k * h + q < (k + 2) * h
     small k h q a = omega arith
 
 high : (f : Format) (s : Bool) (m : ℕ) (e : ℤ) → T (fits f (fin s m e)) → m * up e < 2 ^ suc (emax f) * down e
-high f s zero e t = rw (native.Mathlib.Nat.zero-mul (up e)) (native.Mathlib.Nat.mul-pos (pow-pos (suc (emax f))) (down-pos e))
+high f s zero e t = rw (zero-mul (up e)) (mul-pos (pow-pos (suc (emax f))) (down-pos e))
 high f s (suc m) e t = held f s m e t .high
 
 -- so a finite value above zero has a pattern below an infinity's
 pub toBits-lt : (f : Format) (m : ℕ) (e : ℤ) → T (fits f (fin false m e)) → toBits f (fin false m e) < ones f * hid f
-toBits-lt f m e t = lt-of-le-of-lt (le-of-eq (toBits-is f false m e ∙ zero-add (bits f m e))) (bits-lt f m e (high f false m e t))
+toBits-lt f m e t = rw (toBits-is f false m e, zero-add (bits f m e)) (bits-lt f m e (high f false m e t))
 
 pub pattern : (f : Format) (s : Bool) (z : Float) (Z : ℕ) → Sized f s z Z → Pattern f s z Z
 pattern f s nan Z v = absurd v
 pattern f s (inf u) Z v = record { b = ones f * hid f; within = le-refl (ones f * hid f); is = infinity f s ∙ ap inf (sym (v .0)); counts = count-top f ∙ sym (v .1) }
 pattern f s (fin u m e) Z v =
     let l = bits-lt f m e (high f u m e (v .0)) in
-    let is : signed f s (bits f m e) ≡ fin u m e =
-    ap (λ (t : Bool). signed f t (bits f m e)) (sym (v .1)) ∙ ap (ofBits f) (sym (toBits-is f u m e)) ∙ ofBits-toBits f (fin u m e) (v .0) in
+    let is : signed f s (bits f m e) ≡ fin u m e = rw (← v .1, ← toBits-is f u m e) (ofBits-toBits f (fin u m e) (v .0)) in
     let w : HasValue (fin u m e) s (count f (bits f m e)) (2 ^ low f) = rw is at (finite f s (bits f m e) l) in
     record { b = bits f m e; within = le-of-lt l; is = is; counts = eq-of-mul-eq-mul-right (down e) (down-pos e) (count f (bits f m e)) Z (sym (w .1) ∙ v .2) }
 
@@ -306,24 +260,15 @@ not-nan f s b h = go (eq-or-lt-of-le h)
     go (inr l) = no-nan (signed f s b) s (count f b) (2 ^ low f) (finite f s b l)
 
 pub toBits-signed : (f : Format) (s : Bool) (b : ℕ) → b ≤ ones f * hid f → toBits f (signed f s b) ≡ cond s (top f) 0 + b
-toBits-signed f s b h = toBits-ofBits f (cond s (top f) 0 + b) (small s (below-top f b h)) (not-nan f s b h)
+toBits-signed f s b h = toBits-ofBits f (cond s (top f) 0 + b) (small s (top f) (below-top f b h)) (not-nan f s b h)
   where
-    both : (t b : ℕ) → b < t → t + b < 2 * t
-    both t b l = omega arith
-
-    one : (t b : ℕ) → b < t → 0 + b < 2 * t
-    one t b l = omega arith
-
-    small : (s : Bool) → b < top f → cond s (top f) 0 + b < 2 * top f
-    small true l = both (top f) b l
-    small false l = one (top f) b l
+    small : (s : Bool) (t : ℕ) → b < t → cond s t 0 + b < 2 * t
+    small true t l = omega arith
+    small false t l = omega arith
 
 pub even : (f : Format) (s : Bool) (b : ℕ) → b ≤ ones f * hid f → toBits f (signed f s b) % 2 ≡ b % 2
-even f s b h = ap (λ (x : ℕ). x % 2) (toBits-signed f s b h) ∙ go s
+even f s b h = rw (toBits-signed f s b h) (go s)
   where
-    two-times : (p n b : ℕ) → (2 * p * n + b) % 2 ≡ b % 2
-    two-times p n b = ap (λ (x : ℕ). (x + b) % 2) (native.Mathlib.Nat.mul-assoc 2 p n) ∙ mul-add-mod-self-left 2 (p * n) b
-
     go : (s : Bool) → (cond s (top f) 0 + b) % 2 ≡ b % 2
-    go true = ap (λ (x : ℕ). (x * suc (ones f) + b) % 2) (hid-even f) ∙ two-times (2 ^ (prec f - 2)) (suc (ones f)) b
-    go false = ap (λ (x : ℕ). x % 2) (zero-add b)
+    go true = rw (hid-even f, mul-assoc 2 (2 ^ (prec f - 2)) (suc (ones f))) (mul-add-mod-self-left 2 (2 ^ (prec f - 2) * suc (ones f)) b)
+    go false = rw (zero-add b)

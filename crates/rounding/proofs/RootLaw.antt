@@ -2,12 +2,12 @@
 use mathlib.Core.Path.{_≡_, refl, sym, ap, _∙_, subst}
 use mathlib.Core.Logic.{inr}
 use Prim.Native.Nat.{ℕ, zero, suc, _+_, _-_, _*_, _/_, _%_, _^_, _≤_, _<_, zero-le, compare}
-use native.Mathlib.Nat.{le-trans, le-of-eq, le-of-lt, lt-irrefl, lt-of-lt-of-le, lt-of-le-of-lt, lt-of-not-le, not-le-of-lt, zero-lt-suc, zero-add, one-mul, mod-lt, div-add-mod', div-lt-iff-lt-mul, zero-mul, mul-pos, mul-le-mul, mul-le-mul-left, mul-le-mul-right, pow-succ', mul-lt-mul-of-pos-right, mul-assoc, add-suc, lt-suc-self}
+use native.Mathlib.Nat.{le-trans, le-of-eq, le-of-lt, lt-irrefl, lt-of-lt-of-le, lt-of-le-of-lt, lt-of-not-le, not-le-of-lt, zero-lt-suc, zero-add, one-mul, div-lt-iff-lt-mul, zero-mul, mul-pos, mul-le-mul, mul-le-mul-left, mul-le-mul-right, pow-succ', mul-lt-mul-of-pos-right, mul-assoc, add-suc, lt-suc-self}
 use native.Mathlib.Omega.{arith}
-use mathlib.Core.Bool.{Bool, true, false, cond, true≢false}
+use mathlib.Core.Bool.{true, false, true≢false}
 use lib.Arith.{lt-of-le-ne}
 use lib.Bits.{shifted-even}
-use lib.Dec.{T, eqb, eqb→eq, lit≤}
+use lib.Dec.{lit≤}
 use lib.Pow.{pow-add, pow-pos, pow-mono}
 use lib.Ieee.{Float, nan, inf, fin, Format, binary32, binary64, prec, emax, low, up, down, nearest, hid, ones, ofBits}
 use lib.Ieee.Exact.{HasValue}
@@ -17,7 +17,7 @@ use Rattle.rounding.specs.Pick.{digitsOf, count}
 use Rattle.rounding.specs.Root.{IsRoot, root, radicand}
 use Rattle.rounding.specs.Parts.{Under, Normal, Rooting}
 use Rattle.rounding.proofs.Compare.{is-lt, is-gt, compare-scale}
-use Rattle.rounding.proofs.Patterns.{signed, finite, hid-pos, twice-hid, count-is, count-at, count-lt}
+use Rattle.rounding.proofs.Patterns.{signed, finite, hid-pos, twice-hid, digits-pos, count-is, count-at, count-lt}
 use Rattle.rounding.proofs.Nearest.{Rising, only, pick-nearest, floor-nearest, nearest-scale}
 use Rattle.rounding.proofs.WholeRoot.{from, under, root-from, root-under}
 
@@ -96,34 +96,22 @@ module _ (f : Format) (m e w r : ℕ) (full : hid f ≤ m) (less : m < 2 * hid f
 
   number-is : m * 2 ^ e ≡ A * (U * U)
   number-is =
-      ap (λ (x : ℕ). m * 2 ^ x) (halves (prec f) e wide)
-      ∙ ap (λ (x : ℕ). m * x) (pow-add 2 t (k + k) ∙ ap (λ (x : ℕ). 2 ^ t * x) (pow-add 2 k k))
-      ∙ turn m (2 ^ t) (U * U)
-    where
-      halves : (p e : ℕ) → grown p e ≤ e → e ≡ grown p e + ((e - grown p e) / 2 + (e - grown p e) / 2)
-      halves p e h = omega arith
-
-      turn : (m a b : ℕ) → m * (a * b) ≡ m * a * b
-      turn m a b = omega arith
+      let halves : e ≡ t + (k + k) = omega arith in
+      ap (λ (x : ℕ). m * 2 ^ x) halves ∙ rw (pow-add 2 t (k + k), pow-add 2 k k) (sym (mul-assoc m (2 ^ t) (U * U)))
 
   -- 2 ^ t is from 4 * h to 8 * h, so A is from the square of 2 * h on and below that of 4 * h
   A-from : 2 * h * (2 * h) ≤ A
-  A-from = le-trans (le-of-eq (move h)) (mul-le-mul full (le-trans (le-of-eq (four-hid f)) (pow-mono (more (prec f) e))))
-    where
-      move : (h : ℕ) → 2 * h * (2 * h) ≡ h * (4 * h)
-      move h = omega arith
-
-      more : (p e : ℕ) → suc p ≤ grown p e
-      more p e = omega arith
+  A-from =
+      let power : 4 * h ≤ 2 ^ t = rw (four-hid f) (pow-mono {i = suc (prec f)} {j = t} (omega arith)) in
+      let l : h * (4 * h) ≤ A = mul-le-mul full power in
+      omega arith
 
   A-under : A < 4 * h * (4 * h)
-  A-under = lt-of-lt-of-le (mul-lt-mul-of-pos-right less (pow-pos t)) (le-trans (mul-le-mul-left (2 * h) (le-trans (pow-mono (more (prec f) e)) (le-of-eq (sym (eight-hid f))))) (le-of-eq (move h)))
-    where
-      move : (h : ℕ) → 2 * h * (8 * h) ≡ 4 * h * (4 * h)
-      move h = omega arith
-
-      more : (p e : ℕ) → grown p e ≤ suc (suc p)
-      more p e = omega arith
+  A-under =
+      let power : 2 ^ t ≤ 8 * h = rw (eight-hid f) (pow-mono {i = t} {j = suc (suc (prec f))} (omega arith)) in
+      let l : 2 * h * 2 ^ t ≤ 2 * h * (8 * h) = mul-le-mul-left (2 * h) power in
+      let g : A < 2 * h * 2 ^ t = mul-lt-mul-of-pos-right less (pow-pos t) in
+      omega arith
 
   w-from : 2 * h ≤ w
   w-from = root-from (2 * h) root A-from
@@ -136,16 +124,10 @@ module _ (f : Format) (m e w r : ℕ) (full : hid f ≤ m) (less : m < 2 * hid f
   floor = suc k * h + w / 2
 
   at : count f floor ≡ w / 2 * (2 * U)
-  at = count-at f (suc k) (w / 2) (inr (omega (arith, w-from))) (omega (arith, w-under)) ∙ ap (λ (x : ℕ). w / 2 * x) (pow-succ' 2 k)
+  at = rw (← pow-succ' 2 k) (count-at f (suc k) (w / 2) (inr (omega (arith, w-from))) (omega (arith, w-under)))
 
   next : count f (suc floor) ≡ suc (w / 2) * (2 * U)
-  next =
-      ap (count f) (up (suc k * h) (w / 2))
-      ∙ count-at f (suc k) (suc (w / 2)) (inr (omega (arith, w-from))) (omega (arith, w-under))
-      ∙ ap (λ (x : ℕ). suc (w / 2) * x) (pow-succ' 2 k)
-    where
-      up : (x q : ℕ) → suc (x + q) ≡ x + suc q
-      up x q = omega arith
+  next = rw (← add-suc (suc k * h) (w / 2), ← pow-succ' 2 k) (count-at f (suc k) (suc (w / 2)) (inr (omega (arith, w-from))) (omega (arith, w-under)))
 
   abbrev number : ℕ
   number = 4 * (A * (U * U))
@@ -165,9 +147,12 @@ module _ (f : Format) (m e w r : ℕ) (full : hid f ≤ m) (less : m < 2 * hid f
       high : (q U : ℕ) → A < 2 * q * (2 * q) → 0 < U * U → 4 * (A * (U * U)) < mid (q * (2 * U) + q * (2 * U))
       high q U l p = let g : A * (U * U) < 2 * q * (2 * q) * (U * U) = mul-lt-mul-of-pos-right l p in omega arith
 
-  -- on which side of the midpoint: an even w is below it. At an odd one it would be met only by an odd A.
-  side : compare number (mid (count f floor + count f (suc floor))) ≡ compare A ((2 * (w / 2) + 1) * (2 * (w / 2) + 1))
-  side = rw (at, next) (compare-scale A ((2 * (w / 2) + 1) * (2 * (w / 2) + 1)) number (mid (w / 2 * (2 * U) + suc (w / 2) * (2 * U))) 1 (4 * (U * U)) (zero-lt-suc 0) (mul-pos (zero-lt-suc 3) (mul-pos (pow-pos k) (pow-pos k))) (scaled A U) (point (w / 2) U))
+  -- the point midway is mean * U: an even w is below it, and an odd one would meet it only if A were odd
+  abbrev mean : ℕ
+  mean = 2 * (w / 2) + 1
+
+  side : compare number (mid (count f floor + count f (suc floor))) ≡ compare A (mean * mean)
+  side = rw (at, next) (compare-scale A (mean * mean) number (mid (w / 2 * (2 * U) + suc (w / 2) * (2 * U))) 1 (4 * (U * U)) (zero-lt-suc 0) (mul-pos (zero-lt-suc 3) (mul-pos (pow-pos k) (pow-pos k))) (scaled A U) (point (w / 2) U))
     where
       scaled : (A U : ℕ) → 4 * (A * (U * U)) * 1 ≡ A * (4 * (U * U))
       scaled A U = omega arith
@@ -181,19 +166,13 @@ module _ (f : Format) (m e w r : ℕ) (full : hid f ≤ m) (less : m < 2 * hid f
       one-more : (p c : ℕ) → suc (p + c) ≡ p + 1 + c
       one-more p c = omega arith
 
-  chosen : nearest floor (compare A ((2 * (w / 2) + 1) * (2 * (w / 2) + 1))) ≡ suc k * h + (w + 1) / 2
+  chosen : nearest floor (compare A (mean * mean)) ≡ suc k * h + (w + 1) / 2
   chosen = go (w % 2) refl
     where
-      even : w % 2 ≡ 0 → w / 2 ≡ (w + 1) / 2
-      even z = omega arith
-
-      odd : (r : ℕ) → w % 2 ≡ suc r → suc (w / 2) ≡ (w + 1) / 2
-      odd r z = omega arith
-
-      below : w % 2 ≡ 0 → A < (2 * (w / 2) + 1) * (2 * (w / 2) + 1)
+      below : w % 2 ≡ 0 → A < mean * mean
       below z = subst (λ (x : ℕ). A < x * x) (omega arith) (under root)
 
-      above : (r : ℕ) → w % 2 ≡ suc r → (2 * (w / 2) + 1) * (2 * (w / 2) + 1) < A
+      above : (r : ℕ) → w % 2 ≡ suc r → mean * mean < A
       above r z = lt-of-le-ne (subst (λ (x : ℕ). x * x ≤ A) (omega arith) (from root)) (λ q. odd-square (w / 2) A A-even q)
         where
           odd-square : (q A : ℕ) → A % 2 ≡ 0 → (2 * q + 1) * (2 * q + 1) ≡ A → ⊥
@@ -202,9 +181,9 @@ module _ (f : Format) (m e w r : ℕ) (full : hid f ≤ m) (less : m < 2 * hid f
               odd-one : (A t : ℕ) → A % 2 ≡ 0 → A ≡ 2 * t + 1 → ⊥
               odd-one A t z e = omega arith
 
-      go : (r : ℕ) → w % 2 ≡ r → nearest floor (compare A ((2 * (w / 2) + 1) * (2 * (w / 2) + 1))) ≡ suc k * h + (w + 1) / 2
-      go zero z = ap (nearest floor) (is-lt A ((2 * (w / 2) + 1) * (2 * (w / 2) + 1)) (below z)) ∙ ap (λ (x : ℕ). suc k * h + x) (even z)
-      go (suc r) z = ap (nearest floor) (is-gt A ((2 * (w / 2) + 1) * (2 * (w / 2) + 1)) (above r z)) ∙ sym (add-suc (suc k * h) (w / 2)) ∙ ap (λ (x : ℕ). suc k * h + x) (odd r z)
+      go : (r : ℕ) → w % 2 ≡ r → nearest floor (compare A (mean * mean)) ≡ suc k * h + (w + 1) / 2
+      go zero z = let q : w / 2 ≡ (w + 1) / 2 = omega arith in rw (is-lt A (mean * mean) (below z)) (ap (λ (x : ℕ). suc k * h + x) q)
+      go (suc r) z = let q : suc (w / 2) ≡ (w + 1) / 2 = omega arith in rw (is-gt A (mean * mean) (above r z), ← q) (sym (add-suc (suc k * h) (w / 2)))
 
   pub halved-nearest : floor < ones f * h → Nearest f false (4 * (m * 2 ^ e)) mid (signed f false (suc k * h + (w + 1) / 2))
   halved-nearest l =
@@ -213,47 +192,25 @@ module _ (f : Format) (m e w r : ℕ) (full : hid f ≤ m) (less : m < 2 * hid f
       (floor-nearest f false number mid (squares-rise 1 (zero-lt-suc 0)) floor l reached passed))
 
 -- ---- from a pattern
-pub digits-lt : (h b : ℕ) → 0 < h → digitsOf h b < 2 * h
-digits-lt h b p = go (eqb (b / h) 0) (mod-lt b p)
-  where
-    go : (x : Bool) → b % h < h → b % h + cond x 0 h < 2 * h
-    go true l = omega arith
-    go false l = omega arith
-
-pub digits-pos : (h b : ℕ) → 0 < h → 0 < b → 0 < digitsOf h b
-digits-pos h b p q = go (eqb (b / h) 0) (eqb→eq (b / h) 0)
-  where
-    whole : (x r : ℕ) → x * h + r ≡ b → x ≡ 0 → r ≡ b
-    whole x r e z = sym (ap (λ (y : ℕ). y * h + r) z ∙ ap (λ (y : ℕ). y + r) (zero-mul h) ∙ zero-add r) ∙ e
-
-    go : (x : Bool) → (T x → b / h ≡ 0) → 0 < b % h + cond x 0 h
-    go true z = let e : b % h ≡ b = whole (b / h) (b % h) (div-add-mod' b h) (z tt) in omega arith
-    go false z = omega arith
-
 -- the number under a pattern, grown, leaves an exponent of more than the shift
 module _ (f : Format) (b m e : ℕ) (some : 0 < b) (norm : Normal (digitsOf (hid f) b) (b / hid f - 1 + low f) (hid f) m e) where
   pub exponent-from : grown (prec f) e ≤ e
-  exponent-from = le-trans (most (prec f) e) (enough (prec f + 2) (λ l. not-le-of-lt (small l) large))
+  exponent-from = let most : prec f + 1 < e = lt-of-not-le (λ l. not-le-of-lt (small l) large) in omega arith
     where
-      most : (p e : ℕ) → grown p e ≤ p + 2
-      most p e = omega arith
-
-      enough : (n : ℕ) → (e < n → ⊥) → n ≤ e
-      enough n h = native.Mathlib.Nat.le-of-suc-le-suc (lt-of-not-le h)
-
       large : 2 ^ low f ≤ m * 2 ^ e
-      large =
-          le-trans (le-trans (pow-mono (native.Mathlib.Nat.le-add-left (low f) (b / hid f - 1))) (le-trans (le-of-eq (sym (one-mul (2 ^ (b / hid f - 1 + low f))))) (mul-le-mul-right (2 ^ (b / hid f - 1 + low f)) (digits-pos (hid f) b (hid-pos f) some))))
-          (le-of-eq (sym (norm .same)))
+      large = rw (norm .same, pow-add 2 (b / hid f - 1) (low f)) (beside (digitsOf (hid f) b) (2 ^ (b / hid f - 1)) (2 ^ low f) (mul-pos (digits-pos (hid f) b (hid-pos f) some) (pow-pos (b / hid f - 1))))
+        where
+          beside : (d x y : ℕ) → 0 < d * x → y ≤ d * (x * y)
+          beside d x y p = le-trans (le-of-eq (sym (one-mul y))) (rw (← mul-assoc d x y) (mul-le-mul-right y p))
 
       far : (f : Format) → prec f + (prec f + 2) ≤ low f
       far binary32 = lit≤ tt
       far binary64 = lit≤ tt
 
-      small : e < prec f + 2 → m * 2 ^ e < 2 ^ low f
+      small : e ≤ prec f + 1 → m * 2 ^ e < 2 ^ low f
       small l =
-          lt-of-lt-of-le (mul-lt-mul-of-pos-right (lt-of-lt-of-le (norm .under) (le-of-eq (twice-hid f))) (pow-pos e))
-          (le-trans (mul-le-mul-left (2 ^ prec f) (pow-mono (le-of-lt l))) (le-trans (le-of-eq (sym (pow-add 2 (prec f) (prec f + 2)))) (pow-mono (far f))))
+          let grows : 2 ^ prec f * 2 ^ e ≤ 2 ^ low f = rw (← pow-add 2 (prec f) e) (pow-mono {i = prec f + e} (omega (arith, far f))) in
+          lt-of-lt-of-le (mul-lt-mul-of-pos-right (rw (← twice-hid f) (norm .under)) (pow-pos e)) grows
 
   pub rooting : (w r : ℕ) → b < ones f * hid f → Under (m * 2 ^ grown (prec f) e) w r → Rooting f b (((e - grown (prec f) e) / 2 + 1) * hid f + (w + 1) / 2)
   rooting w r fine root =
@@ -272,7 +229,7 @@ module _ (f : Format) (b m e : ℕ) (some : 0 < b) (norm : Normal (digitsOf (hid
       }
     where
       number : m * 2 ^ e ≡ count f b * 2 ^ low f
-      number = norm .same ∙ ap (λ (x : ℕ). digitsOf (hid f) b * x) (pow-add 2 (b / hid f - 1) (low f)) ∙ sym (mul-assoc (digitsOf (hid f) b) (2 ^ (b / hid f - 1)) (2 ^ low f)) ∙ ap (λ (x : ℕ). x * 2 ^ low f) (sym (count-is f b))
+      number = norm .same ∙ rw (count-is f b, pow-add 2 (b / hid f - 1) (low f)) (sym (mul-assoc (digitsOf (hid f) b) (2 ^ (b / hid f - 1)) (2 ^ low f)))
 
       place : (k h q : ℕ) → 0 + (suc k * h + q) ≡ (k + 1) * h + q
       place k h q = omega arith

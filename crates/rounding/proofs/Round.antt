@@ -2,7 +2,7 @@
 use mathlib.Core.Path.{_≡_, refl, sym, ap, _∙_, subst}
 use mathlib.Core.Logic.{_⊎_, inl, inr}
 use Prim.Native.Nat.{ℕ, suc, _+_, _-_, _*_, _/_, _%_, _^_, _≤_, _<_, compare, Ordering, Ordering·lt, Ordering·eq, Ordering·gt}
-use native.Mathlib.Nat.{add-assoc, mul-pos, mul-le-mul-right, mul-lt-mul-of-pos-right, lt-of-mul-lt-mul-right, le-of-mul-le-mul-right, mul-add-mod-self-left, le-trans, le-of-eq, le-antisymm, lt-of-not-le, le-of-lt, le-of-suc-le-suc, lt-of-lt-of-le, lt-of-le-of-lt, lt-suc-self, mod-lt, div-add-mod', div-div-eq-div-mul, le-div-iff-mul-le, eq-zero-or-pos}
+use native.Mathlib.Nat.{add-assoc, add-suc, mul-pos, mul-le-mul-right, mul-lt-mul-of-pos-right, lt-of-mul-lt-mul-right, le-of-mul-le-mul-right, mul-add-mod-self-left, le-trans, le-antisymm, lt-of-not-le, le-of-lt, le-of-suc-le-suc, lt-of-le-of-lt, lt-suc-self, mod-lt, div-add-mod', div-div-eq-div-mul, le-div-iff-mul-le, eq-zero-or-pos}
 use native.Mathlib.Decide.{decLt}
 use native.Mathlib.Omega.{arith}
 use mathlib.Core.Bool.{Bool, cond}
@@ -11,7 +11,7 @@ use lib.Pow.{pow-add, pow-pos, pow-lt}
 use lib.Ieee.{Float, inf, Format, prec, emax, low, size, nearest, units, round, hid, ones, top, fits}
 use lib.Ieee.Bits.{ofBits-fits}
 use lib.Ieee.Digits.{size-reaches}
-use lib.Ieee.Exact.{HasValue, units-val}
+use lib.Ieee.Exact.{units-val}
 use lib.Ieee.Fits.{two, kept-lt, nearest-le, odd-fits, round-is}
 use lib.Ieee.Nearest.{closest, nearest-ge}
 use borrow.Author.Tests.{lt-ltb, le-ltb}
@@ -29,24 +29,21 @@ add-both : (a b : ℕ) → a ≤ b → a + a ≤ b + b
 add-both a b h = omega arith
 
 -- ---- q digits kept, 2 ^ k times: the pattern k * hid + q, or an infinity's from there on
-units-fits : (f : Format) (s : Bool) (q k : ℕ) → q ≤ 2 ^ prec f → q * 2 ^ k < 2 ^ (low f + suc (emax f)) → T (fits f (units f s q k))
-unfolding units
-units-fits f s q k most fine = rw (lt-ltb (q * 2 ^ k) (2 ^ (low f + suc (emax f))) fine) (odd-fits f (suc (prec f)) s q k (lt-of-le-of-lt most (pow-lt (lt-suc-self (prec f)))) most fine)
+module _ (f : Format) (s : Bool) (q k : ℕ) (full : Full (hid f) k q) (most : q ≤ 2 * hid f) where
+  units-is : k * hid f + q < ones f * hid f → signed f s (k * hid f + q) ≡ units f s q k
+  unfolding units
+  units-is l =
+      let fine : q * 2 ^ k < 2 ^ (low f + suc (emax f)) = rw (← count-at f k q full most, ← count-top f) (count-lt f (k * hid f + q) (ones f * hid f) l) in
+      let q-le : q ≤ 2 ^ prec f = rw (← twice-hid f) most in
+      let holds : T (fits f (units f s q k)) = rw (lt-ltb (q * 2 ^ k) (2 ^ (low f + suc (emax f))) fine) (odd-fits f (suc (prec f)) s q k (lt-of-le-of-lt q-le (pow-lt (lt-suc-self (prec f)))) q-le fine) in
+      value-unique f (signed f s (k * hid f + q)) (units f s q k) s (q * 2 ^ k) (2 ^ low f) (pow-pos (low f))
+      (ofBits-fits f (cond s (top f) 0 + (k * hid f + q))) holds (rw (← count-at f k q full most) (finite f s (k * hid f + q) l)) (units-val f s q k fine)
 
-units-is : (f : Format) (s : Bool) (q k : ℕ) → Full (hid f) k q → q ≤ 2 * hid f → k * hid f + q < ones f * hid f → signed f s (k * hid f + q) ≡ units f s q k
-units-is f s q k full most l =
-    let fine : q * 2 ^ k < 2 ^ (low f + suc (emax f)) = lt-of-le-of-lt (le-of-eq (sym (count-at f k q full most))) (lt-of-lt-of-le (count-lt f (k * hid f + q) (ones f * hid f) l) (le-of-eq (count-top f))) in
-    value-unique f (signed f s (k * hid f + q)) (units f s q k) s (q * 2 ^ k) (2 ^ low f) (pow-pos (low f))
-    (ofBits-fits f (cond s (top f) 0 + (k * hid f + q)))
-    (units-fits f s q k (le-trans most (le-of-eq (twice-hid f))) fine)
-    (subst (λ (x : ℕ). HasValue (signed f s (k * hid f + q)) s x (2 ^ low f)) (count-at f k q full most) (finite f s (k * hid f + q) l))
-    (units-val f s q k fine)
-
-units-over : (f : Format) (s : Bool) (q k : ℕ) → Full (hid f) k q → q ≤ 2 * hid f → ones f * hid f ≤ k * hid f + q → inf s ≡ units f s q k
-unfolding units
-units-over f s q k full most h =
-    let over : 2 ^ (low f + suc (emax f)) ≤ q * 2 ^ k = le-trans (le-of-eq (sym (count-top f))) (le-trans (count-le f (ones f * hid f) (k * hid f + q) h) (le-of-eq (count-at f k q full most))) in
-    rw (le-ltb (q * 2 ^ k) (2 ^ (low f + suc (emax f))) over)
+  units-over : ones f * hid f ≤ k * hid f + q → inf s ≡ units f s q k
+  unfolding units
+  units-over h =
+      let over : 2 ^ (low f + suc (emax f)) ≤ q * 2 ^ k = rw (← count-at f k q full most, ← count-top f) (count-le f (ones f * hid f) (k * hid f + q) h) in
+      rw (le-ltb (q * 2 ^ k) (2 ^ (low f + suc (emax f))) over)
 
 full-nearest : (h k w : ℕ) (o : Ordering) → Full h k w → Full h k (nearest w o)
 full-nearest h k w o (inl z) = inl z
@@ -65,10 +62,7 @@ module _ (f : Format) (s : Bool) (N C a d k : ℕ) (pC : 0 < C) (pd : 0 < d) (sa
   at = count-at f k (a / d) full (le-of-lt less)
 
   next : count f (suc floor) ≡ suc (a / d) * U
-  next = ap (count f) (up (k * hid f) (a / d)) ∙ count-at f k (suc (a / d)) (full-suc (hid f) k (a / d) full) less
-    where
-      up : (x q : ℕ) → suc (x + q) ≡ x + suc q
-      up x q = omega arith
+  next = rw (← add-suc (k * hid f) (a / d)) (count-at f k (suc (a / d)) (full-suc (hid f) k (a / d) full) less)
 
   abbrev mid : ℕ → ℕ
   mid M = M * C
@@ -90,19 +84,22 @@ module _ (f : Format) (s : Bool) (N C a d k : ℕ) (pC : 0 < C) (pd : 0 < d) (sa
   midway x = omega arith
 
   from : mid (count f floor + count f floor) ≤ 2 * N
-  from = rw at (le-of-mul-le-mul-right {k = d} (le-trans (le-of-eq (twice (a / d))) (le-trans (mul-le-mul-right (U * C) (part (a / d) (a % d) (div-add-mod' a d))) (le-of-eq (sym number)))) pd)
+  from = rw at (le-of-mul-le-mul-right {k = d} (rw (twice (a / d), number) (mul-le-mul-right (U * C) (part (a / d) (a % d) (div-add-mod' a d)))) pd)
     where
       part : (w r : ℕ) → w * d + r ≡ a → 2 * (w * d) ≤ 2 * a
       part w r e = omega arith
 
   under : 2 * N < mid (count f (suc floor) + count f (suc floor))
-  under = rw next (lt-of-mul-lt-mul-right d (lt-of-le-of-lt (le-of-eq number) (lt-of-lt-of-le (mul-lt-mul-of-pos-right (part (a / d) (a % d) (div-add-mod' a d) (mod-lt a pd)) scale) (le-of-eq (sym (twice (suc (a / d))))))))
+  under = rw next (lt-of-mul-lt-mul-right d (rw (twice (suc (a / d)), number) (mul-lt-mul-of-pos-right (part (a / d) (a % d) (div-add-mod' a d) (mod-lt a pd)) scale)))
     where
       part : (w r : ℕ) → w * d + r ≡ a → r < d → 2 * a < 2 * (suc w * d)
       part w r e l = omega arith
 
   side : compare (2 * N) (mid (count f floor + count f (suc floor))) ≡ compare (a % d * 2) d
-  side = rw (at, next) (compare-scale (2 * a) (2 * (a / d * d) + d) (2 * N) (mid (a / d * U + suc (a / d) * U)) d (U * C) pd scale number (midway (a / d)) ∙ less-whole (a / d) (a % d) (div-add-mod' a d))
+  side =
+      rw (at, next)
+      (compare-scale (2 * a) (2 * (a / d * d) + d) (2 * N) (mid (a / d * U + suc (a / d) * U)) d (U * C) pd scale number (midway (a / d))
+      ∙ less-whole (a / d) (a % d) (div-add-mod' a d))
     where
       less-whole : (w r : ℕ) → w * d + r ≡ a → compare (2 * a) (2 * (w * d) + d) ≡ compare (r * 2) d
       less-whole w r e = go (compare (r * 2) d) (compared (r * 2) d)
@@ -115,13 +112,11 @@ module _ (f : Format) (s : Bool) (N C a d k : ℕ) (pC : 0 < C) (pd : 0 < d) (sa
   -- the field's weight is even
   moved : (o : Ordering) → nearest floor o ≡ k * hid f + nearest (a / d) o
   moved Ordering·lt = refl
-  moved Ordering·gt = sym (native.Mathlib.Nat.add-suc (k * hid f) (a / d))
-  moved Ordering·eq =
-      ap (λ (x : ℕ). floor + x) (ap (λ (h : ℕ). (k * h + a / d) % 2) (hid-even f) ∙ even k (2 ^ (prec f - 2)) (a / d))
-      ∙ add-assoc (k * hid f) (a / d) (a / d % 2)
+  moved Ordering·gt = sym (add-suc (k * hid f) (a / d))
+  moved Ordering·eq = rw (parity (2 ^ (prec f - 2)) (hid f) (a / d) (hid-even f)) (add-assoc (k * hid f) (a / d) (a / d % 2))
     where
-      even : (k p q : ℕ) → (k * (2 * p) + q) % 2 ≡ q % 2
-      even k p q = let e : k * (2 * p) ≡ 2 * (k * p) = omega arith in rw e (mul-add-mod-self-left 2 (k * p) q)
+      parity : (p h q : ℕ) → h ≡ 2 * p → (k * h + q) % 2 ≡ q % 2
+      parity p h q e = let twice : k * h ≡ 2 * (k * p) = rw e (omega arith) in rw twice (mul-add-mod-self-left 2 (k * p) q)
 
   -- the pattern of the nearest value; from an infinity's pattern on it stands for the infinity
   abbrev pub place : ℕ
@@ -140,7 +135,7 @@ module _ (f : Format) (s : Bool) (N C a d k : ℕ) (pC : 0 < C) (pd : 0 < d) (sa
     where
       go : Dec (floor < ones f * hid f) → Nearest f s (2 * N) mid (inf s)
       go (yes l) =
-          let most : place ≤ suc floor = le-trans (add-le (k * hid f) (closest a d) (suc (a / d)) (nearest-le (a / d) (compare (a % d * 2) d))) (le-of-eq (native.Mathlib.Nat.add-suc (k * hid f) (a / d))) in
+          let most : place ≤ suc floor = rw (← add-suc (k * hid f) (a / d)) (add-le (k * hid f) (closest a d) (suc (a / d)) (nearest-le (a / d) (compare (a % d * 2) d))) in
           subst (λ (y : Float). Nearest f s (2 * N) mid y) (ap (signed f s) (le-antisymm (le-trans most l) h) ∙ infinity f s) (placed l)
       go (no n) =
           let high = count-le f (ones f * hid f) floor (le-of-suc-le-suc (lt-of-not-le n)) in
@@ -168,15 +163,14 @@ round-nearest f s a c pc =
     let whole : n / c / 2 ^ k ≡ n / (c * 2 ^ k) = div-div-eq-div-mul n c (2 ^ k) in
     subst (λ (y : Float). Rounds f s a c y) (sym (round-is f s a c))
     (units-nearest f s n c n (c * 2 ^ k) k pc (mul-pos pc (pow-pos k)) (turn n c (2 ^ k))
-    (lt-of-le-of-lt (le-of-eq (sym whole)) (lt-of-lt-of-le (kept-lt (prec f) (n / c)) (le-of-eq (sym (twice-hid f)))))
-    (subst (λ (x : ℕ). Full (hid f) k x) whole (full (n / c) (eq-zero-or-pos k))))
+    (rw (← whole, twice-hid f) (kept-lt (prec f) (n / c)))
+    (rw (← whole) (full (n / c) (eq-zero-or-pos k))))
   where
     turn : (n c u : ℕ) → n * (c * u) ≡ n * u * c
     turn n c u = omega arith
 
-    all-in-use : (z p : ℕ) → 2 ≤ p → 0 < z - p → p - 1 + (z - p) < z
-    all-in-use z p P h = omega arith
-
     full : (x : ℕ) → (size x - prec f ≡ 0) ⊎ (0 < size x - prec f) → Full (hid f) (size x - prec f) (x / 2 ^ (size x - prec f))
     full x (inl e) = inl e
-    full x (inr g) = inr (le-div-iff-mul-le (pow-pos (size x - prec f)) .1 (le-trans (le-of-eq (sym (pow-add 2 (prec f - 1) (size x - prec f)))) (size-reaches x (prec f - 1 + (size x - prec f)) (all-in-use (size x) (prec f) (two f) g))))
+    full x (inr g) =
+        let all : prec f - 1 + (size x - prec f) < size x = omega (arith, two f) in
+        inr (le-div-iff-mul-le (pow-pos (size x - prec f)) .1 (rw (← pow-add 2 (prec f - 1) (size x - prec f)) (size-reaches x (prec f - 1 + (size x - prec f)) all)))

@@ -6,7 +6,7 @@ use lib.Pow.{pow-pos}
 use lib.Ieee.{binary32, hid, ones}
 use Rattle.rounding.specs.Pick.{digitsOf}
 use Rattle.rounding.specs.Parts.{Narrowing}
-use Rattle.rounding.proofs.RootLaw.{digits-lt}
+use Rattle.rounding.proofs.Patterns.{digits-lt}
 use Rattle.rounding.proofs.NarrowLaw.{place, answer-fine, answer-over, answer-infinite}
 use borrow.Author.Needs.{needs}
 use native.Mathlib.Omega.{arith}

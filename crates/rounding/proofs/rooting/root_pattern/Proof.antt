@@ -5,7 +5,8 @@ use native.Mathlib.Nat.{le-trans, le-add-left, le-add-right, lt-of-le-of-lt, div
 use lib.Pow.{pow-mono}
 use Rattle.rounding.specs.Pick.{digitsOf}
 use Rattle.rounding.specs.Parts.{Under, Normal, Rooting, formatOf}
-use Rattle.rounding.proofs.RootLaw.{grown, digits-lt, digits-pos}
+use Rattle.rounding.proofs.Patterns.{digits-lt, digits-pos}
+use Rattle.rounding.proofs.RootLaw.{grown}
 use Rattle.rounding.proofs.Widths.{sizes, pattern-lt, exponent, shift-is, shift-lt, shift-from, shift-whole, root-lt, answer}
 use borrow.Author.Needs.{needs}
 use native.Mathlib.Omega.{arith}
