@@ -1,1 +1,4 @@
 pub mod Nan
+pub mod Numbers
+pub mod Put
+pub mod Floats
