@@ -4,7 +4,7 @@ use mathlib.Core.List.{List, [], _∷_, _++_}
 use Prim.Native.Nat.{ℕ, zero, suc, _+_, _*_, _/_, _%_, _^_, _<_, _≤_}
 use native.Mathlib.Nat.{add-zero, zero-add, add-assoc, add-suc, suc-add, mul-one, pow-suc, pow-succ', one-le-pow, div-one, div-div-eq-div-mul}
 use native.Mathlib.Omega.{arith}
-use lib.Arith.{mod-mul, digits-div, digits-mod}
+use lib.Arith.{mod-mul, digits-lt}
 use lib.ListN.{length, getD, take, drop}
 use lib.Seq.{getD-take, getD-drop, drop-cons, take-append-seam, drop-append-seam}
 use Rattle.elements.specs.Bytes.{numberAt, bytesOf, AreBytes}
@@ -14,9 +14,8 @@ numberAt-same : (w : ℕ) (s t : List ℕ) (i j : ℕ) → ((k : ℕ) → k < w 
 unfolding numberAt
 numberAt-same zero s t i j h = refl
 numberAt-same (suc w) s t i j h =
-    let first : getD s i 0 ≡ getD t j 0 = simp add-zero at (h 0 (omega arith)) in
-    let rest : numberAt w s (suc i) ≡ numberAt w t (suc j) = numberAt-same w s t (suc i) (suc j) (λ k l. simp (suc-add, ← add-suc) (h (suc k) (omega arith))) in
-    rw (first, rest)
+    let lower = numberAt-same w s t i j (λ k l. h k (omega arith)) in
+    rw (lower, h w (omega arith))
 
 pub numberAt-drop : (w a : ℕ) (s : List ℕ) (i : ℕ) → numberAt w (drop a s) i ≡ numberAt w s (a + i)
 numberAt-drop w a s i = numberAt-same w (drop a s) s i (a + i) (λ k l. rw (getD-drop, add-assoc))
@@ -31,13 +30,6 @@ pub numberAt-right : (w : ℕ) (s t : List ℕ) (i : ℕ) → numberAt w (s ++ t
 numberAt-right w s t i = sym (numberAt-drop w (length s) (s ++ t) i) ∙ rw drop-append-seam
 
 -- ---- two halves, the lower first
-pub numberAt-halves : (a b : ℕ) (s : List ℕ) (i : ℕ) → numberAt a s i + numberAt b s (i + a) * 256 ^ a ≡ numberAt (a + b) s i
-unfolding numberAt
-numberAt-halves zero b s i = simp (zero-add, add-zero, mul-one)
-numberAt-halves (suc a) b s i =
-    let rest = simp suc-add at (numberAt-halves a b s (suc i)) in
-    rw (suc-add, add-suc, pow-suc) (omega arith)
-
 pub bytesOf-halves : (a b v : ℕ) → bytesOf a (v % 256 ^ a) ++ bytesOf b (v / 256 ^ a) ≡ bytesOf (a + b) v
 unfolding bytesOf
 bytesOf-halves zero b v = simp (zero-add, div-one)
@@ -52,7 +44,7 @@ bytesOf-halves (suc a) b v =
 pub numberAt-lt : (w : ℕ) (s : List ℕ) (i : ℕ) → AreBytes s → numberAt w s i < 256 ^ w
 unfolding numberAt
 numberAt-lt zero s i h = omega arith
-numberAt-lt (suc w) s i h = rw pow-suc (omega (arith, h i, numberAt-lt w s (suc i) h))
+numberAt-lt (suc w) s i h = rw pow-suc (omega (arith, digits-lt (h (i + w)) (numberAt-lt w s i h)))
 
 pub length-bytesOf : (w v : ℕ) → length (bytesOf w v) ≡ w
 unfolding bytesOf
@@ -66,20 +58,28 @@ bytesOf-bytes (suc w) v zero = omega arith
 bytesOf-bytes (suc w) v (suc k) = bytesOf-bytes w (v / 256) k
 
 -- ---- a number's bytes compose it, and the bytes of the number at a place are those that stand there
+numberAt-front : (w : ℕ) (s : List ℕ) (i : ℕ) → numberAt (suc w) s i ≡ getD s i 0 + 256 * numberAt w s (suc i)
+unfolding numberAt
+numberAt-front zero s i = simp add-zero (omega arith)
+numberAt-front (suc w) s i =
+    let lower = numberAt-front w s i in
+    rw (pow-suc, suc-add, add-suc) (omega arith)
+
 pub numberAt-bytesOf : (w v : ℕ) → v < 256 ^ w → numberAt w (bytesOf w v) 0 ≡ v
 unfolding numberAt bytesOf
 numberAt-bytesOf zero v h = omega arith
 numberAt-bytesOf (suc w) v h =
     let below : v / 256 < 256 ^ w = omega (arith, rw pow-suc at h) in
-    let rest = sym (numberAt-drop w 1 (bytesOf (suc w) v) 0) ∙ numberAt-bytesOf w (v / 256) below in
-    rw rest (omega arith)
+    let higher = sym (numberAt-drop w 1 (bytesOf (suc w) v) 0) ∙ numberAt-bytesOf w (v / 256) below in
+    rw (numberAt-front, higher) (omega arith)
 
 pub bytesOf-numberAt : (w : ℕ) (s : List ℕ) (i : ℕ) → AreBytes s → i + w ≤ length s → bytesOf w (numberAt w s i) ≡ take w (drop i s)
-unfolding numberAt bytesOf
+unfolding bytesOf
 bytesOf-numberAt zero s i h l = refl
 bytesOf-numberAt (suc w) s i h l =
-    let rest = numberAt w s (suc i) in
-    let first : (getD s i 0 + 256 * rest) % 256 ≡ getD s i 0 = omega (arith, h i) in
-    let higher : (getD s i 0 + 256 * rest) / 256 ≡ rest = omega (arith, h i) in
+    let v = numberAt (suc w) s i in
+    let front = numberAt-front w s i in
+    let first : v % 256 ≡ getD s i 0 = omega (arith, h i) in
+    let higher : v / 256 ≡ numberAt w s (suc i) = omega (arith, h i) in
     let here : i < length s = omega arith in
     rw (first, higher, drop-cons s i 0 here) (ap (λ (l : List ℕ). getD s i 0 ∷ l) (bytesOf-numberAt w s (suc i) h (omega arith)))

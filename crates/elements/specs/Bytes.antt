@@ -1,13 +1,13 @@
 -- Numbers and floats in little-endian bytes, over how many bytes there are.
-use Prim.Native.Nat.{ℕ, zero, suc, _+_, _*_, _/_, _%_, _<_}
+use Prim.Native.Nat.{ℕ, zero, suc, _+_, _*_, _/_, _%_, _^_, _<_}
 use mathlib.Core.List.{List, [], _∷_, _++_}
 use lib.ListN.{length, getD, take, drop}
 use lib.Ieee.{Float, Format, binary32, binary64, ofBits, toBits}
 
--- the number that the w bytes from i on compose, little end first
+-- the number that the w bytes from i on compose, little end first: the byte at i + k counts 256 ^ k
 unfoldable pub numberAt : ℕ → List ℕ → ℕ → ℕ
 numberAt zero s i = 0
-numberAt (suc w) s i = getD s i 0 + 256 * numberAt w s (suc i)
+numberAt (suc w) s i = numberAt w s i + getD s (i + w) 0 * 256 ^ w
 
 -- the w bytes of a number, little end first
 unfoldable pub bytesOf : ℕ → ℕ → List ℕ

@@ -1,7 +1,7 @@
 // Numbers and floats in little-endian bytes, at any place of a slice.
 ghost use mathlib.Core.Path.{_≡_};
-ghost use Prim.Native.Nat.{_+_, _≤_};
-ghost use lib.ListN.{length};
+ghost use Prim.Native.Nat.{_+_, _≤_, _<_};
+ghost use lib.ListN.{length, getD};
 ghost use lib.Ieee.{binary32, binary64, ofBits, toBits};
 ghost use Rattle.elements.specs.Bytes.{numberAt, bytesOf, put, floatBytes, u32At, f32At, f64At};
 
@@ -9,20 +9,20 @@ ghost use Rattle.elements.specs.Bytes.{numberAt, bytesOf, put, floatByte
 pub fn f32_of(bits: u32) -> f32
     ensures { λ r. ⌜ r ≡ ofBits binary32 bits ⌝ }
 {
-    if 0x7f80_0000 < bits % 0x8000_0000 {
-        0.0 / 0.0
-    } else {
+    if bits % 0x8000_0000 <= 0x7f80_0000 {
         f32::from_bits(bits)
+    } else {
+        0.0 / 0.0
     }
 }
 
 pub fn f64_of(bits: u64) -> f64
     ensures { λ r. ⌜ r ≡ ofBits binary64 bits ⌝ }
 {
-    if 0x7ff0_0000_0000_0000 < bits % 0x8000_0000_0000_0000 {
-        0.0 / 0.0
-    } else {
+    if bits % 0x8000_0000_0000_0000 <= 0x7ff0_0000_0000_0000 {
         f64::from_bits(bits)
+    } else {
+        0.0 / 0.0
     }
 }
 
@@ -43,32 +43,37 @@ pub fn bits64(x: f64) -> u64
     }
 }
 
-// The number of two, four or eight bytes at a place, as two halves, the lower first.
-fn u16_at(s: &[u8], at: usize) -> u16
-    requires { ⌜ at + 2 ≤ length (now s) ⌝ }
-    ensures { λ r. ⌜ r ≡ numberAt 2 (now (s .entry)) at ⌝ }
+// Byte k of what stands at a place.
+fn byte(s: &[u8], at: usize, k: usize) -> u8
+    requires { ⌜ at + k < length (now s) ⌝ }
+    ensures { λ r. ⌜ r ≡ getD (now (s .entry)) (at + k) 0 ⌝ }
 {
-    let low = s[at] as u16;
-    let high = s[at + 1] as u16;
-    low + high * 0x100
+    s[at + k]
 }
 
+// The number at a place. Of one sum of bytes the compiler makes one load.
 pub fn u32_at(s: &[u8], at: usize) -> u32
     requires { ⌜ at + 4 ≤ length (now s) ⌝ }
     ensures { λ r. ⌜ r ≡ u32At (now (s .entry)) at ⌝ }
 {
-    let low = u16_at(s, at) as u32;
-    let high = u16_at(s, at + 2) as u32;
-    low + high * 0x1_0000
+    byte(s, at, 0) as u32
+        + byte(s, at, 1) as u32 * 0x100
+        + byte(s, at, 2) as u32 * 0x1_0000
+        + byte(s, at, 3) as u32 * 0x100_0000
 }
 
 pub fn u64_at(s: &[u8], at: usize) -> u64
     requires { ⌜ at + 8 ≤ length (now s) ⌝ }
     ensures { λ r. ⌜ r ≡ numberAt 8 (now (s .entry)) at ⌝ }
 {
-    let low = u32_at(s, at) as u64;
-    let high = u32_at(s, at + 4) as u64;
-    low + high * 0x1_0000_0000
+    byte(s, at, 0) as u64
+        + byte(s, at, 1) as u64 * 0x100
+        + byte(s, at, 2) as u64 * 0x1_0000
+        + byte(s, at, 3) as u64 * 0x100_0000
+        + byte(s, at, 4) as u64 * 0x1_0000_0000
+        + byte(s, at, 5) as u64 * 0x100_0000_0000
+        + byte(s, at, 6) as u64 * 0x1_0000_0000_0000
+        + byte(s, at, 7) as u64 * 0x100_0000_0000_0000
 }
 
 // The float at a place.
