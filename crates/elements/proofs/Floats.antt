@@ -20,11 +20,15 @@ pub floatAt-fits : (f : Format) (s : List ℕ) (i : ℕ) → T (fits f (floatAt 
 floatAt-fits f s i = ofBits-fits f (numberAt (width f) s i)
 
 -- a float that the format holds is read back where it was put
-pub floatAt-put : (f : Format) (x : Float) (l : List ℕ) (i : ℕ) → i + width f ≤ length l → T (fits f x) → floatAt f (put l i (floatBytes f x)) i ≡ x
+pub floatAt-put : (f : Format) (x : Float) (l : List ℕ) (i : ℕ) → i + width f ≤ length l → T (fits f x)
+    → floatAt f (put l i (floatBytes f x)) i ≡ x
 floatAt-put f x l i room h =
-    ap (ofBits f) (numberAt-put-bytesOf (width f) (toBits f x) l i room (rw patterns at (toBits-lt f x h))) ∙ ofBits-toBits f x h
+    let below = rw patterns at (toBits-lt f x h) in
+    ap (ofBits f) (numberAt-put-bytesOf (width f) (toBits f x) l i room below) ∙ ofBits-toBits f x h
 
 -- a float's bytes are those that it was read from, unless it is NaN
-pub floatBytes-floatAt : (f : Format) (s : List ℕ) (i : ℕ) → AreBytes s → i + width f ≤ length s → T (not (isNan (floatAt f s i))) → floatBytes f (floatAt f s i) ≡ take (width f) (drop i s)
+pub floatBytes-floatAt : (f : Format) (s : List ℕ) (i : ℕ) → AreBytes s → i + width f ≤ length s → T (not (isNan (floatAt f s i)))
+    → floatBytes f (floatAt f s i) ≡ take (width f) (drop i s)
 floatBytes-floatAt f s i h room number =
-    rw (toBits-ofBits f _ (rw patterns (numberAt-lt (width f) s i h)) number) (bytesOf-numberAt (width f) s i h room)
+    let below : numberAt (width f) s i < 2 * top f = rw patterns (numberAt-lt (width f) s i h) in
+    rw (toBits-ofBits f (numberAt (width f) s i) below number) (bytesOf-numberAt (width f) s i h room)

@@ -2,3 +2,4 @@ pub mod Nan
 pub mod Numbers
 pub mod Put
 pub mod Floats
+pub mod Determined

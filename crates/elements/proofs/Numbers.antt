@@ -1,16 +1,17 @@
--- What a number reads in bytes, and the bytes that it has, over how many there are. Assumes nothing.
+-- The number that bytes compose and the bytes that a number has, over how many there are. Assumes nothing.
 use mathlib.Core.Path.{_≡_, refl, sym, ap, _∙_}
-use mathlib.Core.List.{List, [], _∷_, _++_}
+use mathlib.Core.List.{List, _∷_, _++_}
 use Prim.Native.Nat.{ℕ, zero, suc, _+_, _*_, _/_, _%_, _^_, _<_, _≤_}
-use native.Mathlib.Nat.{add-zero, zero-add, add-assoc, add-suc, suc-add, mul-one, pow-suc, pow-succ', one-le-pow, div-one, div-div-eq-div-mul}
+use native.Mathlib.Nat.{add-zero, zero-add, add-assoc, add-suc, suc-add, pow-suc, pow-succ', one-le-pow, div-one, div-div-eq-div-mul}
 use native.Mathlib.Omega.{arith}
 use lib.Arith.{mod-mul, digits-lt}
 use lib.ListN.{length, getD, take, drop}
 use lib.Seq.{getD-take, getD-drop, drop-cons, take-append-seam, drop-append-seam}
 use Rattle.elements.specs.Bytes.{numberAt, bytesOf, AreBytes}
 
--- ---- a number is that of its own bytes, wherever these stand
-numberAt-same : (w : ℕ) (s t : List ℕ) (i j : ℕ) → ((k : ℕ) → k < w → getD s (i + k) 0 ≡ getD t (j + k) 0) → numberAt w s i ≡ numberAt w t j
+-- ---- only its own bytes count, wherever these stand: in a part, and in a list with more on either side
+numberAt-same : (w : ℕ) (s t : List ℕ) (i j : ℕ)
+    → ((k : ℕ) → k < w → getD s (i + k) 0 ≡ getD t (j + k) 0) → numberAt w s i ≡ numberAt w t j
 unfolding numberAt
 numberAt-same zero s t i j h = refl
 numberAt-same (suc w) s t i j h =
@@ -29,7 +30,7 @@ numberAt-left w s t i h = sym (numberAt-take w (length s) (s ++ t) i h) ∙ rw t
 pub numberAt-right : (w : ℕ) (s t : List ℕ) (i : ℕ) → numberAt w (s ++ t) (length s + i) ≡ numberAt w t i
 numberAt-right w s t i = sym (numberAt-drop w (length s) (s ++ t) i) ∙ rw drop-append-seam
 
--- ---- two halves, the lower first
+-- ---- the bytes of two halves, the lower first
 pub bytesOf-halves : (a b v : ℕ) → bytesOf a (v % 256 ^ a) ++ bytesOf b (v / 256 ^ a) ≡ bytesOf (a + b) v
 unfolding bytesOf
 bytesOf-halves zero b v = simp (zero-add, div-one)
@@ -40,7 +41,7 @@ bytesOf-halves (suc a) b v =
     let high : v / 256 ^ suc a ≡ v / 256 / 256 ^ a = rw (pow-succ', div-div-eq-div-mul) in
     rw (first, middle, high, suc-add) (ap (λ (l : List ℕ). v % 256 ∷ l) (bytesOf-halves a b (v / 256)))
 
--- ---- the bounds
+-- ---- bounds. That a slice holds bytes a proof has as `λ k. c .shared-slice-known .given k .fits`
 pub numberAt-lt : (w : ℕ) (s : List ℕ) (i : ℕ) → AreBytes s → numberAt w s i < 256 ^ w
 unfolding numberAt
 numberAt-lt zero s i h = omega arith
@@ -73,7 +74,8 @@ numberAt-bytesOf (suc w) v h =
     let higher = sym (numberAt-drop w 1 (bytesOf (suc w) v) 0) ∙ numberAt-bytesOf w (v / 256) below in
     rw (numberAt-front, higher) (omega arith)
 
-pub bytesOf-numberAt : (w : ℕ) (s : List ℕ) (i : ℕ) → AreBytes s → i + w ≤ length s → bytesOf w (numberAt w s i) ≡ take w (drop i s)
+pub bytesOf-numberAt : (w : ℕ) (s : List ℕ) (i : ℕ) → AreBytes s → i + w ≤ length s
+    → bytesOf w (numberAt w s i) ≡ take w (drop i s)
 unfolding bytesOf
 bytesOf-numberAt zero s i h l = refl
 bytesOf-numberAt (suc w) s i h l =
@@ -82,4 +84,5 @@ bytesOf-numberAt (suc w) s i h l =
     let first : v % 256 ≡ getD s i 0 = omega (arith, h i) in
     let higher : v / 256 ≡ numberAt w s (suc i) = omega (arith, h i) in
     let here : i < length s = omega arith in
-    rw (first, higher, drop-cons s i 0 here) (ap (λ (l : List ℕ). getD s i 0 ∷ l) (bytesOf-numberAt w s (suc i) h (omega arith)))
+    let rest = bytesOf-numberAt w s (suc i) h (omega arith) in
+    rw (first, higher, drop-cons s i 0 here) (ap (λ (l : List ℕ). getD s i 0 ∷ l) rest)

@@ -1,5 +1,5 @@
 -- What stands where after bytes were put at a place that the list has. Assumes nothing.
-use mathlib.Core.Path.{_≡_, refl, sym, ap, _∙_}
+use mathlib.Core.Path.{_≡_, _∙_}
 use mathlib.Core.Logic.{_⊎_, inl, inr}
 use mathlib.Core.List.{List, _++_, append-assoc}
 use Prim.Native.Nat.{ℕ, _+_, _-_, _%_, _/_, _^_, _<_, _≤_}
@@ -47,11 +47,13 @@ module _ (l : List ℕ) (i : ℕ) (vs : List ℕ) (room : i + length vs ≤ leng
   unfolding put
   put-put us =
       let first : take (i + length vs) (put l i vs) ≡ take i l ++ vs = rw (take-add, take-put, drop-put, take-append-seam) in
-      let last : drop (i + length vs + length us) (put l i vs) ≡ drop (i + length vs + length us) l = rw (← drop-drop (length us) (i + length vs), drop-put-past, drop-drop) in
+      let last : drop (i + length vs + length us) (put l i vs) ≡ drop (i + length vs + length us) l =
+      rw (← drop-drop (length us) (i + length vs), drop-put-past, drop-drop) in
       rw (first, last, length-append, ← add-assoc i, append-assoc (take i l))
 
--- ---- a number's bytes: put, they are read back; put as two halves, they are put
-pub numberAt-put-bytesOf : (w v : ℕ) (l : List ℕ) (i : ℕ) → i + w ≤ length l → v < 256 ^ w → numberAt w (put l i (bytesOf w v)) i ≡ v
+-- ---- a number is read back where its bytes were put, and may be put as two halves
+pub numberAt-put-bytesOf : (w v : ℕ) (l : List ℕ) (i : ℕ) → i + w ≤ length l → v < 256 ^ w
+    → numberAt w (put l i (bytesOf w v)) i ≡ v
 numberAt-put-bytesOf w v l i room h =
     let long = length-bytesOf w v in
     rw add-zero at (numberAt-put l i (bytesOf w v) (omega arith) w 0 (omega arith)) ∙ numberAt-bytesOf w v h

@@ -4,7 +4,7 @@ use Rattle.elements.proofs.f32_at.Statement.{statement}
 use Rattle.elements.proofs.f32_at.Tie as tie
 
 returns : tie.Need-returns
-returns c = cc
+returns c = rw (c .f32-of .ensures, c .before .u32-at .ensures)
 
 pub f32-at-spec : {M : Type 1} → statement M
 f32-at-spec =

@@ -4,7 +4,7 @@ use Rattle.elements.proofs.f64_at.Statement.{statement}
 use Rattle.elements.proofs.f64_at.Tie as tie
 
 returns : tie.Need-returns
-returns c = cc
+returns c = rw (c .f64-of .ensures, c .before .u64-at .ensures)
 
 pub f64-at-spec : {M : Type 1} → statement M
 f64-at-spec =

@@ -4,7 +4,7 @@ use Rattle.elements.proofs.put_f32.Statement.{statement}
 use Rattle.elements.proofs.put_f32.Tie as tie
 
 returns : tie.Need-returns
-returns c = cc
+returns c = rw (c .before .before .put-u32 .ensures, c .before .before .before .bits32 .ensures)
 
 pub put-f32-spec : {M : Type 1} → statement M
 put-f32-spec =

@@ -4,7 +4,7 @@ use Rattle.elements.proofs.put_f64.Statement.{statement}
 use Rattle.elements.proofs.put_f64.Tie as tie
 
 returns : tie.Need-returns
-returns c = cc
+returns c = rw (c .before .before .put-u64 .ensures, c .before .before .before .bits64 .ensures)
 
 pub put-f64-spec : {M : Type 1} → statement M
 put-f64-spec =

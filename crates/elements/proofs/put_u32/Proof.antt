@@ -6,8 +6,9 @@ use Rattle.elements.proofs.put_u32.Tie as tie
 
 returns : tie.Need-returns
 returns c =
-    let a = c .before .before .before .before .before .before .before .before .before .args in
-    cc (put-halves 2 2 (a .v) (a .out .now) (a .at) (search needs))
+    let low = c .before .before .before .before .before .before in
+    let a = low .before .before .before .args in
+    rw (c .before .before .put-u162 .ensures, low .put-u16 .ensures) (put-halves 2 2 (a .v) (a .out .now) (a .at) (search needs))
 
 pub put-u32-spec : {M : Type 1} → statement M
 put-u32-spec =
