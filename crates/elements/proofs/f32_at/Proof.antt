@@ -7,9 +7,4 @@ returns : tie.Need-returns
 returns c = rw (c .f32-of .ensures, c .before .u32-at .ensures)
 
 pub f32-at-spec : {M : Type 1} → statement M
-f32-at-spec =
-    tie.close
-    (tie.spec
-    (λ c κs. search needs)
-    (λ c κs. search needs)
-    returns)
+f32-at-spec = tie.close (tie.spec (λ c κs. search needs) (λ c κs. search needs) returns)

@@ -7,9 +7,4 @@ returns : tie.Need-returns
 returns c = rw (c .f64-of .ensures, c .before .u64-at .ensures)
 
 pub f64-at-spec : {M : Type 1} → statement M
-f64-at-spec =
-    tie.close
-    (tie.spec
-    (λ c κs. search needs)
-    (λ c κs. search needs)
-    returns)
+f64-at-spec = tie.close (tie.spec (λ c κs. search needs) (λ c κs. search needs) returns)

@@ -25,10 +25,6 @@ pub put-u16-spec : {M : Type 1} → statement M
 put-u16-spec =
     tie.close
     (tie.spec
-    (λ c. search needs)
-    (λ c. search needs)
-    (λ c. search needs)
-    (λ c. search needs)
-    slice-write-out-2
-    (λ c. search needs)
-    returns)
+    (λ c. search needs) (λ c. search needs)
+    (λ c. search needs) (λ c. search needs) slice-write-out-2
+    (λ c. search needs) returns)
