@@ -7,6 +7,7 @@ pub mod Fraction
 pub mod Zero
 pub mod Running
 pub mod Whole
+pub mod Nan
 -- what their proofs share
 pub mod Sign
 pub mod Sum

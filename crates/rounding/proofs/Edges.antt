@@ -6,11 +6,11 @@ use native.Mathlib.Nat.{le-trans, le-of-eq, lt-irrefl, lt-of-le-of-lt, eq-zero-o
 use mathlib.Core.Bool.{Bool, true, false, not, true≢false, false≢true}
 use lib.IntN.{ℤ, pos}
 use lib.Dec.{T, eqb, eqb→eq, nltb→le}
-use lib.Ieee.{Float, nan, inf, fin, Format, binary32, binary64, up, down, hid, ones, top, level, lt, eq, ne, div, ofBits, toBits, fits, isNan, nanBits}
+use lib.Ieee.{Float, nan, inf, fin, Format, binary32, binary64, up, down, hid, ones, top, level, lt, eq, div, ofBits, toBits, fits, isNan, nanBits}
 use lib.Ieee.Bits.{ofBits-toBits, nanBits-above, nanBits-is}
-use lib.Ieee.Compare.{nan-differs}
 use lib.Ieee.Fits.{up-pos, and-l}
-use borrow.Author.Tests.{ltb-true, lt-ltb, le-ltb}
+use borrow.Author.Tests.{ltb-true, lt-ltb}
+use Rattle.float_laws.proofs.Nan.{zero-by-zero, number-pattern}
 use Rattle.rounding.specs.Root.{IsRoot}
 use Rattle.rounding.proofs.Patterns.{toBits-lt}
 
@@ -18,11 +18,6 @@ pub zero-is : (f : Format) → ofBits f 0 ≡ fin false 0 (pos 0)
 unfolding ofBits
 zero-is binary32 = refl
 zero-is binary64 = refl
-
--- 0 / 0
-pub quotient : (f : Format) → div f (ofBits f 0) (ofBits f 0) ≡ nan
-unfolding div
-quotient f = rw (zero-is f)
 
 -- ---- above zero: an infinity, or a finite number
 abbrev pub Above : Float → Type 0
@@ -83,7 +78,7 @@ zero-root f x h = go x (rw (zero-is f) at h)
 -- ---- elsewhere it is NaN
 pub no-root : (f : Format) (x : Float) → lt (ofBits f 0) x ≡ false → eq x (ofBits f 0) ≡ false → IsRoot f x (div f (ofBits f 0) (ofBits f 0))
 unfolding lt eq
-no-root f x h k = rw (quotient f) (go x (rw (zero-is f) at h) (rw (zero-is f) at k))
+no-root f x h k = rw (zero-by-zero f) (go x (rw (zero-is f) at h) (rw (zero-is f) at k))
   where
     level-zero : (s : Bool) (a b : ℕ) → a ≡ 0 → b ≡ 0 → level s a false b ≡ true
     level-zero true a b p q = rw (p, q)
@@ -98,22 +93,13 @@ no-root f x h k = rw (quotient f) (go x (rw (zero-is f) at h) (rw (zero-is f) at
         absurd (true≢false (sym (lt-ltb (0 * 1 * down e) (suc m * up e * 1) (lt-of-le-of-lt (le-of-eq (zero-mul (down e))) (mul-pos (mul-pos (zero-lt-suc m) (up-pos e)) (zero-lt-suc 0)))) ∙ h))
     go (fin s zero e) h k = absurd (true≢false (sym (level-zero s (0 * up e * 1) (0 * 1 * down e) (ap (λ (y : ℕ). y * 1) (zero-mul (up e))) (zero-mul (down e))) ∙ k))
 
--- ---- a pattern up to an infinity's is no NaN's
-no-nan-size : (f : Format) (b : ℕ) → b % top f ≤ ones f * hid f → T (not (nanBits f b))
-no-nan-size f b h = rw (nanBits-above f b, le-ltb (ones f * hid f) (b % top f) h) tt
-
+-- ---- a pattern up to an infinity's is no NaN's, with either sign
 pub no-nan : (f : Format) (b : ℕ) → b ≤ ones f * hid f → T (not (nanBits f b))
-no-nan f b h = no-nan-size f b (le-trans (mod-le b (top f)) h)
+no-nan f b h = number-pattern f b (le-trans (mod-le b (top f)) h)
 
 pub no-nan-below : (f : Format) (b : ℕ) → b ≤ ones f * hid f → T (not (nanBits f (top f + b)))
-no-nan-below f b h = no-nan-size f (top f + b) (le-trans (le-of-eq (add-mod-left (top f) b)) (le-trans (mod-le b (top f)) h))
+no-nan-below f b h = number-pattern f (top f + b) (rw (add-mod-left (top f) b) (le-trans (mod-le b (top f)) h))
 
--- a number's pattern, without its sign, is at most an infinity's
-pub number : (x : Float) → ne x x ≡ false → T (not (isNan x))
-unfolding isNan
-number nan h = absurd (true≢false (sym nan-differs ∙ h))
-number (inf s) h = tt
-number (fin s m e) h = tt
-
+-- and a number's pattern, without its sign, is at most an infinity's
 pub size-le : (f : Format) (x : Float) → T (fits f x) → T (not (isNan x)) → toBits f x % top f ≤ ones f * hid f
-size-le f x t n = nltb→le (ones f * hid f) (toBits f x % top f) (subst (λ (b : Bool). T (not b)) (sym (nanBits-is f (toBits f x) ∙ ap isNan (ofBits-toBits f x t)) ∙ nanBits-above f (toBits f x)) n)
+size-le f x t n = nltb→le (ones f * hid f) (toBits f x % top f) (rw (← nanBits-above f (toBits f x), nanBits-is f (toBits f x), ofBits-toBits f x t) n)

@@ -21,7 +21,7 @@ use Rattle.rounding.proofs.Compare.{is-lt}
 use Rattle.rounding.proofs.Patterns.{Full, digits-lt, signed, infinity, finite, count-is}
 use Rattle.rounding.proofs.Nearest.{only, nearest-scale}
 use Rattle.rounding.proofs.Round.{round-nearest, place-fine, place-over}
-use Rattle.rounding.proofs.Edges.{quotient}
+use Rattle.float_laws.proofs.Nan.{zero-by-zero}
 
 -- ---- one value, and only one
 pub narrowed-is : (x : Float) → IsNarrowed x (narrowed x)
@@ -38,7 +38,7 @@ narrowed-only (fin s m e) y h =
     only binary32 s _ (λ M. M * down e) (λ a b l. mul-lt-mul-of-pos-right l (down-pos e)) h (round-nearest binary32 s (m * up e) (down e) (down-pos e))
 
 pub nan-narrowed : (x : Float) → ne x x ≡ true → IsNarrowed x (div binary32 (ofBits binary32 0) (ofBits binary32 0))
-nan-narrowed x h = rw (differs-from-itself x (subst T (sym h) tt)) (quotient binary32)
+nan-narrowed x h = rw (differs-from-itself x (subst T (sym h) tt)) (zero-by-zero binary32)
 
 -- x is X of an f64's smallest values, so X * 2 ^ 149 / 2 ^ 1074 of an f32's
 narrowed-of : (x : Float) (s : Bool) (X : ℕ) (y : Float) → HasValue x s X (2 ^ low binary64) → Nearest binary32 s (2 * (X * 2 ^ low binary32)) (λ M. M * 2 ^ low binary64) y → IsNarrowed x y

@@ -5,8 +5,9 @@ use native.Mathlib.Nat.{mod-eq-of-lt, zero-add, add-sub-of-le}
 use mathlib.Core.Bool.{true, false}
 use lib.Ieee.{Float, binary32, binary64, ofBits, toBits, top}
 use lib.Ieee.Bits.{ofBits-toBits, toBits-lt}
+use Rattle.float_laws.proofs.Nan.{number-value}
 use Rattle.rounding.specs.Narrow.{IsNarrowed}
-use Rattle.rounding.proofs.Edges.{number, no-nan, no-nan-below, size-le}
+use Rattle.rounding.proofs.Edges.{no-nan, no-nan-below, size-le}
 use Rattle.rounding.proofs.NarrowLaw.{nan-narrowed}
 use borrow.Author.Needs.{needs}
 use native.Mathlib.Omega.{arith}
@@ -17,12 +18,12 @@ returns : tie.Need-returns
 returns c = nan-narrowed (c .before .args .x) (c .if1 .taken)
 
 float-to-bits-b : tie.Need-float-to-bits-b
-float-to-bits-b c = number (c .before .args .x) (c .if1 .left)
+float-to-bits-b c = number-value (c .before .args .x) (c .if1 .left)
 
 narrow-pattern-requires : tie.Need-narrow-pattern-requires
 narrow-pattern-requires c κs =
     let x = c .before .before .args .x in
-    let s = size-le binary64 x (search needs) (number x (c .before .if1 .left)) in
+    let s = size-le binary64 x (search needs) (number-value x (c .before .if1 .left)) in
     let e : toBits binary64 x % top binary64 ≡ toBits binary64 x = mod-eq-of-lt (omega arith) in
     omega arith
 
@@ -35,7 +36,7 @@ float-from-bits-result c = no-nan binary32 (c .narrow-pattern .result) (c .narro
 narrow-pattern-requires-2 : tie.Need-narrow-pattern-requires-2
 narrow-pattern-requires-2 c κs =
     let x = c .before .before .args .x in
-    let s = size-le binary64 x (search needs) (number x (c .before .if1 .left)) in
+    let s = size-le binary64 x (search needs) (number-value x (c .before .if1 .left)) in
     let l = toBits-lt binary64 x (search needs) in
     omega arith
 

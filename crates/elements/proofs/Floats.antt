@@ -1,0 +1,34 @@
+-- A float in bytes, over the format. Assumes nothing.
+use mathlib.Core.Path.{_≡_, refl, ap, _∙_}
+use mathlib.Core.Bool.{not}
+use mathlib.Core.List.{List}
+use Prim.Native.Nat.{ℕ, _+_, _*_, _^_, _<_, _≤_}
+use lib.Dec.{T}
+use lib.ListN.{length, take, drop}
+use lib.Ieee.{Float, Format, binary32, binary64, fits, isNan, top, ofBits, toBits}
+use lib.Ieee.Bits.{ofBits-toBits, ofBits-fits, toBits-ofBits, toBits-lt}
+use Rattle.elements.specs.Bytes.{AreBytes, numberAt, put, width, floatAt, floatBytes}
+use Rattle.elements.proofs.Numbers.{numberAt-lt, bytesOf-numberAt}
+use Rattle.elements.proofs.Put.{numberAt-put-bytesOf}
+
+-- its patterns are the numbers of its bytes
+patterns : (f : Format) → 2 * top f ≡ 256 ^ width f
+patterns binary32 = refl
+patterns binary64 = refl
+
+pub floatAt-fits : (f : Format) (s : List ℕ) (i : ℕ) → T (fits f (floatAt f s i))
+floatAt-fits f s i = ofBits-fits f (numberAt (width f) s i)
+
+-- a float that the format holds is read back where it was put
+pub floatAt-put : (f : Format) (x : Float) (l : List ℕ) (i : ℕ) → i + width f ≤ length l → T (fits f x)
+    → floatAt f (put l i (floatBytes f x)) i ≡ x
+floatAt-put f x l i room h =
+    let below = rw patterns at (toBits-lt f x h) in
+    ap (ofBits f) (numberAt-put-bytesOf (width f) (toBits f x) l i room below) ∙ ofBits-toBits f x h
+
+-- a float's bytes are those that it was read from, unless it is NaN
+pub floatBytes-floatAt : (f : Format) (s : List ℕ) (i : ℕ) → AreBytes s → i + width f ≤ length s → T (not (isNan (floatAt f s i)))
+    → floatBytes f (floatAt f s i) ≡ take (width f) (drop i s)
+floatBytes-floatAt f s i h room number =
+    let below : numberAt (width f) s i < 2 * top f = rw patterns (numberAt-lt (width f) s i h) in
+    rw (toBits-ofBits f (numberAt (width f) s i) below number) (bytesOf-numberAt (width f) s i h room)
