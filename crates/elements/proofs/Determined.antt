@@ -1,6 +1,7 @@
--- Any two outcomes that a contract allows are equal, in the answer or in the lent bytes: over each contract's own reading. Assumes nothing.
-use mathlib.Core.Path.{_≡_, _∙_, sym}
+-- Each public contract determines its outcome, the answer or the lent bytes: stated over the contract's own reading, so it changes with the contract.
+use mathlib.Core.Path.{_∙_, sym}
 use denote.Ref.{now}
+use Rattle.promises.specs.Determined.{Determined}
 use Rattle.elements.proofs.f32_of.Reads as f32-of
 use Rattle.elements.proofs.f64_of.Reads as f64-of
 use Rattle.elements.proofs.bits32.Reads as bits32
@@ -14,42 +15,38 @@ use Rattle.elements.proofs.put_u64.Reads as put-u64
 use Rattle.elements.proofs.put_f32.Reads as put-f32
 use Rattle.elements.proofs.put_f64.Reads as put-f64
 
--- what two outcomes show is the same; an outcome is an answer and the parameters at exit
-abbrev pub Determined : {R X Y : Type 0} → (R → X → Type 0) → (R → X → Y) → Type 0
-Determined {R} {X} post shown = (r r' : R) (x x' : X) → post r x → post r' x' → shown r x ≡ shown r' x'
-
 pub f32-of-determined : (κs : _) (a : _) → Determined (f32-of.Post κs a) (λ r x. r)
-f32-of-determined κs a r r' x x' p q = p ∙ sym q
+f32-of-determined κs a r r′ x x′ p q = p ∙ sym q
 
 pub f64-of-determined : (κs : _) (a : _) → Determined (f64-of.Post κs a) (λ r x. r)
-f64-of-determined κs a r r' x x' p q = p ∙ sym q
+f64-of-determined κs a r r′ x x′ p q = p ∙ sym q
 
 pub bits32-determined : (κs : _) (a : _) → Determined (bits32.Post κs a) (λ r x. r)
-bits32-determined κs a r r' x x' p q = p ∙ sym q
+bits32-determined κs a r r′ x x′ p q = p ∙ sym q
 
 pub bits64-determined : (κs : _) (a : _) → Determined (bits64.Post κs a) (λ r x. r)
-bits64-determined κs a r r' x x' p q = p ∙ sym q
+bits64-determined κs a r r′ x x′ p q = p ∙ sym q
 
 pub u32-at-determined : (κs : _) (a : _) → Determined (u32-at.Post κs a) (λ r x. r)
-u32-at-determined κs a r r' x x' p q = p ∙ sym q
+u32-at-determined κs a r r′ x x′ p q = p ∙ sym q
 
 pub u64-at-determined : (κs : _) (a : _) → Determined (u64-at.Post κs a) (λ r x. r)
-u64-at-determined κs a r r' x x' p q = p ∙ sym q
+u64-at-determined κs a r r′ x x′ p q = p ∙ sym q
 
 pub f32-at-determined : (κs : _) (a : _) → Determined (f32-at.Post κs a) (λ r x. r)
-f32-at-determined κs a r r' x x' p q = p ∙ sym q
+f32-at-determined κs a r r′ x x′ p q = p ∙ sym q
 
 pub f64-at-determined : (κs : _) (a : _) → Determined (f64-at.Post κs a) (λ r x. r)
-f64-at-determined κs a r r' x x' p q = p ∙ sym q
+f64-at-determined κs a r r′ x x′ p q = p ∙ sym q
 
 pub put-u32-determined : (κs : _) (a : _) → Determined (put-u32.Post κs a) (λ r x. now (x .0))
-put-u32-determined κs a r r' x x' p q = p ∙ sym q
+put-u32-determined κs a r r′ x x′ p q = p ∙ sym q
 
 pub put-u64-determined : (κs : _) (a : _) → Determined (put-u64.Post κs a) (λ r x. now (x .0))
-put-u64-determined κs a r r' x x' p q = p ∙ sym q
+put-u64-determined κs a r r′ x x′ p q = p ∙ sym q
 
 pub put-f32-determined : (κs : _) (a : _) → Determined (put-f32.Post κs a) (λ r x. now (x .0))
-put-f32-determined κs a r r' x x' p q = p ∙ sym q
+put-f32-determined κs a r r′ x x′ p q = p ∙ sym q
 
 pub put-f64-determined : (κs : _) (a : _) → Determined (put-f64.Post κs a) (λ r x. now (x .0))
-put-f64-determined κs a r r' x x' p q = p ∙ sym q
+put-f64-determined κs a r r′ x x′ p q = p ∙ sym q

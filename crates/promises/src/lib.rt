@@ -1,0 +1,1 @@
+// What a contract is to do, said once for all crates. There is no code here.
