@@ -10,7 +10,7 @@ IsNarrowed nan y = y ≡ nan
 IsNarrowed (inf s) y = y ≡ inf s
 IsNarrowed (fin s m e) y = Rounds binary32 s (m * up e) (down e) y
 
--- The one y that `IsNarrowed` allows (`proofs/Narrow.antt`), to compute with: `round` is what the language's own sums and products round by.
+-- The one y that `IsNarrowed` allows (`proofs/NarrowLaw.antt`), to compute with. `round` is what the language's own sums and products round by.
 unfoldable pub narrowed : Float → Float
 unfolding round
 narrowed nan = nan

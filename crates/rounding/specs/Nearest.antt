@@ -14,7 +14,7 @@ Sized f s nan Z = ⊥
 Sized f s (inf t) Z = (t ≡ s) × (Z ≡ 2 ^ (low f + suc (emax f)))
 Sized f s (fin t m e) Z = T (fits f (fin t m e)) × (t ≡ s) × (m * up e * 2 ^ low f ≡ Z * down e)
 
--- the last digit of y's pattern is 0
+-- y's pattern is an even number: its last digit is 0
 abbrev pub Even : Format → Float → Type 0
 Even f y = toBits f y % 2 ≡ 0
 
@@ -22,14 +22,15 @@ Even f y = toBits f y % 2 ≡ 0
 abbrev pub Before : ℕ → ℕ → Type 0 → Type 0
 Before a b E = (a < b) ⊎ ((a ≡ b) × E)
 
--- y is the value of f nearest to a number that is not negative, with the sign s. Of the number this is known: the whole number v is to it as the whole number `mid M` is to M / 2 smallest values.
--- So `mid (Y + Z)` against v says on which side of the point midway between Y and Z the number lies. For every other value Z it lies on Y's side, or midway, and then y is even.
+-- y, with the sign s, is the value of f nearest to a number. The number is given by comparisons of whole numbers: it is above, at or below M / 2 of f's smallest values
+-- as v is above, at or below `mid M`. So v against `mid (Y + Z)` says on which side of the point midway between Y and Z the number lies.
+-- For every other value Z it lies on Y's side; or midway, and then y is even.
 pub record Nearest (f : Format) (s : Bool) (v : ℕ) (mid : ℕ → ℕ) (y : Float) : Type 0 where
   pub Y : ℕ
   pub sized : Sized f s y Y
   pub over : (z : Float) (Z : ℕ) → Sized f s z Z → Z < Y → Before (mid (Y + Z)) v (Even f y)
   pub under : (z : Float) (Z : ℕ) → Sized f s z Z → Y < Z → Before v (mid (Y + Z)) (Even f y)
 
--- y is the value of f nearest to the fraction a / c: that is a * 2 ^ low / c smallest values, and M / 2 of them are compared with it by M * c against 2 * (a * 2 ^ low)
+-- y is the value of f nearest to the fraction a / c, which is a * 2 ^ low / c smallest values: M / 2 of them are compared with it by M * c against 2 * (a * 2 ^ low)
 abbrev pub Rounds : Format → Bool → ℕ → ℕ → Float → Type 0
 Rounds f s a c y = Nearest f s (2 * (a * 2 ^ low f)) (λ M. M * c) y

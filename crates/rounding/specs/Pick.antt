@@ -12,7 +12,8 @@ digitsOf h b = b % h + cond (eqb (b / h) 0) 0 h
 unfoldable pub count : Format → ℕ → ℕ
 count f b = digitsOf (hid f) b * 2 ^ (b / hid f - 1)
 
--- the side of a midpoint on which the upper neighbour is nearer, o being how the midpoint compares with the number; midway, where the upper one is even
+-- The upper of two neighbours, of pattern b, is nearer where the point midway is below the number; where it is at the number, if b is even.
+-- o is how the point compares with the number.
 abbrev pub upward : Ordering → ℕ → Bool
 upward Ordering·lt b = true
 upward Ordering·eq b = eqb (b % 2) 0
@@ -22,11 +23,12 @@ upward Ordering·gt b = false
 abbrev pub nearer : Format → ℕ → (ℕ → ℕ) → ℕ → Bool
 nearer f v mid b = leb b (ones f * hid f) && upward (compare (mid (count f b + count f (b - 1))) v) b
 
--- the last b of 0 .. 2 ^ d - 1, counted from a on, at which `up` holds, where it holds up to some place and not from there on
+-- the last place among a .. a + 2 ^ d - 1 at which `up` holds, if it holds up to some place and not from there on: by d halvings
 unfoldable pub last : (ℕ → Bool) → ℕ → ℕ → ℕ
 last up zero a = a
 last up (suc d) a = last up d (cond (up (a + 2 ^ d)) (a + 2 ^ d) a)
 
+-- the value of the last pattern that is nearer than the one before it
 unfoldable pub pick : Format → Bool → ℕ → (ℕ → ℕ) → Float
 unfolding count last ofBits
 pick f s v mid = ofBits f (cond s (top f) 0 + last (nearer f v mid) 64 0)

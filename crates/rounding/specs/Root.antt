@@ -7,7 +7,8 @@ use lib.Ieee.{Float, nan, inf, fin, Format, low, up, down}
 use Rattle.rounding.specs.Nearest.{Nearest}
 use Rattle.rounding.specs.Pick.{pick}
 
--- The root of m * 2 ^ e, which is m * up e * 2 ^ (low + low) / down e squares of the smallest value: M / 2 smallest values are compared with the root by their squares, M * M * down e against 4 * (m * up e * 2 ^ (low + low)).
+-- m * 2 ^ e is m * up e * 2 ^ (low + low) / down e squares of the smallest value.
+-- So M / 2 smallest values are compared with its root by squares: M * M * down e against four times m * up e * 2 ^ (low + low).
 abbrev pub radicand : Format → ℕ → ℤ → ℕ
 radicand f m e = 4 * (m * up e * 2 ^ (low f + low f))
 
@@ -19,7 +20,7 @@ IsRoot f (fin s zero e) y = y ≡ fin s zero e
 IsRoot f (fin true (suc m) e) y = y ≡ nan
 IsRoot f (fin false (suc m) e) y = Nearest f false (radicand f (suc m) e) (λ M. M * M * down e) y
 
--- the one y that `IsRoot` allows (`proofs/Root.antt`), to compute with
+-- the one y that `IsRoot` allows (`proofs/RootLaw.antt`), to compute with
 unfoldable pub root : Format → Float → Float
 unfolding pick
 root f nan = nan
