@@ -1,0 +1,40 @@
+-- Each public contract determines its outcome, the answer and the lent bytes: stated over the contract's own reading, so it changes with the contract.
+use mathlib.Core.Path.{_∙_, sym}
+use denote.Ref.{now}
+use Rattle.promises.specs.Determined.{Determined}
+use Rattle.lines.proofs.hex.digit.Reads as digit
+use Rattle.lines.proofs.hex.pattern.Reads as pattern
+use Rattle.lines.proofs.hex.put_hex.Reads as put-hex
+use Rattle.lines.proofs.text.field_end.Reads as field-end
+use Rattle.lines.proofs.text.put_head.Reads as put-head
+use Rattle.lines.proofs.stream.start.Reads as start
+use Rattle.lines.proofs.stream.next.Reads as next
+use Rattle.lines.proofs.stream.keep.Reads as keep
+use Rattle.lines.proofs.stream.take.Reads as take
+
+pub digit-determined : (κs : _) (a : _) → Determined (digit.Post κs a) (λ r x. r)
+digit-determined κs a r r′ x x′ p q = p ∙ sym q
+
+pub pattern-determined : (κs : _) (a : _) → Determined (pattern.Post κs a) (λ r x. r)
+pattern-determined κs a r r′ x x′ p q = p ∙ sym q
+
+pub put-hex-determined : (κs : _) (a : _) → Determined (put-hex.Post κs a) (λ r x. r) × Determined (put-hex.Post κs a) (λ r x. now (x .1 .1 .0))
+put-hex-determined κs a = (λ r r′ x x′ p q. p .0 ∙ sym (q .0), λ r r′ x x′ p q. p .1 ∙ sym (q .1))
+
+pub field-end-determined : (κs : _) (a : _) → Determined (field-end.Post κs a) (λ r x. r)
+field-end-determined κs a r r′ x x′ p q = p .0 ∙ sym (q .0)
+
+pub put-head-determined : (κs : _) (a : _) → Determined (put-head.Post κs a) (λ r x. r) × Determined (put-head.Post κs a) (λ r x. now (x .1 .0))
+put-head-determined κs a = (λ r r′ x x′ p q. p .0 ∙ sym (q .0), λ r r′ x x′ p q. p .1 .0 ∙ sym (q .1 .0))
+
+pub start-determined : (κs : _) (a : _) → Determined (start.Post κs a) (λ r x. r)
+start-determined κs a r r′ x x′ p q = p ∙ sym q
+
+pub next-determined : (κs : _) (a : _) → Determined (next.Post κs a) (λ r x. r)
+next-determined κs a r r′ x x′ p q = p ∙ sym q
+
+pub keep-determined : (κs : _) (a : _) → Determined (keep.Post κs a) (λ r x. r) × Determined (keep.Post κs a) (λ r x. now (x .1 .0))
+keep-determined κs a = (λ r r′ x x′ p q. p .0 ∙ sym (q .0), λ r r′ x x′ p q. p .1 ∙ sym (q .1))
+
+pub take-determined : (κs : _) (a : _) → Determined (take.Post κs a) (λ r x. r) × Determined (take.Post κs a) (λ r x. now (x .1 .1 .0))
+take-determined κs a = (λ r r′ x x′ p q. p .0 ∙ sym (q .0), λ r r′ x x′ p q. p .1 ∙ sym (q .1))

@@ -1,0 +1,10 @@
+pub mod Onto
+pub mod Same
+pub mod Digits
+pub mod Spelled
+pub mod Parting
+pub mod Pieces
+pub mod Whole
+pub mod Standing
+pub mod Serving
+pub mod Determined

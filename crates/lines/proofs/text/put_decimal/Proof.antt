@@ -1,0 +1,47 @@
+-- `text::put_decimal` meets its contract: the kit's digits, of which a `u64` has at most 20, copied to the front.
+use mathlib.Core.Path.{_∙_}
+use Prim.Native.Nat.{_≤_}
+use native.Mathlib.Omega.{arith}
+use borrow.Author.Needs.{needs}
+use lib.Dec.{lit<, lit≤}
+use Rattle.lines.proofs.Onto.{copied}
+use Rattle.lines.proofs.Spelled.{fewest-decimal, fewest-most}
+use Rattle.lines.proofs.text.put_decimal.Statement.{statement}
+use Rattle.lines.proofs.text.put_decimal.Tie as tie
+
+decimal-requires : tie.Need-decimal-requires
+decimal-requires c κs = search needs
+
+array-share-prefix-digits : tie.Need-array-share-prefix-digits
+array-share-prefix-digits c = search needs
+
+slice-aggregate-copy : tie.Need-slice-aggregate-copy
+slice-aggregate-copy c = search needs
+
+few : (c : tie.After-decimal) → c .decimal .result ≤ 20
+few c = fewest-most 10 1 (c .before .before .before .args .n) (c .decimal .result) 20 (lit< tt) (lit≤ tt) (omega arith) (c .decimal .ensures .1 .0)
+
+copy-requires : tie.Need-copy-requires
+copy-requires c κs = omega (arith, few (c .before .before))
+
+same-length : tie.Need-same-length
+same-length c = search needs
+
+returns : tie.Need-returns
+returns c =
+    let h = c .before .before .before .before .before in
+    let n = h .before .before .before .args .n in
+    let e = h .decimal .ensures .1 .1 ∙ fewest-decimal n (h .decimal .result) (h .decimal .ensures .1 .0) in
+    let p = copied _ _ _ _ _ e (c .before .before .copy .ensures .0) (c .before .before .copy .ensures .1) in
+    (p .0, (p .1, omega (arith, few h, c .before .before .copy .ensures .0)))
+
+pub put-decimal-spec : {M : Type 1} → statement M
+put-decimal-spec =
+    tie.close
+    (tie.spec
+    decimal-requires
+    array-share-prefix-digits
+    slice-aggregate-copy
+    copy-requires
+    same-length
+    returns)

@@ -1,0 +1,10 @@
+pub mod Text
+pub mod Onto
+pub mod Hex
+pub mod Decimal
+pub mod Parts
+pub mod Stream
+pub mod Printed
+pub mod Served
+pub mod Progress
+pub mod Output

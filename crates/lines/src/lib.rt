@@ -1,0 +1,6 @@
+// What the programs over lines share: the fields of a line, numbers in hexadecimal and decimal, a
+// stream parted into lines, and replies on their way out.
+pub mod hex;
+pub mod output;
+pub mod stream;
+pub mod text;

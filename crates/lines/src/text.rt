@@ -1,0 +1,41 @@
+// The fields of a line, and a number put into a reply.
+ghost use mathlib.Core.Path.{_≡_};
+ghost use Prim.Native.Nat.{_≤_};
+ghost use lib.ListN.{length};
+ghost use Rattle.bytes.specs.Bytes.{indexOf};
+ghost use Rattle.lines.specs.Text.{tab};
+ghost use Rattle.lines.specs.Onto.{onto};
+ghost use Rattle.lines.specs.Decimal.{decimalOf};
+ghost use Rattle.lines.specs.Printed.{headOf};
+
+// Where the first field of s ends: at its first tab, or with s.
+pub fn field_end(s: &[u8]) -> usize
+    ensures { λ r. ⌜ r ≡ indexOf tab (now (s .entry)) ⌝ }
+    ensures { λ r. ⌜ r ≤ length (now (s .entry)) ⌝ }
+{
+    bytes::scan::find(s, 0, s.len(), b'\t')
+}
+
+// Puts n in decimal at the start of out, and answers how many digits it has.
+fn put_decimal(n: u64, out: &mut [u8]) -> usize
+    requires { ⌜ 20 ≤ length (now out) ⌝ }
+    ensures { λ r. ⌜ r ≡ length (decimalOf n) ⌝ }
+    ensures { λ _. ⌜ now (out .exit) ≡ onto (decimalOf n) (now (out .entry)) ⌝ }
+    ensures { λ r. ⌜ r ≤ 20 ⌝ }
+{
+    let mut digits = [0u8; 20];
+    let k = io::decimal(n, &mut digits);
+    bytes::copy(&digits[..k], out)
+}
+
+// Puts what stands before the answer to line number n at the start of out: n and a tab.
+pub fn put_head(n: u64, out: &mut [u8]) -> usize
+    requires { ⌜ 21 ≤ length (now out) ⌝ }
+    ensures { λ r. ⌜ r ≡ length (headOf n) ⌝ }
+    ensures { λ _. ⌜ now (out .exit) ≡ onto (headOf n) (now (out .entry)) ⌝ }
+    ensures { λ r. ⌜ r ≤ 21 ⌝ }
+{
+    let digits = put_decimal(n, out);
+    out[digits] = b'\t';
+    digits + 1
+}

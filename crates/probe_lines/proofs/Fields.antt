@@ -1,0 +1,101 @@
+-- Laws of a line's answer by its fields: what a row asks of the widths, and a last field that a tab in it makes X. Assumes nothing.
+use mathlib.Core.Path.{_≡_, refl, sym, ap, _∙_}
+use mathlib.Core.Bool.{Bool, true, false, cond}
+use mathlib.Core.List.{List, [], _∷_}
+use Prim.Native.Nat.{ℕ, _+_, _-_, _<_, _≤_}
+use native.Mathlib.Omega.{arith}
+use native.Mathlib.Decide.{decLt}
+use lib.Dec.{lit≤}
+use lib.ListN.{length, take, drop}
+use Rattle.bytes.specs.Bytes.{indexOf}
+use Rattle.lines.specs.Text.{tab}
+use Rattle.lines.specs.Onto.{onto}
+use Rattle.lines.specs.Hex.{digitOf}
+use Rattle.lines.specs.Parts.{partsOf, fieldsOf}
+use Rattle.lines.proofs.Digits.{pattern-none}
+use Rattle.lines.proofs.Onto.{tail-lent}
+use Rattle.lines.proofs.Parting.{index-le, parts-at, parts-last, parts-some}
+use Rattle.probe_lines.specs.Line.{rowOf, other, computedOf, one, two, ofWidth, verbOf, answerTo, answerBy, answerOf}
+use Rattle.probe_lines.specs.declared.Verb.{Verb}
+use Rattle.probe_lines.specs.declared.Verb.the-variants.{Root, Float, Other}
+use Rattle.probe_lines.specs.declared.float.Work.{Work}
+use Rattle.probe_lines.specs.declared.float.Work.the-variants.{Root32, Root64, Narrow, Widen, Trunc}
+
+-- the widths are those that hexadecimal reads and writes
+pub record Wide (w : Work) : Type 0 where
+  pub takes : rowOf w .takes ≤ 16
+  pub some : 1 ≤ rowOf w .gives
+  pub gives : rowOf w .gives ≤ 16
+
+pub wide : (w : Work) → Wide w
+wide Root32 = record { takes = lit≤ tt; some = lit≤ tt; gives = lit≤ tt }
+wide Root64 = record { takes = lit≤ tt; some = lit≤ tt; gives = lit≤ tt }
+wide Narrow = record { takes = lit≤ tt; some = lit≤ tt; gives = lit≤ tt }
+wide Widen = record { takes = lit≤ tt; some = lit≤ tt; gives = lit≤ tt }
+wide Trunc = record { takes = lit≤ tt; some = lit≤ tt; gives = lit≤ tt }
+
+one-more : (g : List ℕ → List ℕ) (f : List ℕ) (fs : List (List ℕ)) → 0 < length fs → one g (f ∷ fs) ≡ other
+unfolding one
+one-more g f [] h = absurd (omega arith)
+one-more g f (f′ ∷ fs) h = refl
+
+-- a text as one field, where a tab in it would make X of it anyway
+one-field : (g : List ℕ → List ℕ) (s : List ℕ) → (indexOf tab s < length s → g s ≡ other) → one g (fieldsOf s) ≡ g s
+unfolding one
+one-field g s x = elim (decLt (indexOf tab s) (length s)) [ yes less ↦ several less | no all ↦ single (omega (arith, all, index-le tab s)) ]
+  where
+    several : indexOf tab s < length s → one g (fieldsOf s) ≡ g s
+    several less =
+        let rest = drop (indexOf tab s + 1) s in
+        rw (parts-at tab s (indexOf tab s) refl less) (one-more g (take (indexOf tab s) s) (partsOf tab rest) (parts-some tab rest) ∙ sym (x less))
+
+    single : indexOf tab s ≡ length s → one g (fieldsOf s) ≡ g s
+    single all = rw (parts-last tab s all)
+
+-- F is the last field
+tab-other : (w : Work) (s : List ℕ) → indexOf tab s < length s → computedOf w s ≡ other
+unfolding computedOf digitOf
+tab-other w s less = rw (pattern-none (rowOf w .takes) tab s (lit≤ tt) less)
+
+pub last-computed : (w : Work) (s : List ℕ) → one (computedOf w) (fieldsOf s) ≡ computedOf w s
+last-computed w s = one-field (computedOf w) s (tab-other w s)
+
+-- whichever way
+either : (t : Bool) → cond t other other ≡ other
+either true = refl
+either false = refl
+
+last-width : (width s : List ℕ) → one (ofWidth width) (fieldsOf s) ≡ ofWidth width s
+unfolding ofWidth
+last-width width s = one-field (ofWidth width) s (λ less. rw (tab-other Root32 s less, tab-other Root64 s less, either, either))
+
+-- root|W|F after its first tab: the width alone, and both fields
+pub root-short : (s : List ℕ) → indexOf tab s ≡ length s → two ofWidth (fieldsOf s) ≡ other
+unfolding two one
+root-short s all = rw (parts-last tab s all)
+
+pub root-fields : (s : List ℕ) (end : ℕ) → end ≡ indexOf tab s → end < length s
+    → ofWidth (take end s) (take (length s - (end + 1)) (drop (end + 1) s)) ≡ two ofWidth (fieldsOf s)
+unfolding two
+root-fields s end e less =
+    let first : partsOf tab s ≡ take end s ∷ partsOf tab (drop (end + 1) s) = parts-at tab s end e less in
+    rw (tail-lent, first) (sym (last-width (take end s) (drop (end + 1) s)))
+
+-- a line that is its first field alone, and one that has more
+pub answer-short : (line : List ℕ) → indexOf tab line ≡ length line → answerOf line ≡ other
+unfolding answerOf answerBy answerTo two one
+answer-short line all = rw (parts-last tab line all) (go (verbOf line))
+  where
+    go : (v : Verb) → answerTo v [] ≡ other
+    go Root = refl
+    go (Float w) = refl
+    go Other = refl
+
+pub answer-fields : (line : List ℕ) (end : ℕ) → end ≡ indexOf tab line → end < length line
+    → answerTo (verbOf (take end line)) (fieldsOf (take (length line - (end + 1)) (drop (end + 1) line))) ≡ answerOf line
+unfolding answerOf answerBy
+answer-fields line end e less = rw (tail-lent, parts-at tab line end e less)
+
+-- what was written is x, and x is the answer
+pub answered : (x y l o : List ℕ) (r : ℕ) → x ≡ y → (r ≡ length x) × (o ≡ onto x l) → (r ≡ length y) × (o ≡ onto y l)
+answered x y l o r e p = (p .0 ∙ ap length e, p .1 ∙ ap (λ (w : List ℕ). onto w l) e)

@@ -1,0 +1,67 @@
+-- `replies::serve` meets its contract: the two ways out are the laws `served-ended` and `served-open`. Assumes nothing.
+use mathlib.Core.Path.{_≡_}
+use Prim.Native.Nat.{_≤_}
+use native.Mathlib.Omega.{arith}
+use lib.ListN.{length, drop}
+use Rattle.lines.proofs.Pieces.{taken-held}
+use Rattle.lines.proofs.Serving.{served-ended, served-open}
+use Rattle.probe_lines.specs.Line.{answerOf}
+use borrow.Author.Needs.{needs}
+use Rattle.probe_lines.proofs.replies.serve.Statement.{statement}
+use Rattle.probe_lines.proofs.replies.serve.Tie as tie
+
+take-requires : tie.Need-take-requires
+take-requires c κs = search needs
+
+-- what was taken keeps to the room and to the number of the line
+taken : (c : tie.After-take) → let a = c .before .before .before .before .before .args in let h = c .take .result .held in
+    (h .count ≤ length (a .kept .now)) × (h .before ≡ a .held .before)
+taken c = taken-held _ _ _ _ _ (c .take .ensures .0)
+
+reply-requires : tie.Need-reply-requires
+reply-requires c κs =
+    let t = taken (c .before .before .before .before .before .before) in
+    (omega (arith, t .0, c .before .before .before .before .before .before .take .kept .1 .1 .0), (omega (arith, t .1), omega arith))
+
+next-requires : tie.Need-next-requires
+next-requires c κs = omega (arith, taken (c .before .before .before .before .before .before .before .before .before) .1)
+
+same-length : tie.Need-same-length
+same-length c = search needs
+
+same-length-2 : tie.Need-same-length-2
+same-length-2 c = search needs
+
+returns : tie.Need-returns
+returns c =
+    let r = c .before .before .before .reply in
+    let test = c .before .before .before .before .before .before .if1 .taken in
+    let t = c .before .before .before .before .before .before .before .before .before .before .take in
+    let a = c .before .before .before .before .before .before .before .before .before .before .before .before .before .before .before .args in
+    let rest = drop (a .at) (a .chunk .now) in
+    let s = served-ended answerOf (a .kept .now) rest (a .at) (a .held) (t .result) (t .ensures .0)
+    (t .last .1 .1 .0) (r .last .1 .1 .0) (a .out .now) (r .result) (c .next .result) test (t .ensures .1) (c .next .ensures) (r .ensures) in
+    (s .0, (t .ensures .1, s .1))
+
+same-length-3 : tie.Need-same-length-3
+same-length-3 c = search needs
+
+returns-2 : tie.Need-returns-2
+returns-2 c =
+    let t = c .before .before .before .before .take in
+    let a = c .before .before .before .before .before .before .before .before .before .args in
+    let s = served-open answerOf (a .kept .now) (drop (a .at) (a .chunk .now)) (a .at) (a .held) (t .result) (t .ensures .0) (a .out .now) (c .if1 .left) in
+    (s .0, (t .ensures .1, s .1))
+
+pub serve-spec : {M : Type 1} → statement M
+serve-spec =
+    tie.close
+    (tie.spec
+    take-requires
+    reply-requires
+    next-requires
+    same-length
+    same-length-2
+    returns
+    same-length-3
+    returns-2)

@@ -1,0 +1,4 @@
+pub mod Limits
+pub mod Line
+pub mod Printed
+pub mod Examples

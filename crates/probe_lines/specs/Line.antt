@@ -1,0 +1,94 @@
+-- What vecprobe answers to a line. With | for a tab, the lines are
+--     root|W|F    narrow|F    widen|F    trunc|F
+-- where W is 32 or 64 and F is a float's pattern in lower-case hexadecimal, the highest digit first; the answer is F|, and the
+-- pattern of the result, or for trunc a number of two digits. The answer to any other line is X.
+use Prim.Native.Nat.{ℕ}
+use mathlib.Core.Bool.{cond}
+use mathlib.Core.List.{List, [], _∷_, _++_}
+use lib.Ieee.{binary32, binary64, ofBits, toBits}
+use Rattle.io.specs.Digits.{digits}
+use Rattle.rounding.specs.Root.{root}
+use Rattle.rounding.specs.Narrow.{narrowed}
+use Rattle.rounding.specs.Truncate.{truncated}
+use Rattle.lines.specs.Text.{word, same}
+use Rattle.lines.specs.Hex.{patternOf}
+use Rattle.lines.specs.Parts.{fieldsOf}
+use Rattle.lines.specs.declared.hex.Found.{Found}
+use Rattle.lines.specs.declared.hex.Found.the-variants.{Number, Nothing}
+use Rattle.probe_lines.specs.declared.Verb.{Verb}
+use Rattle.probe_lines.specs.declared.Verb.the-variants.{Root, Float, Other}
+use Rattle.probe_lines.specs.declared.float.Work.{Work}
+use Rattle.probe_lines.specs.declared.float.Work.the-variants.{Root32, Root64, Narrow, Widen, Trunc}
+
+-- how many digits F has, how many the result has, and the result
+pub record Row : Type 0 where
+  pub takes : ℕ
+  pub gives : ℕ
+  pub result : ℕ → ℕ
+
+abbrev pub row : ℕ → ℕ → (ℕ → ℕ) → Row
+row t g r = record { takes = t; gives = g; result = r }
+
+abbrev pub rowOf : Work → Row
+rowOf Root32 = row 8 8 (λ n. toBits binary32 (root binary32 (ofBits binary32 n)))
+rowOf Root64 = row 16 16 (λ n. toBits binary64 (root binary64 (ofBits binary64 n)))
+rowOf Narrow = row 16 8 (λ n. toBits binary32 (narrowed (ofBits binary64 n)))
+rowOf Widen = row 8 16 (λ n. toBits binary64 (ofBits binary32 n))
+rowOf Trunc = row 8 2 (λ n. truncated (ofBits binary32 n))
+
+abbrev pub other : List ℕ
+other = word "X"
+
+abbrev pub floatOf : ℕ → ℕ → List ℕ
+floatOf width n = word "F\t" ++ digits 16 width n
+
+-- the answer of a row to what was found for F
+abbrev pub byFound : Row → Found → List ℕ
+byFound r (Number n) = floatOf (r .gives) (r .result n)
+byFound r Nothing = other
+
+unfoldable pub computedOf : Work → List ℕ → List ℕ
+computedOf work field = byFound (rowOf work) (patternOf (rowOf work .takes) field)
+
+-- exactly one field, exactly two
+unfoldable pub one : (List ℕ → List ℕ) → List (List ℕ) → List ℕ
+one answer [] = other
+one answer (f ∷ []) = answer f
+one answer (f ∷ (g ∷ fs)) = other
+
+unfoldable pub two : (List ℕ → List ℕ → List ℕ) → List (List ℕ) → List ℕ
+unfolding one
+two answer [] = other
+two answer (f ∷ fs) = one (answer f) fs
+
+unfoldable pub ofWidth : List ℕ → List ℕ → List ℕ
+unfolding computedOf
+ofWidth width field =
+    cond (same width (word "32")) (computedOf Root32 field)
+    (cond (same width (word "64")) (computedOf Root64 field)
+    other)
+
+-- what a line asks for, by its first field
+unfoldable pub verbOf : List ℕ → Verb
+verbOf first =
+    cond (same first (word "root")) Root
+    (cond (same first (word "narrow")) (Float Narrow)
+    (cond (same first (word "widen")) (Float Widen)
+    (cond (same first (word "trunc")) (Float Trunc)
+    Other)))
+
+-- the answer to the other fields
+unfoldable pub answerTo : Verb → List (List ℕ) → List ℕ
+unfolding computedOf one two ofWidth
+answerTo Root fields = two ofWidth fields
+answerTo (Float work) fields = one (computedOf work) fields
+answerTo Other fields = other
+
+unfoldable pub answerBy : List (List ℕ) → List ℕ
+unfolding verbOf answerTo
+answerBy [] = other
+answerBy (first ∷ fields) = answerTo (verbOf first) fields
+
+unfoldable pub answerOf : List ℕ → List ℕ
+unfolding answerBy
+answerOf line = answerBy (fieldsOf line)

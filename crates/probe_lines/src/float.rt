@@ -1,0 +1,111 @@
+// The lines about one float: root, narrow, widen, trunc.
+ghost use mathlib.Core.Path.{_≡_};
+ghost use Prim.Native.Nat.{_≤_, _<_, _^_};
+ghost use lib.ListN.{length};
+ghost use Rattle.lines.specs.Onto.{onto};
+ghost use Rattle.probe_lines.specs.Line.{rowOf, floatOf, computedOf, other};
+use lines::hex::Found;
+
+// What is asked of a float's pattern.
+pub enum Work {
+    Root32,
+    Root64,
+    Narrow,
+    Widen,
+    Trunc,
+}
+
+// How many digits the pattern has.
+fn takes(work: Work) -> usize
+    ensures { λ r. ⌜ r ≡ rowOf work .takes ⌝ }
+{
+    match work {
+        Work::Root32 => 8,
+        Work::Root64 => 16,
+        Work::Narrow => 16,
+        Work::Widen => 8,
+        Work::Trunc => 8,
+    }
+}
+
+// How many digits the result has.
+fn gives(work: Work) -> usize
+    ensures { λ r. ⌜ r ≡ rowOf work .gives ⌝ }
+{
+    match work {
+        Work::Root32 => 8,
+        Work::Root64 => 16,
+        Work::Narrow => 8,
+        Work::Widen => 16,
+        Work::Trunc => 2,
+    }
+}
+
+// The result for the pattern n.
+fn result(work: Work, n: u64) -> u64
+    requires { ⌜ n < 16 ^ (rowOf work .takes) ⌝ }
+    ensures { λ r. ⌜ r ≡ rowOf work .result n ⌝ }
+    ensures { λ r. ⌜ r < 16 ^ (rowOf work .gives) ⌝ }
+{
+    match work {
+        Work::Root32 => {
+            let x = elements::f32_of(n as u32);
+            elements::bits32(rounding::root32(x)) as u64
+        }
+        Work::Root64 => {
+            let x = elements::f64_of(n);
+            elements::bits64(rounding::root64(x))
+        }
+        Work::Narrow => {
+            let x = elements::f64_of(n);
+            elements::bits32(rounding::narrow(x)) as u64
+        }
+        Work::Widen => {
+            let x = elements::f32_of(n as u32);
+            elements::bits64(rounding::widen(x))
+        }
+        Work::Trunc => {
+            let x = elements::f32_of(n as u32);
+            rounding::truncate(x) as u64
+        }
+    }
+}
+
+// Puts X at the start of out, and answers its length.
+pub fn put_other(out: &mut [u8]) -> usize
+    requires { ⌜ 1 ≤ length (now out) ⌝ }
+    ensures { λ r. ⌜ r ≡ length other ⌝ }
+    ensures { λ _. ⌜ now (out .exit) ≡ onto other (now (out .entry)) ⌝ }
+{
+    bytes::copy(b"X", out)
+}
+
+// Puts F, a tab and n in `width` digits at the start of out, and answers their length.
+fn put_float(width: usize, n: u64, out: &mut [u8]) -> usize
+    requires { ⌜ 1 ≤ width ⌝ }
+    requires { ⌜ width ≤ 16 ⌝ }
+    requires { ⌜ n < 16 ^ width ⌝ }
+    requires { ⌜ 18 ≤ length (now out) ⌝ }
+    ensures { λ r. ⌜ r ≡ length (floatOf width n) ⌝ }
+    ensures { λ _. ⌜ now (out .exit) ≡ onto (floatOf width n) (now (out .entry)) ⌝ }
+{
+    let head = bytes::copy(b"F\t", out);
+    let digits = lines::hex::put_hex(width, n, &mut out[head..]);
+    head + digits
+}
+
+// The answer to a line that asks this work of the pattern in its last field.
+pub fn computed(work: Work, field: &[u8], out: &mut [u8]) -> usize
+    requires { ⌜ 18 ≤ length (now out) ⌝ }
+    ensures { λ r. ⌜ r ≡ length (computedOf work (now (field .entry))) ⌝ }
+    ensures { λ _. ⌜ now (out .exit) ≡ onto (computedOf work (now (field .entry))) (now (out .entry)) ⌝ }
+{
+    let found = lines::hex::pattern(takes(work), field);
+    match found {
+        Found::Number(n) => {
+            let value = result(work, n);
+            put_float(gives(work), value, out)
+        }
+        Found::Nothing => put_other(out),
+    }
+}

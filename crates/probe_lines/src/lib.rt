@@ -1,0 +1,87 @@
+// What vecprobe answers to a line, by its first field.
+mod float;
+mod replies;
+
+pub use replies::finish;
+pub use replies::serve;
+ghost use mathlib.Core.Path.{_≡_};
+ghost use Prim.Native.Nat.{_≤_};
+ghost use lib.ListN.{length};
+ghost use Rattle.lines.specs.Onto.{onto};
+ghost use Rattle.lines.specs.Parts.{fieldsOf};
+ghost use Rattle.probe_lines.specs.Limits.{limit};
+ghost use Rattle.probe_lines.specs.Line.{answerOf, verbOf, two, ofWidth};
+use float::Work;
+use float::computed;
+use float::put_other;
+
+// What a line asks for, by its first field.
+pub enum Verb {
+    Root,
+    Float(Work),
+    Other,
+}
+
+fn verb_of(word: &[u8]) -> Verb
+    ensures { λ r. ⌜ r ≡ verbOf (now (word .entry)) ⌝ }
+{
+    if check::same(word, b"root") {
+        return Verb::Root;
+    }
+    if check::same(word, b"narrow") {
+        return Verb::Float(Work::Narrow);
+    }
+    if check::same(word, b"widen") {
+        return Verb::Float(Work::Widen);
+    }
+    if check::same(word, b"trunc") {
+        return Verb::Float(Work::Trunc);
+    }
+    Verb::Other
+}
+
+// The answer to root|W|F, of which this is W|F.
+fn root(rest: &[u8], out: &mut [u8]) -> usize
+    requires { ⌜ 18 ≤ length (now out) ⌝ }
+    ensures { λ r. ⌜ r ≡ length (two ofWidth (fieldsOf (now (rest .entry)))) ⌝ }
+    ensures { λ _. ⌜ now (out .exit) ≡ onto (two ofWidth (fieldsOf (now (rest .entry)))) (now (out .entry)) ⌝ }
+{
+    let end = lines::text::field_end(rest);
+    if end == rest.len() {
+        return put_other(out);
+    }
+    let width = &rest[..end];
+    let field = &rest[end + 1..];
+    if check::same(width, b"32") {
+        return computed(Work::Root32, field, out);
+    }
+    if check::same(width, b"64") {
+        return computed(Work::Root64, field, out);
+    }
+    put_other(out)
+}
+
+// As many bytes as a line may have before its newline; no answer has more.
+pub const LIMIT: usize = 1100000;
+
+// The longest reply: twenty digits, a tab, the answer and a newline.
+pub const LONGEST: usize = LIMIT + 22;
+
+// Puts the answer to a line at the start of out, and answers its length.
+pub fn answer(line: &[u8], out: &mut [u8]) -> usize
+    requires { ⌜ limit ≤ length (now out) ⌝ }
+    ensures { λ r. ⌜ r ≡ length (answerOf (now (line .entry))) ⌝ }
+    ensures { λ _. ⌜ now (out .exit) ≡ onto (answerOf (now (line .entry))) (now (out .entry)) ⌝ }
+{
+    let end = lines::text::field_end(line);
+    if end == line.len() {
+        return put_other(out);
+    }
+    let verb = verb_of(&line[..end]);
+    let rest = &line[end + 1..];
+    match verb {
+        Verb::Root => root(rest, out),
+        Verb::Float(work) => computed(work, rest, out),
+        Verb::Other => put_other(out),
+    }
+}

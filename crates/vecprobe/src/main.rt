@@ -1,0 +1,135 @@
+// Replies to the lines of standard input, for service staff and for differential runs.
+ghost use mathlib.Core.Path.{_≡_};
+ghost use Prim.Native.Nat.{_+_, _≤_, _<_, _^_};
+ghost use lib.ListN.{length};
+ghost use Rattle.lines.specs.Output.{Stepped};
+ghost use Rattle.probe_lines.specs.Limits.{limit, longest};
+use lines::output::Done;
+use lines::output::Room;
+use lines::output::Step;
+use lines::output::make_room;
+use lines::stream::Held;
+use probe_lines::LIMIT;
+use probe_lines::LONGEST;
+
+// As many bytes of a line as are kept: a line of more is answered X.
+fn line_room() -> [u8; LIMIT]
+    ensures { λ r. ⌜ limit ≡ length r ⌝ }
+{
+    [0; LIMIT]
+}
+
+// Replies that are not written yet, with room for the longest.
+fn reply_room() -> [u8; 1200000]
+    ensures { λ r. ⌜ 1200000 ≡ length r ⌝ }
+{
+    [0; 1200000]
+}
+
+fn cannot_read() {
+    io::write_all(
+        libc::STDERR_FILENO,
+        b"vecprobe: standard input cannot be read\n",
+    );
+}
+
+fn cannot_write() {
+    io::write_all(
+        libc::STDERR_FILENO,
+        b"vecprobe: standard output cannot be written\n",
+    );
+}
+
+// Serves the next bytes of a chunk; the reply goes to out from `start` on.
+fn serve_from(
+    chunk: &[u8],
+    at: usize,
+    kept: &mut [u8],
+    held: Held,
+    out: &mut [u8],
+    start: usize,
+) -> Step
+    requires { ⌜ at < length (now chunk) ⌝ }
+    requires { ⌜ held .count ≤ length (now kept) ⌝ }
+    requires { ⌜ held .before + 1 < 2 ^ 64 ⌝ }
+    requires { ⌜ start + longest ≤ length (now out) ⌝ }
+    ensures { λ r. ⌜ Stepped (length (now (chunk .entry))) at (length (now (kept .entry))) held (length (now (out .entry))) r ⌝ }
+{
+    let served = probe_lines::serve(chunk, at, kept, held, &mut out[start..]);
+    let line = served.held;
+    let next = served.at;
+    let filled = start + served.said;
+    Step {
+        held: line,
+        at: next,
+        filled,
+    }
+}
+
+// Serves the lines of a chunk, and writes the replies.
+fn serve_chunk(chunk: &[u8], kept: &mut [u8], held: Held, out: &mut [u8]) -> Done
+    requires { ⌜ held .count ≤ length (now kept) ⌝ }
+    requires { ⌜ held .before + length (now chunk) < 2 ^ 64 ⌝ }
+    requires { ⌜ longest ≤ length (now out) ⌝ }
+    ensures { λ r. ⌜ r .held .count ≤ length (now (kept .entry)) ⌝ }
+    ensures { λ r. ⌜ r .held .before ≤ held .before + length (now (chunk .entry)) ⌝ }
+{
+    let mut line = held;
+    let mut at = 0;
+    let mut filled = 0;
+    while at < chunk.len() {
+        let room = make_room(LONGEST, out, filled);
+        let Room::Filled(start) = room else {
+            return Done {
+                held: line,
+                fine: false,
+            };
+        };
+        let step = serve_from(chunk, at, kept, line, out, start);
+        line = step.held;
+        at = step.at;
+        filled = step.filled;
+    }
+    let fine = io::write_all(libc::STDOUT_FILENO, &out[..filled]);
+    Done { held: line, fine }
+}
+
+// Replies to a last line that no newline ends, at the end of the input.
+fn serve_end(kept: &[u8], held: Held, out: &mut [u8]) -> bool
+    requires { ⌜ held .count ≤ length (now kept) ⌝ }
+    requires { ⌜ held .before + 1 < 2 ^ 64 ⌝ }
+    requires { ⌜ longest ≤ length (now out) ⌝ }
+{
+    let said = probe_lines::finish(kept, held, out);
+    io::write_all(libc::STDOUT_FILENO, &out[..said])
+}
+
+fn main() {
+    let mut kept = line_room();
+    let mut out = reply_room();
+    let mut chunk = io::large_buffer();
+    let mut held = lines::stream::start();
+    // as many bytes of input as the numbers of lines can count
+    let mut left: u64 = 0x8000_0000_0000_0000;
+    while 65536 <= left {
+        let got = libc::read(libc::STDIN_FILENO, &mut chunk);
+        if got < 0 {
+            cannot_read();
+            return;
+        }
+        let n = io::count(got, &chunk);
+        if n == 0 {
+            break;
+        }
+        left -= n as u64;
+        let done = serve_chunk(&chunk[..n], &mut kept, held, &mut out);
+        if !done.fine {
+            cannot_write();
+            return;
+        }
+        held = done.held;
+    }
+    if !serve_end(&kept, held, &mut out) {
+        cannot_write();
+    }
+}
