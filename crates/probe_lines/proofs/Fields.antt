@@ -1,4 +1,4 @@
--- Laws of a line's answer by its fields: what a row asks of the widths, and a last field that a tab in it makes X. Assumes nothing.
+-- Laws of a line's answer by its fields: what a row asks of the widths, and a last field that a tab in it makes X.
 use mathlib.Core.Path.{_≡_, refl, sym, ap, _∙_}
 use mathlib.Core.Bool.{Bool, true, false, cond}
 use mathlib.Core.List.{List, [], _∷_}

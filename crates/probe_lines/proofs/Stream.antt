@@ -1,4 +1,4 @@
--- What vecprobe says of an input, however it comes in chunks, is `printed`. Assumes nothing.
+-- What vecprobe says of an input, however it comes in chunks, is `printed`.
 use mathlib.Core.Path.{_≡_}
 use mathlib.Core.List.{List, _++_}
 use Prim.Native.Nat.{ℕ}

@@ -2,9 +2,10 @@
 use mathlib.Core.Path.{_≡_, refl}
 use mathlib.Core.List.{List, [], _∷_}
 use Prim.Native.String.{String}
-use lib.Ieee.{toBits, ofBits, toUnsigned}
+use lib.Ieee.{toBits, ofBits}
 use Rattle.rounding.specs.Root.{root}
 use Rattle.rounding.specs.Narrow.{narrowed}
+use Rattle.rounding.specs.Truncate.{truncated}
 use Rattle.lines.specs.Text.{word, same}
 use Rattle.lines.specs.Hex.{digitOf, hexFrom, patternOf}
 use Rattle.lines.specs.Decimal.{decimalOf, decimalIn}
@@ -46,5 +47,5 @@ Printed input output = printed (word input) ≡ word output
 
 pub examples-hold : Holds table × Printed "trunc\t40400000\n\ntrunc\t40400000" "1\tF\t03\n2\tX\n3\tF\t03\n"
 unfolding repliesFrom replyOf decimalOf decimalIn lastUnlessEmpty partsOf same patternOf hexFrom digitOf
-    answerOf answerBy answerTo verbOf one two ofWidth computedOf root narrowed toBits ofBits toUnsigned
+    answerOf answerBy answerTo verbOf one two ofWidth computedOf root narrowed truncated toBits ofBits
 examples-hold = ((refl, (refl, (refl, (refl, (refl, (refl, (refl, (refl, (refl, (refl, (refl, (refl, (refl, tt))))))))))))), refl)

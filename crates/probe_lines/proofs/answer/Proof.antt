@@ -1,4 +1,4 @@
--- `answer` meets its contract: what the first field asks for is answered for the rest of the line. Assumes nothing.
+-- `answer` meets its contract: what the first field asks for is answered for the rest of the line.
 use mathlib.Core.Path.{_≡_, sym, ap, _∙_}
 use mathlib.Core.List.{List}
 use Prim.Native.Nat.{ℕ, _+_, _-_}

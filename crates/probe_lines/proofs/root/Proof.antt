@@ -1,4 +1,4 @@
--- `root` meets its contract: the tests of W pick the case of `ofWidth`. Assumes nothing.
+-- `root` meets its contract: the tests of W pick the case of `ofWidth`.
 use mathlib.Core.Path.{_≡_, sym, _∙_}
 use mathlib.Core.Bool.{false}
 use mathlib.Core.List.{List}

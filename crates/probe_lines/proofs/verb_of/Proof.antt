@@ -1,4 +1,4 @@
--- `verb_of` meets its contract: each test that passes is a case of `verbOf`, after those that failed. Assumes nothing.
+-- `verb_of` meets its contract: each test that passes is a case of `verbOf`, after those that failed.
 use mathlib.Core.Path.{_≡_, _∙_}
 use mathlib.Core.Bool.{false}
 use mathlib.Core.List.{List}

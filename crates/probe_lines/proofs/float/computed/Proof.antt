@@ -1,4 +1,4 @@
--- `float::computed` meets its contract: the row's answer to the number that was found, or X. Assumes nothing.
+-- `float::computed` meets its contract: the row's answer to the number that was found, or X.
 use mathlib.Core.Path.{_≡_, sym, ap, ap₂, _∙_}
 use Prim.Native.Nat.{ℕ}
 use native.Mathlib.Omega.{arith}

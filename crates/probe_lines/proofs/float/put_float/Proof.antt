@@ -1,4 +1,4 @@
--- `float::put_float` meets its contract: the digits are written after F and a tab. Assumes nothing.
+-- `float::put_float` meets its contract: the digits are written after F and a tab.
 use mathlib.Core.Path.{_≡_, sym}
 use native.Mathlib.Omega.{arith}
 use lib.ListN.{length}

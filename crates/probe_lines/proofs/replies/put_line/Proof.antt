@@ -1,4 +1,4 @@
--- `replies::put_line` meets its contract: the newline stands after the answer, for which all but the last byte of out was lent. Assumes nothing.
+-- `replies::put_line` meets its contract: the newline stands after the answer, for which all but the last byte of out was lent.
 use mathlib.Core.Path.{sym}
 use Prim.Native.Nat.{_-_}
 use native.Mathlib.Omega.{arith}

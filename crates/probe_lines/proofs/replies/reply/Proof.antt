@@ -1,4 +1,4 @@
--- `replies::reply` meets its contract: the line is written after its number and a tab. Assumes nothing.
+-- `replies::reply` meets its contract: the line is written after its number and a tab.
 use mathlib.Core.Path.{sym}
 use mathlib.Core.List.{List, [], _∷_, _++_}
 use Prim.Native.Nat.{ℕ, _+_}

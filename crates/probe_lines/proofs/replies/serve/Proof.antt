@@ -1,4 +1,4 @@
--- `replies::serve` meets its contract: the two ways out are the laws `served-ended` and `served-open`. Assumes nothing.
+-- `replies::serve` meets its contract: the two ways out are the laws `served-ended` and `served-open`.
 use mathlib.Core.Path.{_≡_}
 use Prim.Native.Nat.{_≤_}
 use native.Mathlib.Omega.{arith}
