@@ -1,4 +1,4 @@
--- A float in bytes, over the format. Assumes nothing.
+-- A float in bytes, over the format.
 use mathlib.Core.Path.{_≡_, refl, ap, _∙_}
 use mathlib.Core.Bool.{not}
 use mathlib.Core.List.{List}

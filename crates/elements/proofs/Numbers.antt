@@ -1,4 +1,4 @@
--- The number that bytes compose and the bytes that a number has, over how many there are. Assumes nothing.
+-- The number that bytes compose and the bytes that a number has, over how many there are.
 use mathlib.Core.Path.{_≡_, refl, sym, ap, _∙_}
 use mathlib.Core.List.{List, _∷_, _++_}
 use Prim.Native.Nat.{ℕ, zero, suc, _+_, _*_, _/_, _%_, _^_, _<_, _≤_}

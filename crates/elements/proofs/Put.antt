@@ -1,4 +1,4 @@
--- What stands where after bytes were put at a place that the list has. Assumes nothing.
+-- What stands where after bytes were put at a place that the list has.
 use mathlib.Core.Path.{_≡_, _∙_}
 use mathlib.Core.Logic.{_⊎_, inl, inr}
 use mathlib.Core.List.{List, [], _++_, append-assoc, append-nil}

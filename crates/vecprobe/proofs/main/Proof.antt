@@ -1,5 +1,5 @@
 -- `main` is safe and ends. The loop's invariant: the arrays have their lengths, what is held keeps to its room, and the lines and the bytes that may still come
--- are together no more than a number of a line can count. Assumes nothing.
+-- are together no more than a number of a line can count.
 use Prim.Native.Nat.{_+_, _≤_}
 use mathlib.Core.Path.{_≡_, ap}
 use native.Mathlib.Omega.{arith}

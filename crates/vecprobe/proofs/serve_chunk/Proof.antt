@@ -1,4 +1,4 @@
--- `serve_chunk` meets its contract. The loop's invariant: what is held keeps to its room, and there are no more lines than bytes served. Assumes nothing.
+-- `serve_chunk` meets its contract. The loop's invariant: what is held keeps to its room, and there are no more lines than bytes served.
 use Prim.Native.Nat.{_+_, _-_, _≤_}
 use mathlib.Core.Path.{_≡_, sym}
 use native.Mathlib.Omega.{arith}

@@ -1,4 +1,4 @@
--- `serve_end` is safe: the reply is within out. Assumes nothing.
+-- `serve_end` is safe: the reply is within out.
 use mathlib.Core.Path.{sym}
 use Prim.Native.Nat.{_≤_}
 use native.Mathlib.Omega.{arith}

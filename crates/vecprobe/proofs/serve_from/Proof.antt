@@ -1,4 +1,4 @@
--- `serve_from` meets its contract: one call of `serve` is a step of the loop. Assumes nothing.
+-- `serve_from` meets its contract: one call of `serve` is a step of the loop.
 use Prim.Native.Nat.{_+_}
 use native.Mathlib.Omega.{arith}
 use borrow.Author.Needs.{needs}
