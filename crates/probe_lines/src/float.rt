@@ -15,29 +15,30 @@ pub enum Work {
     Trunc,
 }
 
-// How many digits the pattern has.
-fn takes(work: Work) -> usize
-    ensures { λ r. ⌜ r ≡ rowOf work .takes ⌝ }
-{
-    match work {
-        Work::Root32 => 8,
-        Work::Root64 => 16,
-        Work::Narrow => 16,
-        Work::Widen => 8,
-        Work::Trunc => 8,
-    }
+// How many digits the pattern has, and how many the result.
+struct Digits {
+    takes: usize,
+    gives: usize,
 }
 
-// How many digits the result has.
-fn gives(work: Work) -> usize
-    ensures { λ r. ⌜ r ≡ rowOf work .gives ⌝ }
+fn widths(work: Work) -> Digits
+    ensures { λ r. ⌜ (r .takes ≡ rowOf work .takes) × (r .gives ≡ rowOf work .gives) ⌝ }
 {
     match work {
-        Work::Root32 => 8,
-        Work::Root64 => 16,
-        Work::Narrow => 8,
-        Work::Widen => 16,
-        Work::Trunc => 2,
+        Work::Root32 => Digits { takes: 8, gives: 8 },
+        Work::Root64 => Digits {
+            takes: 16,
+            gives: 16,
+        },
+        Work::Narrow => Digits {
+            takes: 16,
+            gives: 8,
+        },
+        Work::Widen => Digits {
+            takes: 8,
+            gives: 16,
+        },
+        Work::Trunc => Digits { takes: 8, gives: 2 },
     }
 }
 
@@ -100,11 +101,12 @@ pub fn computed(work: Work, field: &[u8], out: &mut [u8]) -> usize
     ensures { λ r. ⌜ r ≡ length (computedOf work (now (field .entry))) ⌝ }
     ensures { λ _. ⌜ now (out .exit) ≡ onto (computedOf work (now (field .entry))) (now (out .entry)) ⌝ }
 {
-    let found = lines::hex::pattern(takes(work), field);
+    let w = widths(work);
+    let found = lines::hex::pattern(w.takes, field);
     match found {
         Found::Number(n) => {
             let value = result(work, n);
-            put_float(gives(work), value, out)
+            put_float(w.gives, value, out)
         }
         Found::Nothing => put_other(out),
     }
