@@ -1,3 +1,4 @@
+-- Laws for callers
 pub mod Numbers
 pub mod Put
 pub mod Floats

@@ -1,3 +1,4 @@
+-- Laws of the answers
 pub mod Fields
 pub mod Determined
 pub mod Stream

@@ -7,6 +7,8 @@ pub mod Determined
 -- what they rest on
 mod Compare
 mod Patterns
+mod Powers
+mod Under
 mod WholeRoot
 mod Widths
 mod Edges

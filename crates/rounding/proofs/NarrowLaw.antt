@@ -1,8 +1,8 @@
 -- The f32 of an f64 is the one value that `IsNarrowed` allows; and `closest` of a pattern's digits gives its pattern.
-use mathlib.Core.Path.{_≡_, refl, sym, ap, _∙_, subst}
+use mathlib.Core.Path.{_≡_, refl, sym, ap, subst}
 use mathlib.Core.Logic.{_⊎_, inl, inr}
 use Prim.Native.Nat.{ℕ, _+_, _-_, _*_, _/_, _%_, _^_, _≤_, _<_, compare}
-use native.Mathlib.Nat.{le-trans, le-of-eq, le-of-lt, le-refl, le-of-suc-le-suc, lt-of-not-le, le-add-left, mul-assoc, lt-of-lt-of-le, mul-lt-mul-of-pos-right, div-lt-iff-lt-mul, le-div-iff-mul-le, div-eq-of-lt, mod-eq-of-lt}
+use native.Mathlib.Nat.{le-trans, le-of-eq, le-of-lt, le-refl, le-of-suc-le-suc, lt-of-not-le, le-add-left, lt-of-lt-of-le, mul-lt-mul-of-pos-right, div-lt-iff-lt-mul, le-div-iff-mul-le, div-eq-of-lt, mod-eq-of-lt}
 use native.Mathlib.Decide.{decLt}
 use native.Mathlib.Omega.{arith}
 use mathlib.Core.Bool.{Bool, true, false, cond}
@@ -18,6 +18,7 @@ use Rattle.rounding.specs.Pick.{digitsOf, count}
 use Rattle.rounding.specs.Narrow.{IsNarrowed, narrowed}
 use Rattle.rounding.specs.Parts.{Narrowing}
 use Rattle.rounding.proofs.Compare.{is-lt}
+use Rattle.rounding.proofs.Powers.{powers}
 use Rattle.rounding.proofs.Patterns.{Full, digits-lt, signed, infinity, finite, count-is}
 use Rattle.rounding.proofs.Nearest.{only, nearest-scale}
 use Rattle.rounding.proofs.Round.{round-nearest, place-fine, place-over}
@@ -68,15 +69,6 @@ closest-le a d n p h = le-trans (nearest-le (a / d) (compare (a % d * 2) d)) (di
 
 pub closest-zero : (a d : ℕ) → a * 2 < d → closest a d ≡ 0
 closest-zero a d h = let l : a < d = omega arith in rw (div-eq-of-lt l, mod-eq-of-lt l, is-lt (a * 2) d h)
-
-powers : (m a b c d e : ℕ) → a + b + c ≡ d + e → m * 2 ^ a * 2 ^ b * 2 ^ c ≡ m * 2 ^ d * 2 ^ e
-powers m a b c d e h =
-    apart m (2 ^ a) (2 ^ b) (2 ^ c)
-    ∙ ap (λ (x : ℕ). m * x) (ap (λ (x : ℕ). x * 2 ^ c) (sym (pow-add 2 a b)) ∙ sym (pow-add 2 (a + b) c) ∙ ap (λ (x : ℕ). 2 ^ x) h ∙ pow-add 2 d e)
-    ∙ sym (mul-assoc m (2 ^ d) (2 ^ e))
-  where
-    apart : (m x y z : ℕ) → m * x * y * z ≡ m * (x * y * z)
-    apart m x y z = omega arith
 
 module _ (m k : ℕ) (full : (k ≡ 0) ⊎ (2 ^ 52 ≤ m)) (less : m < 2 ^ 53) where
   whole-lt : m / 2 ^ dropped k < 2 * hid binary32

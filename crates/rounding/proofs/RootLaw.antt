@@ -19,7 +19,7 @@ use Rattle.rounding.specs.Parts.{Under, Normal, Rooting}
 use Rattle.rounding.proofs.Compare.{is-lt, is-gt, compare-scale}
 use Rattle.rounding.proofs.Patterns.{signed, finite, hid-pos, twice-hid, digits-pos, count-is, count-at, count-lt}
 use Rattle.rounding.proofs.Nearest.{Rising, only, pick-nearest, floor-nearest, nearest-scale}
-use Rattle.rounding.proofs.WholeRoot.{from, under, root-from, root-under}
+use Rattle.rounding.proofs.Under.{from, under, root-from, root-under}
 
 -- ---- one value, and only one
 squares-rise : (D : ℕ) → 0 < D → Rising (λ M. M * M * D)

@@ -1,26 +1,9 @@
--- The whole part of a root, in whole numbers: Newton's step stays at the root or above it and comes down, and one division gives as many digits again.
-use mathlib.Core.Path.{_≡_, refl, sym, ap, _∙_, subst}
+-- The inside of `whole`, in whole numbers: Newton's step stays at the root or above it and comes down, and one division gives as many digits again.
+use mathlib.Core.Path.{_≡_, ap, subst}
 use Prim.Native.Nat.{ℕ, zero, suc, _+_, _-_, _*_, _/_, _%_, _^_, _≤_, _<_}
-use native.Mathlib.Nat.{le-trans, le-of-eq, le-of-lt, le-of-suc-le-suc, lt-of-lt-of-le, lt-of-not-le, not-le-of-lt, not-suc-le-zero, lt-suc-self, zero-lt-suc, mul-comm, mul-pos, mul-le-mul, mul-le-mul-left, mul-le-mul-right, le-of-mul-le-mul-right, div-lt-iff-lt-mul, div-add-mod', mod-lt, one-mul, pow-suc}
+use native.Mathlib.Nat.{le-trans, le-of-eq, le-of-lt, lt-of-lt-of-le, lt-of-not-le, not-suc-le-zero, lt-suc-self, zero-lt-suc, mul-comm, mul-pos, mul-le-mul, mul-le-mul-left, mul-le-mul-right, le-of-mul-le-mul-right, div-lt-iff-lt-mul, div-add-mod', mod-lt}
 use native.Mathlib.Decide.{decLe}
 use native.Mathlib.Omega.{arith}
-use lib.Dec.{lit≤}
-use lib.Pow.{shl-exact}
-use Rattle.rounding.specs.Parts.{Under}
-
--- ---- what `Under` says
-pub from : {n w r : ℕ} → Under n w r → w * w ≤ n
-from u = omega (arith, u .is)
-
-pub under : {n w r : ℕ} → Under n w r → n < suc w * suc w
-under u = omega (arith, u .is, u .small)
-
--- a root is at least p where p * p is within n, and below p where p * p is beyond it
-pub root-from : {n w r : ℕ} (p : ℕ) → Under n w r → p * p ≤ n → p ≤ w
-root-from p u h = le-of-suc-le-suc (lt-of-not-le (λ g. not-le-of-lt (under u) (le-trans (mul-le-mul g g) h)))
-
-pub root-under : {n w r : ℕ} (p : ℕ) → Under n w r → n < p * p → w < p
-root-under p u h = lt-of-not-le (λ g. not-le-of-lt h (le-trans (mul-le-mul g g) (from u)))
 
 -- ---- Newton's step
 -- a product is at most the square of the mean
@@ -98,14 +81,3 @@ divided s r b S A R P B C =
           square = mul-le-mul q-few q-few;
           fine = last q (s * b) (u * b) (twice q q-le) (mul-pos S P);
         }
-
--- ---- powers
-pub four : (j : ℕ) → 4 ^ j ≡ 2 ^ j * 2 ^ j
-four zero = refl
-four (suc j) = pow-suc 4 j ∙ ap (λ (x : ℕ). x * 4) (four j) ∙ turn (2 ^ j) ∙ ap (λ (x : ℕ). x * x) (sym (pow-suc 2 j))
-  where
-    turn : (p : ℕ) → p * p * 4 ≡ p * 2 * (p * 2)
-    turn p = omega arith
-
-pub one-shl : (j : ℕ) → j < 64 → (1 * 2 ^ j) % 2 ^ 64 ≡ 2 ^ j
-one-shl j h = shl-exact {a = 1} 1 j 64 (lit≤ tt) (omega arith) ∙ one-mul (2 ^ j)

@@ -3,12 +3,14 @@ use mathlib.Core.Path.{_≡_, refl, sym, ap, _∙_, subst}
 use Prim.Native.Nat.{ℕ, _+_, _-_, _*_, _/_, _%_, _^_, _≤_, _<_}
 use native.Mathlib.Nat.{le-trans, le-of-eq, lt-of-lt-of-le, mul-assoc, mul-le-mul, mul-lt-mul-of-pos-right}
 use native.Mathlib.Omega.{arith}
-use lib.Dec.{lit≤}
+use lib.Dec.{T, lit≤}
 use lib.Pow.{pow-add, pow-pos, pow-mono, shl-exact}
-use lib.Ieee.{Format, binary32, binary64, prec, low, hid, ones}
+use lib.Ieee.{Float, Format, binary32, binary64, prec, low, hid, ones, fits, ofBits, toBits}
+use lib.Ieee.Bits.{ofBits-toBits}
 use Rattle.rounding.specs.Pick.{digitsOf}
+use Rattle.rounding.specs.Root.{IsRoot}
 use Rattle.rounding.specs.Parts.{Under, Normal, Widths, Rooting}
-use Rattle.rounding.proofs.WholeRoot.{four}
+use Rattle.rounding.proofs.Powers.{four}
 use Rattle.rounding.proofs.RootLaw.{grown, exponent-from, rooting, w-under}
 
 -- what holds of a format's own numbers holds of those handed over
@@ -81,3 +83,7 @@ pattern-lt {f} R = lt-of-lt-of-le (R .fine) (most f)
     most : (f : Format) → ones f * hid f ≤ 2 ^ 64
     most binary32 = lit≤ tt
     most binary64 = lit≤ tt
+
+-- and its value the root of the value that the pattern was written for
+pub rooted : {f : Format} {r : ℕ} (x : Float) → T (fits f x) → Rooting f (toBits f x) r → IsRoot f x (ofBits f r)
+rooted {f} {r} x t R = subst (λ (y : Float). IsRoot f y (ofBits f r)) (ofBits-toBits f x t) (R .is)

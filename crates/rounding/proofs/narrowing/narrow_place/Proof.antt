@@ -4,7 +4,7 @@ use Prim.Native.Nat.{ℕ, _+_, _-_, _*_, _^_, _≤_}
 use native.Mathlib.Nat.{lt-of-lt-of-le}
 use lib.Pow.{pow-pos, pow-mono}
 use lib.Ieee.Nearest.{closest}
-use Rattle.rounding.proofs.WholeRoot.{one-shl}
+use Rattle.rounding.proofs.Powers.{one-shl}
 use Rattle.rounding.proofs.NarrowLaw.{dropped, closest-le, closest-zero}
 use borrow.Author.Needs.{needs}
 use native.Mathlib.Omega.{arith}

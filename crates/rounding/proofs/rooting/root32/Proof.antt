@@ -1,10 +1,9 @@
 -- `rounding::rooting::root32` meets its contract: finite and above zero by `root_pattern`, and elsewhere by the laws of the edges.
-use mathlib.Core.Path.{refl, subst}
+use mathlib.Core.Path.{refl}
 use native.Mathlib.Nat.{le-of-lt}
-use lib.Ieee.{Float, binary32, ofBits}
-use lib.Ieee.Bits.{ofBits-toBits}
-use Rattle.rounding.specs.Root.{IsRoot}
+use lib.Ieee.{binary32}
 use Rattle.rounding.proofs.Edges.{above-number, bits-pos, infinite-root, zero-root, no-root, no-nan}
+use Rattle.rounding.proofs.Widths.{rooted}
 use borrow.Author.Needs.{needs}
 use Rattle.rounding.proofs.rooting.root32.Statement.{statement}
 use Rattle.rounding.proofs.rooting.root32.Tie as tie
@@ -25,7 +24,7 @@ float-from-bits-result : tie.Need-float-from-bits-result
 float-from-bits-result c = no-nan binary32 (c .root-pattern .result) (le-of-lt (c .root-pattern .ensures .fine))
 
 returns : tie.Need-returns
-returns c = subst (λ (y : Float). IsRoot binary32 y (ofBits binary32 (c .root-pattern .result))) (ofBits-toBits binary32 (c .before .before .before .args .x) (search needs)) (c .root-pattern .ensures .is)
+returns c = rooted (c .before .before .before .args .x) (search needs) (c .root-pattern .ensures)
 
 returns-2 : tie.Need-returns-2
 returns-2 c = infinite-root binary32 (c .before .before .args .x) (c .before .if1 .taken) (search needs) (search needs)

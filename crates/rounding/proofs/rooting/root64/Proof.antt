@@ -1,10 +1,9 @@
 -- `rounding::rooting::root64` meets its contract: finite and above zero by `root_pattern`, and elsewhere by the laws of the edges.
-use mathlib.Core.Path.{refl, subst}
+use mathlib.Core.Path.{refl}
 use native.Mathlib.Nat.{le-of-lt}
-use lib.Ieee.{Float, binary64, ofBits}
-use lib.Ieee.Bits.{ofBits-toBits}
-use Rattle.rounding.specs.Root.{IsRoot}
+use lib.Ieee.{binary64}
 use Rattle.rounding.proofs.Edges.{above-number, bits-pos, infinite-root, zero-root, no-root, no-nan}
+use Rattle.rounding.proofs.Widths.{rooted}
 use borrow.Author.Needs.{needs}
 use Rattle.rounding.proofs.rooting.root64.Statement.{statement}
 use Rattle.rounding.proofs.rooting.root64.Tie as tie
@@ -19,7 +18,7 @@ float-from-bits-result : tie.Need-float-from-bits-result
 float-from-bits-result c = no-nan binary64 (c .root-pattern .result) (le-of-lt (c .root-pattern .ensures .fine))
 
 returns : tie.Need-returns
-returns c = subst (λ (y : Float). IsRoot binary64 y (ofBits binary64 (c .root-pattern .result))) (ofBits-toBits binary64 (c .before .before .before .args .x) (search needs)) (c .root-pattern .ensures .is)
+returns c = rooted (c .before .before .before .args .x) (search needs) (c .root-pattern .ensures)
 
 returns-2 : tie.Need-returns-2
 returns-2 c = infinite-root binary64 (c .before .before .args .x) (c .before .if1 .taken) (search needs) (search needs)

@@ -30,7 +30,9 @@ small c =
     let s = sizes (S .pre .0) in
     omega (arith, field S, norm c .less)
 
-root : (c : tie.After-root-digits) → let y = c .before .before .normal .result in Under (y .m * 2 ^ grown (c .before .before .before .before .before .args .prec) (y .e)) (c .root-digits .result .root) (c .root-digits .result .rest)
+root : (c : tie.After-root-digits)
+    → let y = c .before .before .normal .result in
+    Under (y .m * 2 ^ grown (c .before .before .before .before .before .args .prec) (y .e)) (c .root-digits .result .root) (c .root-digits .result .rest)
 root c =
     let S = c .before .before .before .before .before in
     let y = c .before .before .normal .result in
@@ -39,7 +41,10 @@ root c =
     (ap (λ (x : ℕ). x * 4 ^ S .args .n) (shift-is (S .pre .0) (S .args .b) (y .m) (y .e) (S .pre .1 .0) N) ∙ shift-whole (S .pre .0) (S .args .b) (y .m) (y .e) (S .pre .1 .0) N)
     (c .root-digits .ensures)
 
-answered : (c : tie.After-root-digits) → let S = c .before .before .before .before .before in let e = c .before .before .normal .result .e in Rooting (formatOf (S .args .prec)) (S .args .b) (((e - grown (S .args .prec) e) / 2 + 1) * S .args .hid + (c .root-digits .result .root + 1) / 2)
+answered : (c : tie.After-root-digits)
+    → let S = c .before .before .before .before .before in
+    let e = c .before .before .normal .result .e in
+    Rooting (formatOf (S .args .prec)) (S .args .b) (((e - grown (S .args .prec) e) / 2 + 1) * S .args .hid + (c .root-digits .result .root + 1) / 2)
 answered c =
     let S = c .before .before .before .before .before in
     let y = c .before .before .normal .result in

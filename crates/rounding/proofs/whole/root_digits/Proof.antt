@@ -4,7 +4,8 @@ use Prim.Native.Nat.{ℕ, _+_, _*_, _%_, _^_, _≤_, _<_}
 use native.Mathlib.Nat.{le-trans, le-of-eq}
 use lib.Pow.{pow-pos, pow-mono}
 use Rattle.rounding.specs.Parts.{Under}
-use Rattle.rounding.proofs.WholeRoot.{four, root-from, one-shl}
+use Rattle.rounding.proofs.Powers.{four, one-shl}
+use Rattle.rounding.proofs.Under.{root-from}
 use borrow.Author.Needs.{needs}
 use native.Mathlib.Omega.{arith}
 use Rattle.rounding.proofs.whole.root_digits.Statement.{statement}
