@@ -1,5 +1,4 @@
 -- Laws for the line functions of the programs
-pub mod Onto
 pub mod Same
 pub mod Digits
 pub mod Spelled

@@ -9,7 +9,7 @@ use lib.ListN.{length, take, drop, length-drop}
 use lib.Seq.{length-take-le}
 use borrow.Rule.Slice.PartMut.{putMid}
 use Rattle.bytes.specs.Bytes.{indexOf}
-use Rattle.lines.proofs.Onto.{copied, tail-onto}
+use Rattle.promises.proofs.Onto.{copied, tail-onto}
 use Rattle.lines.proofs.Parting.{index-le}
 use Rattle.lines.specs.Text.{newline}
 use Rattle.lines.specs.Stream.{heldWith, keptWith, pieceOf, takenOf}

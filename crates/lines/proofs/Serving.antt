@@ -9,11 +9,11 @@ use lib.Dec.{ltb}
 use lib.ListN.{length, take, drop, length-drop}
 use Rattle.bytes.specs.Bytes.{indexOf}
 use Rattle.lines.specs.Text.{newline}
-use Rattle.lines.specs.Onto.{onto}
+use Rattle.promises.specs.Onto.{onto}
 use Rattle.lines.specs.Stream.{heldAt, heldWith, keptWith, pieceOf, takenOf}
 use Rattle.lines.specs.Output.{Stepped}
 use Rattle.lines.specs.Served.{heldReply, saidOf, servedOf}
-use Rattle.lines.proofs.Onto.{tail-within}
+use Rattle.promises.proofs.Onto.{tail-within}
 use Rattle.lines.proofs.Parting.{index-le}
 use Rattle.lines.specs.declared.stream.Held.{Held}
 use Rattle.lines.specs.declared.stream.Taken.{Taken}

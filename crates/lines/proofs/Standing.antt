@@ -12,14 +12,14 @@ use lib.ListN.{length, take, drop, length-append, length-take, length-drop}
 use lib.Seq.{take-at, take-all, take-nil, take-append-le, take-append-add, length-take-le}
 use Rattle.bytes.specs.Bytes.{indexOf, indexAfter}
 use Rattle.lines.specs.Text.{newline}
-use Rattle.lines.specs.Onto.{onto}
+use Rattle.promises.specs.Onto.{onto}
 use Rattle.lines.specs.Printed.{replyOf, limited, printedOf}
 use Rattle.lines.specs.Stream.{heldAt, heldWith, keptWith, pieceOf}
 use Rattle.lines.specs.Served.{heldReply, saidOf, servedOf, lastSaid, Serving}
 use Rattle.lines.specs.Served.Serving.{begun, goes-on}
 use Rattle.lines.specs.Progress.{Progress, nothing, ended, next, after, finished, Stands}
 use Rattle.lines.specs.declared.stream.Held.{Held}
-use Rattle.lines.proofs.Onto.{length-onto}
+use Rattle.promises.proofs.Onto.{length-onto}
 use Rattle.lines.proofs.Parting.{index-le, index-at}
 use Rattle.lines.proofs.Whole.{after-append, whole}
 

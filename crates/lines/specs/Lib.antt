@@ -1,5 +1,4 @@
 pub mod Text
-pub mod Onto
 pub mod Hex
 pub mod Decimal
 pub mod Parts

@@ -4,7 +4,7 @@ ghost use Prim.Native.Nat.{_≤_, _<_, _^_};
 ghost use lib.ListN.{length};
 ghost use Rattle.io.specs.Digits.{digits};
 ghost use Rattle.lines.specs.Hex.{digitOf, patternOf};
-ghost use Rattle.lines.specs.Onto.{onto};
+ghost use Rattle.promises.specs.Onto.{onto};
 
 // A number that a text may be.
 pub enum Found {

@@ -4,7 +4,7 @@ ghost use Prim.Native.Nat.{_≤_};
 ghost use lib.ListN.{length};
 ghost use Rattle.bytes.specs.Bytes.{indexOf};
 ghost use Rattle.lines.specs.Text.{tab};
-ghost use Rattle.lines.specs.Onto.{onto};
+ghost use Rattle.promises.specs.Onto.{onto};
 ghost use Rattle.lines.specs.Decimal.{decimalOf};
 ghost use Rattle.lines.specs.Printed.{headOf};
 

@@ -9,11 +9,11 @@ use lib.Dec.{lit≤}
 use lib.ListN.{length, take, drop}
 use Rattle.bytes.specs.Bytes.{indexOf}
 use Rattle.lines.specs.Text.{tab}
-use Rattle.lines.specs.Onto.{onto}
+use Rattle.promises.specs.Onto.{onto}
 use Rattle.lines.specs.Hex.{digitOf}
 use Rattle.lines.specs.Parts.{partsOf, fieldsOf}
 use Rattle.lines.proofs.Digits.{pattern-none}
-use Rattle.lines.proofs.Onto.{tail-lent}
+use Rattle.promises.proofs.Onto.{tail-lent}
 use Rattle.lines.proofs.Parting.{index-le, parts-at, parts-last, parts-some}
 use Rattle.probe_lines.specs.Line.{rowOf, other, computedOf, one, two, ofWidth, verbOf, answerTo, answerBy, answerOf}
 use Rattle.probe_lines.specs.declared.Verb.{Verb}

@@ -2,7 +2,7 @@
 ghost use mathlib.Core.Path.{_≡_};
 ghost use Prim.Native.Nat.{_≤_, _<_, _^_};
 ghost use lib.ListN.{length};
-ghost use Rattle.lines.specs.Onto.{onto};
+ghost use Rattle.promises.specs.Onto.{onto};
 ghost use Rattle.probe_lines.specs.Line.{rowOf, floatOf, computedOf, other};
 use lines::hex::Found;
 

@@ -7,7 +7,7 @@ pub use replies::serve;
 ghost use mathlib.Core.Path.{_≡_};
 ghost use Prim.Native.Nat.{_≤_};
 ghost use lib.ListN.{length};
-ghost use Rattle.lines.specs.Onto.{onto};
+ghost use Rattle.promises.specs.Onto.{onto};
 ghost use Rattle.lines.specs.Parts.{fieldsOf};
 ghost use Rattle.probe_lines.specs.Limits.{limit};
 ghost use Rattle.probe_lines.specs.Line.{answerOf, verbOf, two, ofWidth};

@@ -4,7 +4,7 @@ ghost use Prim.Native.Nat.{_+_, _≤_, _<_, _^_};
 ghost use mathlib.Core.List.{[], _∷_, _++_};
 ghost use lib.ListN.{length, drop};
 ghost use Rattle.lines.specs.Text.{newline};
-ghost use Rattle.lines.specs.Onto.{onto};
+ghost use Rattle.promises.specs.Onto.{onto};
 ghost use Rattle.lines.specs.Stream.{keptWith, pieceOf};
 ghost use Rattle.lines.specs.Served.{heldAnswer, heldReply, saidOf, servedOf, lastSaid};
 ghost use Rattle.probe_lines.specs.Limits.{limit, longest};

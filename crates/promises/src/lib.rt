@@ -1,1 +1,1 @@
-// What a contract is to do, said once for all crates. There is no code here.
+// What contracts say, once for all crates: that they determine an outcome, and what a writer leaves. There is no code here.

@@ -5,7 +5,7 @@ use native.Mathlib.Omega.{arith}
 use lib.ListN.{length}
 use lib.Seq.{length-take-le}
 use Rattle.lines.specs.Served.{lastSaid}
-use Rattle.lines.proofs.Onto.{onto-within}
+use Rattle.promises.proofs.Onto.{onto-within}
 use Rattle.probe_lines.specs.Line.{answerOf}
 use borrow.Author.Needs.{needs}
 use Rattle.vecprobe.proofs.serve_end.Statement.{statement}

@@ -5,7 +5,7 @@ use native.Mathlib.Omega.{arith}
 use borrow.Author.Needs.{needs}
 use lib.Dec.{lit<}
 use Rattle.io.specs.Digits.{digits}
-use Rattle.lines.proofs.Onto.{copied}
+use Rattle.promises.proofs.Onto.{copied}
 use Rattle.lines.proofs.Spelled.{length-digits, fewest-most}
 use Rattle.lines.proofs.hex.put_hex.Statement.{statement}
 use Rattle.lines.proofs.hex.put_hex.Tie as tie

@@ -4,7 +4,7 @@ use Prim.Native.Nat.{_-_}
 use native.Mathlib.Omega.{arith}
 use lib.ListN.{length, take, drop, length-drop}
 use lib.Seq.{length-take-le, take-all}
-use Rattle.lines.proofs.Onto.{tail-lent}
+use Rattle.promises.proofs.Onto.{tail-lent}
 use Rattle.lines.proofs.Pieces.{held-over, held-within, kept-piece}
 use borrow.Author.Needs.{needs}
 use Rattle.lines.proofs.stream.keep.Statement.{statement}

@@ -4,7 +4,7 @@ use Prim.Native.Nat.{_≤_}
 use native.Mathlib.Omega.{arith}
 use borrow.Author.Needs.{needs}
 use lib.Dec.{lit<, lit≤}
-use Rattle.lines.proofs.Onto.{copied}
+use Rattle.promises.proofs.Onto.{copied}
 use Rattle.lines.proofs.Spelled.{fewest-decimal, fewest-most}
 use Rattle.lines.proofs.text.put_decimal.Statement.{statement}
 use Rattle.lines.proofs.text.put_decimal.Tie as tie

@@ -2,7 +2,7 @@
 use native.Mathlib.Omega.{arith}
 use Rattle.lines.specs.Text.{tab}
 use Rattle.lines.specs.Decimal.{decimalOf}
-use Rattle.lines.proofs.Onto.{onto-put}
+use Rattle.promises.proofs.Onto.{onto-put}
 use borrow.Author.Needs.{needs}
 use Rattle.lines.proofs.text.put_head.Statement.{statement}
 use Rattle.lines.proofs.text.put_head.Tie as tie

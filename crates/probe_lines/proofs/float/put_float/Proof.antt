@@ -4,7 +4,7 @@ use native.Mathlib.Omega.{arith}
 use lib.ListN.{length}
 use Rattle.io.specs.Digits.{digits}
 use Rattle.lines.specs.Text.{word}
-use Rattle.lines.proofs.Onto.{onto-then}
+use Rattle.promises.proofs.Onto.{onto-then}
 use Rattle.lines.proofs.Spelled.{length-digits}
 use borrow.Author.Needs.{needs}
 use Rattle.probe_lines.proofs.float.put_float.Statement.{statement}

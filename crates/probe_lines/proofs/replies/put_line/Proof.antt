@@ -6,7 +6,7 @@ use lib.ListN.{length}
 use lib.Seq.{length-take-le}
 use Rattle.lines.specs.Text.{newline}
 use Rattle.lines.specs.Served.{heldAnswer}
-use Rattle.lines.proofs.Onto.{Ended, onto-ended}
+use Rattle.promises.proofs.Onto.{Ended, onto-ended}
 use Rattle.probe_lines.specs.Line.{answerOf}
 use borrow.Author.Needs.{needs}
 use Rattle.probe_lines.proofs.replies.put_line.Statement.{statement}

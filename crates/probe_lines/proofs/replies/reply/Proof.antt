@@ -7,7 +7,7 @@ use lib.ListN.{length-append}
 use Rattle.lines.specs.Text.{newline}
 use Rattle.lines.specs.Printed.{headOf, replyOf}
 use Rattle.lines.specs.Served.{heldAnswer}
-use Rattle.lines.proofs.Onto.{onto-then, tail-within}
+use Rattle.promises.proofs.Onto.{onto-then, tail-within}
 use Rattle.probe_lines.specs.Line.{answerOf}
 use borrow.Author.Needs.{needs}
 use Rattle.probe_lines.proofs.replies.reply.Statement.{statement}

@@ -7,7 +7,7 @@ use native.Mathlib.Numerals.{add-one}
 use lib.ListN.{length, getD, take, drop, set, length-append, length-drop, drop-of-length-le, take-append-drop}
 use lib.Seq.{drop-cons, set-at, take-at, drop-at, drop-drop, take-length, take-all, drop-append-le, length-take-le}
 use borrow.Rule.Slice.PartMut.{putMid}
-use Rattle.lines.specs.Onto.{onto}
+use Rattle.promises.specs.Onto.{onto}
 
 -- a text copied to the front: t, of which it is known that it is t′
 pub copied : (t t′ l o : List ℕ) (r : ℕ) → t ≡ t′ → r ≡ length t → o ≡ take (length t) t ++ drop (length t) l

@@ -1,0 +1,2 @@
+-- Laws of what writers leave
+pub mod Onto
