@@ -1,0 +1,2 @@
+-- Laws of blobs
+pub mod Search

@@ -1,0 +1,70 @@
+-- Answers of the reader and the writer, and the first of several refusals that is given.
+use Prim.Native.Nat.{ℕ}
+use mathlib.Core.Bool.{Bool, true, false, cond}
+use mathlib.Core.List.{List, [], _∷_}
+use Rattle.vector_types.specs.declared.VectorType.{VectorType}
+use Rattle.vector_types.specs.declared.Dims.{Dims}
+use Rattle.vector_types.specs.declared.Refusal.{Refusal}
+use Rattle.vector_types.specs.declared.ReadAnswer.{ReadAnswer}
+use Rattle.vector_types.specs.declared.ReadAnswer.the-variants.{View as Seen, Refused as ReadRefused}
+use Rattle.vector_types.specs.declared.WriteAnswer.{WriteAnswer}
+use Rattle.vector_types.specs.declared.WriteAnswer.the-variants.{Written, Refused as WriteRefused, Short}
+
+abbrev pub dims : ℕ → Dims
+dims d = record { 0 = d }
+
+abbrev pub refusal : ℕ → Refusal
+refusal n = record { number = n }
+
+-- a reader's answers: a view of kind, dims and body length, and a refusal
+abbrev pub seen : VectorType → ℕ → ℕ → ReadAnswer
+seen k d m = Seen (record { kind = k; dims = dims d; length = m })
+
+abbrev pub refused : Refusal → ReadAnswer
+refused r = ReadRefused r
+
+abbrev pub isSeen : ReadAnswer → Bool
+isSeen (Seen v) = true
+isSeen (ReadRefused r) = false
+
+-- a writer's answers: the length of the blob, a refusal, and 15, which carries the need
+abbrev pub written : ℕ → WriteAnswer
+written n = Written n
+
+abbrev pub unwritten : Refusal → WriteAnswer
+unwritten r = WriteRefused r
+
+abbrev pub short : ℕ → WriteAnswer
+short need = Short need
+
+-- document 01's number for each answer, 0 where nothing is refused
+abbrev pub readNumber : ReadAnswer → ℕ
+readNumber (Seen v) = 0
+readNumber (ReadRefused r) = r .number
+
+abbrev pub writeNumber : WriteAnswer → ℕ
+writeNumber (Written n) = 0
+writeNumber (WriteRefused r) = r .number
+writeNumber (Short need) = 15
+
+-- a refusal, and whether it is to be given
+pub record Test : Type 0 where
+  pub holds : Bool
+  pub gives : Refusal
+
+abbrev pub test : ℕ → Bool → Test
+test n b = record { holds = b; gives = refusal n }
+
+-- the first refusal of a list that is to be given, if any is
+pub data Given : Type 0 where
+  none : Given
+  given : Refusal → Given
+
+abbrev pub firstOf : List Test → Given
+firstOf [] = none
+firstOf (t ∷ ts) = cond (t .holds) (given (t .gives)) (firstOf ts)
+
+-- the answer x, unless a refusal is given
+abbrev pub unless : {A : Type 0} → Given → (Refusal → A) → A → A
+unless none refuse x = x
+unless (given r) refuse x = refuse r

@@ -1,0 +1,103 @@
+-- Document 01's examples of reading, and examples of strict reading and of writing: one table each, and one statement about all of them, which antt computes.
+use mathlib.Core.Path.{_≡_, refl}
+use mathlib.Core.List.{List, [], _∷_}
+use Prim.Native.Nat.{ℕ}
+use Rattle.elements.specs.Bytes.{numberAt, bytesOf}
+use Rattle.vector_types.specs.Answers.{seen, refused, refusal, written, unwritten, short}
+use Rattle.vector_types.specs.Search.{firstFrom}
+use Rattle.vector_types.specs.Layout.{named, byByte, before, dimsOf, lengthOf, fits}
+use Rattle.vector_types.specs.Read.{readOf, strictOf, refusals, strictRefusals, shown}
+use Rattle.vector_types.specs.Parts.{bodyOf}
+use Rattle.vector_types.specs.Write.{writeOf, writeRefusals, leftOf, blobOf, tailOf}
+use Rattle.vector_types.specs.declared.VectorType.{VectorType}
+use Rattle.vector_types.specs.declared.VectorType.the-variants.{Float32Dense, Float64Dense, Float32Sparse, Float1Bit, Float8}
+use Rattle.vector_types.specs.declared.ReadAnswer.{ReadAnswer}
+use Rattle.vector_types.specs.declared.WriteAnswer.{WriteAnswer}
+
+-- a blob, what the plain reader answers, and the body shown
+pub record Example : Type 0 where
+  pub blob : List ℕ
+  pub answer : ReadAnswer
+  pub body : List ℕ
+
+abbrev pub shows : List ℕ → ReadAnswer → List ℕ → Example
+shows s r b = record { blob = s; answer = r; body = b }
+
+abbrev pub refuses : List ℕ → ℕ → Example
+refuses s n = shows s (refused (refusal n)) []
+
+-- a Float8 blob of 15 bytes with the trailing count t
+abbrev pub fifteen : ℕ → List ℕ
+fifteen t = 7 ∷ 0 ∷ 0 ∷ 0 ∷ 0 ∷ 0 ∷ 0x80 ∷ 0x3f ∷ 0 ∷ 0 ∷ 0 ∷ 0 ∷ 0 ∷ t ∷ 4 ∷ []
+
+-- a sparse blob of one entry
+abbrev pub single : ℕ → ℕ → List ℕ
+single i d = 0 ∷ 0 ∷ 0x80 ∷ 0x3f ∷ i ∷ 0 ∷ 0 ∷ 0 ∷ d ∷ 0 ∷ 0 ∷ 0 ∷ 9 ∷ []
+
+abbrev pub reading : List Example
+reading =
+    shows [] (seen Float32Dense 0 0) []
+    ∷ shows (0x01 ∷ []) (seen Float32Dense 0 0) []
+    ∷ refuses (0x05 ∷ []) 2
+    ∷ refuses (0x07 ∷ []) 3
+    ∷ refuses (0x03 ∷ []) 4
+    ∷ shows (0xaa ∷ 0x08 ∷ 0x03 ∷ []) (seen Float1Bit 8 1) (0xaa ∷ [])
+    ∷ refuses (0xaa ∷ 0x07 ∷ 0x03 ∷ []) 6
+    ∷ refuses (0xaa ∷ 0x10 ∷ 0x03 ∷ []) 7
+    ∷ refuses (0xaa ∷ 0x11 ∷ 0x03 ∷ []) 5
+    ∷ shows (fifteen 3) (seen Float8 1 12) (7 ∷ 0 ∷ 0 ∷ 0 ∷ 0 ∷ 0 ∷ 0x80 ∷ 0x3f ∷ 0 ∷ 0 ∷ 0 ∷ 0 ∷ [])
+    ∷ refuses (fifteen 4) 7
+    ∷ refuses (fifteen 5) 5
+    ∷ shows (single 1 2) (seen Float32Sparse 2 8) (0 ∷ 0 ∷ 0x80 ∷ 0x3f ∷ 1 ∷ 0 ∷ 0 ∷ 0 ∷ [])
+    ∷ refuses (single 2 2) 8
+    ∷ refuses (0x09 ∷ []) 7
+    ∷ refuses (1 ∷ 0 ∷ 1 ∷ 0 ∷ 9 ∷ []) 9
+    ∷ []
+
+abbrev pub Read : List Example → Type 0
+Read [] = Unit
+Read (e ∷ es) = (readOf (e .blob) ≡ e .answer) × (bodyOf (e .blob) ≡ e .body) × Read es
+
+pub reading-holds : Read reading
+unfolding readOf bodyOf named byByte before dimsOf lengthOf fits refusals shown firstFrom numberAt
+reading-holds = (
+  refl,
+  refl,
+  (
+    refl,
+    refl,
+    (
+      refl,
+      refl,
+      (
+        refl,
+        refl,
+        (
+          refl,
+          refl,
+          (
+            refl,
+            refl,
+            (
+              refl,
+              refl,
+              (
+                refl,
+                refl,
+                (
+                  refl,
+                  refl,
+                  (
+                    refl,
+                    refl,
+                    (refl, refl, (refl, refl, (refl, refl, (refl, refl, (refl, refl, (refl, refl, tt)))))),
+                  ),
+                ),
+              ),
+            ),
+          ),
+        ),
+      ),
+    ),
+  ),
+)

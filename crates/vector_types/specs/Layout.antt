@@ -1,0 +1,132 @@
+-- The layouts of blobs: document 01's table, row by row.
+use Prim.Native.Nat.{ℕ, zero, suc, _+_, _-_, _*_, _/_, _%_, _^_}
+use mathlib.Core.Bool.{Bool, true, false, cond, not, _&&_, _||_}
+use mathlib.Core.List.{List}
+use lib.Dec.{ltb, leb, eqb}
+use lib.ListN.{length, getD}
+use Rattle.elements.specs.Bytes.{u32At}
+use Rattle.vector_types.specs.Search.{some}
+use Rattle.vector_types.specs.declared.VectorType.{VectorType}
+use Rattle.vector_types.specs.declared.VectorType.the-variants.{Float32Dense, Float64Dense, Float32Sparse, Float1Bit, Float8}
+
+-- the limits: the longest blob, and the greatest dims
+abbrev pub longest : ℕ
+longest = 524293
+
+abbrev pub mostDims : ℕ
+mostDims = 65536
+
+-- a / b, rounded up
+abbrev pub ceil : ℕ → ℕ → ℕ
+ceil a b = (a + (b - 1)) / b
+
+-- the byte that names a kind
+abbrev pub byteOf : VectorType → ℕ
+byteOf Float32Dense = 1
+byteOf Float64Dense = 2
+byteOf Float1Bit = 3
+byteOf Float8 = 4
+byteOf Float32Sparse = 9
+
+abbrev pub is : ℕ → VectorType → Bool
+is b k = eqb (byteOf k) b
+
+-- the kinds whose blobs carry a trailing count
+abbrev pub counted : VectorType → Bool
+counted k = is 3 k || is 4 k
+
+-- what a blob names: a kind, a kind that is not supported, or nothing known
+pub data Named : Type 0 where
+  a : VectorType → Named
+  unsupported : Named
+  unknown : Named
+
+unfoldable pub byByte : ℕ → Named
+byByte b =
+    cond (eqb b 1) (a Float32Dense)
+    (cond (eqb b 2) (a Float64Dense)
+    (cond (eqb b 3) (a Float1Bit)
+    (cond (eqb b 4) (a Float8)
+    (cond (eqb b 9) (a Float32Sparse)
+    (cond (eqb b 5 || eqb b 6) unsupported unknown)))))
+
+-- a blob of even length names no kind and is Float32Dense; of odd length, the last byte names it
+abbrev pub even : List ℕ → Bool
+even s = eqb (length s % 2) 0
+
+unfoldable pub named : List ℕ → Named
+unfolding byByte
+named s = cond (even s) (a Float32Dense) (byByte (getD s (length s - 1) 0))
+
+-- n, how many bytes stand before the type byte: all, where there is none; and t, the last of these
+unfoldable pub before : List ℕ → ℕ
+before s = cond (even s) (length s) (length s - 1)
+
+abbrev pub trailing : List ℕ → ℕ
+unfolding before
+trailing s = getD s (before s - 1) 0
+
+-- of a sparse blob: how many entries it has, its dims, and the index of entry j
+abbrev pub entries : List ℕ → ℕ
+unfolding before
+entries s = before s / 8
+
+abbrev pub sparseDims : List ℕ → ℕ
+unfolding before
+sparseDims s = u32At s (before s - 4)
+
+abbrev pub indexAt : List ℕ → ℕ → ℕ → ℕ
+indexAt s k j = u32At s (4 * k + 4 * j)
+
+-- whether index j of the k of a sparse body is not below d
+abbrev pub outside : List ℕ → ℕ → ℕ → ℕ → Bool
+outside s k d j = leb d (indexAt s k j)
+
+-- the table's columns, the limits apart: when a blob of a kind is accepted, its dims, and how long its body is, the blob's first bytes
+unfoldable pub accepted : VectorType → List ℕ → Bool
+unfolding before
+accepted Float32Dense s = eqb (before s % 4) 0
+accepted Float64Dense s = eqb (before s % 8) 0
+accepted Float1Bit s = leb 2 (before s) && leb 8 (trailing s) && leb (trailing s) (8 * before s - 1)
+accepted Float8 s = leb 14 (before s) && eqb ((before s - 10) % 4) 0 && leb (trailing s) 3
+accepted Float32Sparse s = eqb (before s) (4 + 8 * entries s) && not (some (outside s (entries s) (sparseDims s)) (entries s))
+
+unfoldable pub dimsOf : VectorType → List ℕ → ℕ
+unfolding before
+dimsOf Float32Dense s = before s / 4
+dimsOf Float64Dense s = before s / 8
+dimsOf Float1Bit s = 8 * before s - trailing s
+dimsOf Float8 s = before s - 10 - trailing s
+dimsOf Float32Sparse s = sparseDims s
+
+unfoldable pub lengthOf : VectorType → List ℕ → ℕ
+unfolding before dimsOf
+lengthOf Float32Dense s = before s
+lengthOf Float64Dense s = before s
+lengthOf Float1Bit s = ceil (dimsOf Float1Bit s) 8
+lengthOf Float8 s = before s - 2
+lengthOf Float32Sparse s = 8 * entries s
+
+-- whether a blob is accepted, by its row and by the limits
+unfoldable pub acceptedIn : Named → List ℕ → Bool
+unfolding accepted dimsOf
+acceptedIn (a k) s = accepted k s && leb (length s) longest && leb (dimsOf k s) mostDims
+acceptedIn unsupported s = false
+acceptedIn unknown s = false
+
+-- whether a body of m bytes is what a vector of d elements has; a sparse one has any number of entries
+unfoldable pub fits : VectorType → ℕ → ℕ → Bool
+fits Float32Dense d m = eqb m (4 * d)
+fits Float64Dense d m = eqb m (8 * d)
+fits Float32Sparse d m = eqb (m % 8) 0
+fits Float1Bit d m = eqb m (ceil d 8)
+fits Float8 d m = eqb m (4 * ceil d 4 + 8)
+
+-- whether the length of a blob's body does not fit its kind and dims; after a sparse body the dims need four bytes
+abbrev pub unfit : VectorType → List ℕ → Bool
+unfolding before dimsOf lengthOf fits
+unfit k s = not (fits k (dimsOf k s) (lengthOf k s)) || (is 9 k && not (eqb (before s) (4 + lengthOf k s)))
+
+-- bit i of a 1-bit body: byte i / 8, place i mod 8
+abbrev pub bitAt : List ℕ → ℕ → ℕ
+bitAt s i = getD s (i / 8) 0 / 2 ^ (i % 8) % 2

@@ -1,0 +1,7 @@
+pub mod Answers
+pub mod Search
+pub mod Layout
+pub mod Read
+pub mod Parts
+pub mod Write
+pub mod Examples

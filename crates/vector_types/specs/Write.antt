@@ -1,0 +1,68 @@
+-- What the writer answers and leaves: the form of each kind, and document 01's refusals in the writer's order.
+use Prim.Native.Nat.{ℕ, _+_, _-_, _*_, _/_, _%_}
+use mathlib.Core.Bool.{Bool, cond, not, _&&_}
+use mathlib.Core.List.{List, [], _∷_, _++_}
+use lib.Dec.{ltb, eqb}
+use lib.ListN.{length}
+use Rattle.promises.specs.Onto.{onto}
+use Rattle.elements.specs.Bytes.{bytesOf}
+use Rattle.vector_types.specs.Answers.{Test, test, firstOf, unless, written, unwritten, short}
+use Rattle.vector_types.specs.Search.{some}
+use Rattle.vector_types.specs.Layout.{longest, mostDims, ceil, is, counted, fits, outside}
+use Rattle.vector_types.specs.declared.VectorType.{VectorType}
+use Rattle.vector_types.specs.declared.VectorType.the-variants.{Float32Dense, Float64Dense, Float32Sparse, Float1Bit, Float8}
+use Rattle.vector_types.specs.declared.WriteAnswer.{WriteAnswer}
+use Rattle.vector_types.specs.declared.WriteAnswer.the-variants.{Written, Refused, Short}
+
+-- what stands between a 1-bit body of m bytes and its count: one zero byte after an even body
+abbrev pub filler : ℕ → List ℕ
+filler m = cond (eqb (m % 2) 0) (0 ∷ []) []
+
+-- the trailing counts: bits of all that stands before the type byte, and bytes up to a multiple of 4
+abbrev pub trailingBits : ℕ → ℕ
+trailingBits d = 8 * (ceil d 8 + length (filler (ceil d 8)) + 1) - d
+
+abbrev pub trailingBytes : ℕ → ℕ
+trailingBytes d = 4 * ceil d 4 - d
+
+-- what follows the body of a vector of d elements
+unfoldable pub tailOf : VectorType → ℕ → List ℕ
+tailOf Float32Dense d = []
+tailOf Float64Dense d = 2 ∷ []
+tailOf Float32Sparse d = bytesOf 4 d ++ (9 ∷ [])
+tailOf Float1Bit d = filler (ceil d 8) ++ (trailingBits d ∷ 3 ∷ [])
+tailOf Float8 d = 0 ∷ trailingBytes d ∷ 4 ∷ []
+
+-- the blob of a kind, dims and body
+unfoldable pub blobOf : VectorType → ℕ → List ℕ → List ℕ
+unfolding tailOf
+blobOf k d body = body ++ tailOf k d
+
+-- the refusals of the writer, but for a buffer that is too short
+unfoldable pub writeRefusals : VectorType → ℕ → List ℕ → List Test
+unfolding fits blobOf
+writeRefusals k d body =
+    let entries = length body / 8 in
+    test 9 (ltb mostDims d)
+    ∷ test 7 (not (fits k d (length body)))
+    ∷ test 1 (ltb longest (length (blobOf k d body)))
+    ∷ test 8 (is 9 k && some (outside body entries d) entries)
+    ∷ test 16 (counted k && eqb d 0)
+    ∷ []
+
+-- the answer where the buffer has `room` bytes: 15, the last refusal, carries the blob's length
+unfoldable pub writeOf : VectorType → ℕ → List ℕ → ℕ → WriteAnswer
+unfolding writeRefusals blobOf
+writeOf k d body room =
+    let need = length (blobOf k d body) in
+    unless (firstOf (writeRefusals k d body)) unwritten (cond (ltb room need) (short need) (written need))
+
+-- the buffer afterwards: the blob over its first bytes if it is written, else as it was
+abbrev pub leftBy : WriteAnswer → List ℕ → List ℕ → List ℕ
+leftBy (Written n) blob out = onto blob out
+leftBy (Refused r) blob out = out
+leftBy (Short need) blob out = out
+
+unfoldable pub leftOf : VectorType → ℕ → List ℕ → List ℕ → List ℕ
+unfolding writeOf blobOf
+leftOf k d body out = leftBy (writeOf k d body (length out)) (blobOf k d body) out

@@ -1,0 +1,59 @@
+// Blobs: the five kinds, reading, strict reading, the parts of a blob, and writing.
+mod parts;
+mod reading;
+mod strictness;
+mod writing;
+
+pub use parts::body;
+pub use parts::indices;
+pub use parts::values;
+pub use reading::read;
+pub use strictness::read_strict;
+pub use writing::write;
+
+// The kinds of vectors, in the order of the Rust.
+pub enum VectorType {
+    Float32Dense,
+    Float64Dense,
+    Float32Sparse,
+    Float1Bit,
+    Float8,
+}
+
+// How many elements a vector has.
+pub struct Dims(pub usize);
+
+// How many bits of a 1-bit blob, its type byte apart, stand for no element.
+pub struct TrailingBits(pub usize);
+
+// How many bytes of a Float8 body stand between its elements and alpha.
+pub struct TrailingBytes(pub usize);
+
+// What an accepted blob shows: its body is its first `length` bytes.
+pub struct View {
+    pub kind: VectorType,
+    pub dims: Dims,
+    pub length: usize,
+}
+
+// Why something is refused: the number of the rules.
+pub struct Refusal {
+    pub number: u8,
+}
+
+pub enum ReadAnswer {
+    View(View),
+    Refused(Refusal),
+}
+
+// A blob's length, a refusal, or how long the buffer would have to be: refusal 15.
+pub enum WriteAnswer {
+    Written(usize),
+    Refused(Refusal),
+    Short(usize),
+}
+
+// The longest blob, and the most elements of a vector.
+pub const LONGEST: usize = 524293;
+
+pub const MOST_DIMS: usize = 65536;

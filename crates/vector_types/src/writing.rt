@@ -1,0 +1,219 @@
+// Writing a blob from its kind, dims and body.
+ghost use mathlib.Core.Path.{_≡_};
+ghost use Prim.Native.Nat.{_/_, _≤_};
+ghost use mathlib.Core.Bool.{_&&_};
+ghost use lib.Dec.{eqb};
+ghost use lib.ListN.{length};
+ghost use Rattle.promises.specs.Onto.{onto};
+ghost use Rattle.vector_types.specs.Answers.{refusal, firstOf, unless};
+ghost use Rattle.vector_types.specs.Search.{some};
+ghost use Rattle.vector_types.specs.Layout.{mostDims, is, counted, fits, outside};
+ghost use Rattle.vector_types.specs.Write.{filler, trailingBits, trailingBytes, tailOf, blobOf, writeRefusals, writeOf, leftOf};
+ghost use Rattle.vector_types.specs.declared.VectorType.the-variants.{Float32Sparse, Float1Bit, Float8};
+ghost use Rattle.vector_types.specs.declared.writing.Size.the-variants.{Bytes, Refused};
+use crate::Dims;
+use crate::LONGEST;
+use crate::MOST_DIMS;
+use crate::Refusal;
+use crate::TrailingBits;
+use crate::TrailingBytes;
+use crate::VectorType;
+use crate::WriteAnswer;
+use crate::reading::align4;
+use crate::reading::first_outside;
+
+// How long a blob is to be, or why there is none.
+pub enum Size {
+    Bytes(usize),
+    Refused(Refusal),
+}
+
+fn refuse(number: u8) -> Size
+    ensures { λ r. ⌜ r ≡ Refused (refusal number) ⌝ }
+{
+    Size::Refused(Refusal { number })
+}
+
+// Whether a body of so many bytes is what a vector of this kind and dims has.
+fn is_fit(kind: VectorType, dims: Dims, size: usize) -> bool
+    requires { ⌜ dims .0 ≤ mostDims ⌝ }
+    ensures { λ r. ⌜ r ≡ fits kind (dims .0) size ⌝ }
+{
+    match kind {
+        VectorType::Float32Dense => size == 4 * dims.0,
+        VectorType::Float64Dense => size == 8 * dims.0,
+        VectorType::Float32Sparse => size % 8 == 0,
+        VectorType::Float1Bit => size == (dims.0 + 7) / 8,
+        VectorType::Float8 => size == align4(dims.0) + 8,
+    }
+}
+
+// How many zero bytes stand between a 1-bit body and its count.
+fn fill(size: usize) -> usize
+    ensures { λ r. ⌜ r ≡ length (filler size) ⌝ }
+{
+    1 - size % 2
+}
+
+// The count of a 1-bit blob, and of a Float8 one.
+fn trailing_bits(dims: Dims) -> TrailingBits
+    requires { ⌜ dims .0 ≤ mostDims ⌝ }
+    ensures { λ r. ⌜ r .0 ≡ trailingBits (dims .0) ⌝ }
+{
+    let size = (dims.0 + 7) / 8;
+    TrailingBits(8 * (size + fill(size) + 1) - dims.0)
+}
+
+fn trailing_bytes(dims: Dims) -> TrailingBytes
+    requires { ⌜ dims .0 ≤ mostDims ⌝ }
+    ensures { λ r. ⌜ r .0 ≡ trailingBytes (dims .0) ⌝ }
+{
+    TrailingBytes(align4(dims.0) - dims.0)
+}
+
+// How many bytes follow the body.
+fn tail_length(kind: VectorType, dims: Dims) -> usize
+    requires { ⌜ dims .0 ≤ mostDims ⌝ }
+    ensures { λ r. ⌜ r ≡ length (tailOf kind (dims .0)) ⌝ }
+{
+    match kind {
+        VectorType::Float32Dense => 0,
+        VectorType::Float64Dense => 1,
+        VectorType::Float32Sparse => 5,
+        VectorType::Float1Bit => 2 + fill((dims.0 + 7) / 8),
+        VectorType::Float8 => 3,
+    }
+}
+
+// Whether an index of a sparse body is not below dims.
+fn is_outside(kind: VectorType, dims: Dims, body: &[u8]) -> bool
+    ensures { λ r. ⌜ r ≡ (is 9 kind && some (outside (now (body .entry)) (length (now (body .entry)) / 8) (dims .0)) (length (now (body .entry)) / 8)) ⌝ }
+{
+    match kind {
+        VectorType::Float32Sparse => {
+            let count = body.len() / 8;
+            first_outside(body, count, dims.0) < count
+        }
+        VectorType::Float32Dense => false,
+        VectorType::Float64Dense => false,
+        VectorType::Float1Bit => false,
+        VectorType::Float8 => false,
+    }
+}
+
+// Whether there is no element, in a kind that must have one.
+fn is_empty(kind: VectorType, dims: Dims) -> bool
+    ensures { λ r. ⌜ r ≡ (counted kind && eqb (dims .0) 0) ⌝ }
+{
+    match kind {
+        VectorType::Float1Bit => dims.0 == 0,
+        VectorType::Float8 => dims.0 == 0,
+        VectorType::Float32Dense => false,
+        VectorType::Float64Dense => false,
+        VectorType::Float32Sparse => false,
+    }
+}
+
+// How long the blob is, or the first refusal in the writer's order, a short buffer apart.
+fn measure(kind: VectorType, dims: Dims, body: &[u8]) -> Size
+    ensures { λ r. ⌜ r ≡ unless (firstOf (writeRefusals kind (dims .0) (now (body .entry)))) Refused (Bytes (length (blobOf kind (dims .0) (now (body .entry))))) ⌝ }
+{
+    if MOST_DIMS < dims.0 {
+        return refuse(9);
+    }
+    if !is_fit(kind, dims, body.len()) {
+        return refuse(7);
+    }
+    let length = body.len() + tail_length(kind, dims);
+    if LONGEST < length {
+        return refuse(1);
+    }
+    if is_outside(kind, dims, body) {
+        return refuse(8);
+    }
+    if is_empty(kind, dims) {
+        return refuse(16);
+    }
+    Size::Bytes(length)
+}
+
+// Puts the end of a 1-bit blob at the start of out, and of a Float8 one, and of a sparse one.
+fn put_one_bit_tail(dims: Dims, out: &mut [u8])
+    requires { ⌜ dims .0 ≤ mostDims ⌝ }
+    requires { ⌜ length (tailOf Float1Bit (dims .0)) ≤ length (now out) ⌝ }
+    ensures { λ _. ⌜ now (out .exit) ≡ onto (tailOf Float1Bit (dims .0)) (now (out .entry)) ⌝ }
+{
+    let t = trailing_bits(dims).0 as u8;
+    if fill((dims.0 + 7) / 8) == 0 {
+        out[0] = t;
+        out[1] = 3;
+    } else {
+        out[0] = 0;
+        out[1] = t;
+        out[2] = 3;
+    }
+}
+
+fn put_float8_tail(dims: Dims, out: &mut [u8])
+    requires { ⌜ dims .0 ≤ mostDims ⌝ }
+    requires { ⌜ length (tailOf Float8 (dims .0)) ≤ length (now out) ⌝ }
+    ensures { λ _. ⌜ now (out .exit) ≡ onto (tailOf Float8 (dims .0)) (now (out .entry)) ⌝ }
+{
+    out[0] = 0;
+    out[1] = trailing_bytes(dims).0 as u8;
+    out[2] = 4;
+}
+
+fn put_sparse_tail(dims: Dims, out: &mut [u8])
+    requires { ⌜ dims .0 ≤ mostDims ⌝ }
+    requires { ⌜ length (tailOf Float32Sparse (dims .0)) ≤ length (now out) ⌝ }
+    ensures { λ _. ⌜ now (out .exit) ≡ onto (tailOf Float32Sparse (dims .0)) (now (out .entry)) ⌝ }
+{
+    elements::put_u32(out, 0, dims.0 as u32);
+    out[4] = 9;
+}
+
+// Puts what follows the body at the start of out.
+fn put_tail(kind: VectorType, dims: Dims, out: &mut [u8])
+    requires { ⌜ dims .0 ≤ mostDims ⌝ }
+    requires { ⌜ length (tailOf kind (dims .0)) ≤ length (now out) ⌝ }
+    ensures { λ _. ⌜ now (out .exit) ≡ onto (tailOf kind (dims .0)) (now (out .entry)) ⌝ }
+{
+    match kind {
+        VectorType::Float32Dense => {}
+        VectorType::Float64Dense => {
+            out[0] = 2;
+        }
+        VectorType::Float32Sparse => put_sparse_tail(dims, out),
+        VectorType::Float1Bit => put_one_bit_tail(dims, out),
+        VectorType::Float8 => put_float8_tail(dims, out),
+    }
+}
+
+// Puts the blob at the start of out.
+fn put_blob(kind: VectorType, dims: Dims, body: &[u8], out: &mut [u8])
+    requires { ⌜ dims .0 ≤ mostDims ⌝ }
+    requires { ⌜ length (blobOf kind (dims .0) (now body)) ≤ length (now out) ⌝ }
+    ensures { λ _. ⌜ now (out .exit) ≡ onto (blobOf kind (dims .0) (now (body .entry))) (now (out .entry)) ⌝ }
+{
+    let size = bytes::copy(body, out);
+    put_tail(kind, dims, &mut out[size..]);
+}
+
+// Puts the blob of a kind, dims and body at the start of out and answers its length; a refusal
+// changes nothing.
+pub fn write(kind: VectorType, dims: Dims, body: &[u8], out: &mut [u8]) -> WriteAnswer
+    ensures { λ r. ⌜ r ≡ writeOf kind (dims .0) (now (body .entry)) (length (now (out .entry))) ⌝ }
+    ensures { λ _. ⌜ now (out .exit) ≡ leftOf kind (dims .0) (now (body .entry)) (now (out .entry)) ⌝ }
+{
+    match measure(kind, dims, body) {
+        Size::Bytes(length) => {
+            if out.len() < length {
+                return WriteAnswer::Short(length);
+            }
+            put_blob(kind, dims, body, out);
+            WriteAnswer::Written(length)
+        }
+        Size::Refused(refusal) => WriteAnswer::Refused(refusal),
+    }
+}
