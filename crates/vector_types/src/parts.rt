@@ -40,7 +40,10 @@ fn half(blob: &[u8]) -> usize
     ensures { λ r. ⌜ 2 * r ≤ length (now (blob .entry)) ⌝ }
 {
     match read(blob) {
-        ReadAnswer::View(view) => half_of(view.kind, view.length),
+        ReadAnswer::View(view) => {
+            let kind = view.kind;
+            half_of(kind, view.length)
+        }
         ReadAnswer::Refused(_) => 0,
     }
 }
