@@ -1,2 +1,3 @@
 -- Laws of blobs
 pub mod Search
+pub mod Views
