@@ -1,18 +1,15 @@
 -- Document 01's examples of reading, and examples of strict reading and of writing: one table each, and one statement about all of them, which antt computes.
 use mathlib.Core.Path.{_≡_, refl}
-use mathlib.Core.List.{List, [], _∷_}
+use mathlib.Core.List.{List, _∷_}
 use Prim.Native.Nat.{ℕ}
-use Rattle.elements.specs.Bytes.{numberAt, bytesOf}
-use Rattle.vector_types.specs.Answers.{seen, refused, refusal, written, unwritten, short}
+use Rattle.elements.specs.Bytes.{numberAt}
+use Rattle.vector_types.specs.Answers.{seen, refused, refusal}
 use Rattle.vector_types.specs.Search.{firstFrom}
 use Rattle.vector_types.specs.Layout.{named, byByte, before, dimsOf, lengthOf, fits}
-use Rattle.vector_types.specs.Read.{readOf, strictOf, refusals, strictRefusals, shown}
+use Rattle.vector_types.specs.Read.{readOf, refusals, shown}
 use Rattle.vector_types.specs.Parts.{bodyOf}
-use Rattle.vector_types.specs.Write.{writeOf, writeRefusals, leftOf, blobOf, tailOf}
-use Rattle.vector_types.specs.declared.VectorType.{VectorType}
-use Rattle.vector_types.specs.declared.VectorType.the-variants.{Float32Dense, Float64Dense, Float32Sparse, Float1Bit, Float8}
+use Rattle.vector_types.specs.declared.VectorType.the-variants.{Float32Dense, Float32Sparse, Float1Bit, Float8}
 use Rattle.vector_types.specs.declared.ReadAnswer.{ReadAnswer}
-use Rattle.vector_types.specs.declared.WriteAnswer.{WriteAnswer}
 
 -- a blob, what the plain reader answers, and the body shown
 pub record Example : Type 0 where

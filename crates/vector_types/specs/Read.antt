@@ -1,8 +1,8 @@
 -- What reading a blob answers: document 01's refusals in their order, each with its 'given exactly when'; the first that holds
 -- answers, and where none does, the view by the blob's row of the layout table.
 use Prim.Native.Nat.{ℕ, zero, suc, _+_, _-_, _*_}
-use mathlib.Core.Bool.{Bool, true, false, not, _&&_, _||_}
-use mathlib.Core.List.{List, [], _∷_, _++_}
+use mathlib.Core.Bool.{Bool, true, false, _&&_, _||_}
+use mathlib.Core.List.{List, _∷_, _++_}
 use lib.Dec.{ltb, leb, eqb}
 use lib.ListN.{length}
 use Rattle.vector_types.specs.Answers.{Test, test, firstOf, unless, seen, refused, refusal}

@@ -1,34 +1,40 @@
+-- That the width divides n is n = width * (n / width), by `div-add-mod`.
+use mathlib.Core.Path.{_≡_}
+use Prim.Native.Nat.{ℕ, _*_, _/_, _%_}
+use native.Mathlib.Nat.{div-add-mod}
+use native.Mathlib.Omega.{arith}
+use borrow.Author.Tests.{eq-eqb, ne-eqb}
+use borrow.Author.Needs.{needs}
 use borrow.Author.Needs.{needs}
 use Rattle.vector_types.proofs.reading.dense.Statement.{statement}
 use Rattle.vector_types.proofs.reading.dense.Tie as tie
-use Rattle.vector_types.proofs.reading.dense.Reads as reads
-use Rattle.vector_types.proofs.reading.dense.Lts as lts
-use Rattle.vector_types.proofs.reading.refuse.Reads as refuse-reads
-use Rattle.vector_types.proofs.reading.show.Reads as show-reads
 
--- src/reading.rt:45:8
+times : (n w : ℕ) → n % w ≡ 0 → n ≡ w * (n / w)
+times n w e = omega (arith, e, div-add-mod n w)
+
+rest : (n w : ℕ) → n ≡ w * (n / w) → n % w ≡ 0
+rest n w e = omega (arith, e, div-add-mod n w)
+
 rem-if1 : tie.Need-rem-if1
 rem-if1 c = search needs
 
--- src/reading.rt:46:9
 refuse-requires : tie.Need-refuse-requires
 refuse-requires c κs = search needs
 
--- src/reading.rt:46:9
 returns : tie.Need-returns
-returns c = ?
+returns c = let a = c .before .before .args in
+    let uneven : a .n ≡ a .width * (a .n / a .width) → ⊥ = λ e. c .before .if1 .taken (rest (a .n) (a .width) e) in
+    rw (ne-eqb _ _ uneven) (c .refuse .ensures)
 
--- src/reading.rt:48:21
 div-t4 : tie.Need-div-t4
 div-t4 c = search needs
 
--- src/reading.rt:48:5
 show-requires : tie.Need-show-requires
 show-requires c κs = search needs
 
--- src/reading.rt:40:1
 returns-2 : tie.Need-returns-2
-returns-2 c = ?
+returns-2 c = let a = c .before .before .args in
+    rw (eq-eqb _ _ (times (a .n) (a .width) (c .before .if1 .left))) (c .show .ensures)
 
 pub dense-spec : {M : Type 1} → statement M
 dense-spec = tie.close (tie.spec rem-if1 refuse-requires returns div-t4 show-requires returns-2)

@@ -1,101 +1,81 @@
+-- By the length and the type byte to the laws of the kinds.
+use mathlib.Core.Path.{refl, sym, _∙_}
+use Rattle.vector_types.proofs.ByKind.{read-long, read-dense32, read-dense64, read-unsupported, read-unknown, before-even, before-odd, named-even, named-kind, named-5, named-6, named-other}
+use Rattle.vector_types.specs.declared.VectorType.the-variants.{Float32Dense, Float64Dense, Float32Sparse, Float1Bit, Float8}
+use borrow.Author.Needs.{needs}
 use borrow.Author.Needs.{needs}
 use Rattle.vector_types.proofs.reading.read.Statement.{statement}
 use Rattle.vector_types.proofs.reading.read.Tie as tie
-use Rattle.vector_types.proofs.reading.read.Reads as reads
-use Rattle.vector_types.proofs.reading.read.Lts as lts
-use Rattle.vector_types.proofs.reading.dense.Reads as dense-reads
-use Rattle.vector_types.proofs.reading.float8.Reads as float8-reads
-use Rattle.vector_types.proofs.reading.one_bit.Reads as one-bit-reads
-use Rattle.vector_types.proofs.reading.refuse.Reads as refuse-reads
-use Rattle.vector_types.proofs.reading.sparse.Reads as sparse-reads
 
--- src/reading.rt:153:9
 refuse-requires : tie.Need-refuse-requires
 refuse-requires c κs = search needs
 
--- src/reading.rt:153:9
 returns : tie.Need-returns
-returns c = ?
+returns c = c .refuse .ensures ∙ sym (read-long _ (c .before .if1 .taken))
 
--- src/reading.rt:156:9
 dense-requires : tie.Need-dense-requires
 dense-requires c κs = search needs
 
--- src/reading.rt:156:9
 returns-2 : tie.Need-returns-2
-returns-2 c = ?
+returns-2 c = let even = c .before .if2 .taken in
+    c .dense .ensures ∙ sym (read-dense32 _ (c .before .before .if1 .left) _ (named-even _ even) (before-even _ even))
 
--- src/reading.rt:158:13
 sub-n : tie.Need-sub-n
 sub-n c = search needs
 
--- src/reading.rt:159:16
 shared-slice-read-byte : tie.Need-shared-slice-read-byte
 shared-slice-read-byte c = search needs
 
--- src/reading.rt:161:14
 dense-requires-2 : tie.Need-dense-requires-2
 dense-requires-2 c κs = search needs
 
--- src/reading.rt:162:14
 dense-requires-3 : tie.Need-dense-requires-3
 dense-requires-3 c κs = search needs
 
--- src/reading.rt:163:14
 one-bit-requires : tie.Need-one-bit-requires
-one-bit-requires c κs = ?
+one-bit-requires c κs = (c .before .before .before .if1 .left, named-kind _ (c .before .before .if2 .left) Float1Bit (c .match .keys3))
 
--- src/reading.rt:164:14
 float8-requires : tie.Need-float8-requires
-float8-requires c κs = ?
+float8-requires c κs = (c .before .before .before .if1 .left, named-kind _ (c .before .before .if2 .left) Float8 (c .match .keys4))
 
--- src/reading.rt:165:14
 refuse-requires-2 : tie.Need-refuse-requires-2
 refuse-requires-2 c κs = search needs
 
--- src/reading.rt:166:14
 refuse-requires-3 : tie.Need-refuse-requires-3
 refuse-requires-3 c κs = search needs
 
--- src/reading.rt:167:14
 sparse-requires : tie.Need-sparse-requires
-sparse-requires c κs = ?
+sparse-requires c κs = (c .before .before .before .if1 .left, named-kind _ (c .before .before .if2 .left) Float32Sparse (c .match .keys7))
 
--- src/reading.rt:168:14
 refuse-requires-4 : tie.Need-refuse-requires-4
 refuse-requires-4 c κs = search needs
 
--- src/reading.rt:148:1
 returns-3 : tie.Need-returns-3
-returns-3 c = ?
+returns-3 c = let odd = c .before .before .before .if2 .left in
+    c .dense2 .ensures ∙ sym (read-dense32 _ (c .before .before .before .before .if1 .left) _ (named-kind _ (c .before .before .before .if2 .left) Float32Dense (c .before .match .keys1)) (before-odd _ odd))
 
--- src/reading.rt:148:1
 returns-4 : tie.Need-returns-4
-returns-4 c = ?
+returns-4 c = c .dense3 .ensures ∙ sym (read-dense64 _ (c .before .before .before .before .if1 .left) (named-kind _ (c .before .before .before .if2 .left) Float64Dense (c .before .match .keys2)))
 
--- src/reading.rt:148:1
 returns-5 : tie.Need-returns-5
 returns-5 c = search needs
 
--- src/reading.rt:148:1
 returns-6 : tie.Need-returns-6
 returns-6 c = search needs
 
--- src/reading.rt:148:1
 returns-7 : tie.Need-returns-7
-returns-7 c = ?
+returns-7 c = c .refuse2 .ensures ∙ sym (read-unsupported _ (c .before .before .before .before .if1 .left) (named-5 _ (c .before .before .before .if2 .left) (c .before .match .keys5)))
 
--- src/reading.rt:148:1
 returns-8 : tie.Need-returns-8
-returns-8 c = ?
+returns-8 c = c .refuse3 .ensures ∙ sym (read-unsupported _ (c .before .before .before .before .if1 .left) (named-6 _ (c .before .before .before .if2 .left) (c .before .match .keys6)))
 
--- src/reading.rt:148:1
 returns-9 : tie.Need-returns-9
 returns-9 c = search needs
 
--- src/reading.rt:148:1
 returns-10 : tie.Need-returns-10
-returns-10 c = ?
+returns-10 c = let r = c .before .match .rest in
+    c .refuse4 .ensures ∙ sym (read-unknown _ (c .before .before .before .before .if1 .left) (named-other _ (c .before .before .before .if2 .left) _ refl
+    (r .0 .0 .0 .0 .0 .0 .1) (r .0 .0 .0 .0 .0 .1) (r .0 .0 .0 .0 .1) (r .0 .0 .0 .1) (r .0 .0 .1) (r .0 .1) (r .1)))
 
 pub read-spec : {M : Type 1} → statement M
 read-spec =
