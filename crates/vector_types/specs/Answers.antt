@@ -1,7 +1,7 @@
 -- Answers of the reader and the writer, and the first of several refusals that is given.
 use Prim.Native.Nat.{ℕ}
 use mathlib.Core.Bool.{Bool, true, false, cond}
-use mathlib.Core.List.{List, _∷_}
+use mathlib.Core.List.{List, [], _∷_}
 use Rattle.vector_types.specs.declared.VectorType.{VectorType}
 use Rattle.vector_types.specs.declared.Dims.{Dims}
 use Rattle.vector_types.specs.declared.Refusal.{Refusal}

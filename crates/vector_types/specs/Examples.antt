@@ -1,6 +1,6 @@
 -- Document 01's examples of reading, and examples of strict reading and of writing: one table each, and one statement about all of them, which antt computes.
 use mathlib.Core.Path.{_≡_, refl}
-use mathlib.Core.List.{List, _∷_}
+use mathlib.Core.List.{List, [], _∷_}
 use Prim.Native.Nat.{ℕ}
 use Rattle.elements.specs.Bytes.{numberAt}
 use Rattle.vector_types.specs.Answers.{seen, refused, refusal}

@@ -2,7 +2,7 @@
 -- answers, and where none does, the view by the blob's row of the layout table.
 use Prim.Native.Nat.{ℕ, zero, suc, _+_, _-_, _*_}
 use mathlib.Core.Bool.{Bool, true, false, _&&_, _||_}
-use mathlib.Core.List.{List, _∷_, _++_}
+use mathlib.Core.List.{List, [], _∷_, _++_}
 use lib.Dec.{ltb, leb, eqb}
 use lib.ListN.{length}
 use Rattle.vector_types.specs.Answers.{Test, test, firstOf, unless, seen, refused, refusal}
