@@ -5,7 +5,11 @@ use Rattle.promises.specs.Determined.{Determined}
 use Rattle.lines.proofs.hex.digit.Reads as digit
 use Rattle.lines.proofs.hex.pattern.Reads as pattern
 use Rattle.lines.proofs.hex.put_hex.Reads as put-hex
+use Rattle.lines.proofs.hex.bytes.Reads as bytes
+use Rattle.lines.proofs.hex.put_bytes.Reads as put-bytes
 use Rattle.lines.proofs.text.field_end.Reads as field-end
+use Rattle.lines.proofs.text.numeral.Reads as numeral
+use Rattle.lines.proofs.text.put_decimal.Reads as put-decimal
 use Rattle.lines.proofs.text.put_head.Reads as put-head
 use Rattle.lines.proofs.stream.start.Reads as start
 use Rattle.lines.proofs.stream.next.Reads as next
@@ -21,8 +25,20 @@ pattern-determined κs a r r′ x x′ p q = p ∙ sym q
 pub put-hex-determined : (κs : _) (a : _) → Determined (put-hex.Post κs a) (λ r x. r) × Determined (put-hex.Post κs a) (λ r x. now (x .1 .1 .0))
 put-hex-determined κs a = (λ r r′ x x′ p q. p .0 ∙ sym (q .0), λ r r′ x x′ p q. p .1 ∙ sym (q .1))
 
+pub bytes-determined : (κs : _) (a : _) → Determined (bytes.Post κs a) (λ r x. r) × Determined (bytes.Post κs a) (λ r x. now (x .1 .0))
+bytes-determined κs a = (λ r r′ x x′ p q. p .0 ∙ sym (q .0), λ r r′ x x′ p q. p .1 .0 ∙ sym (q .1 .0))
+
+pub put-bytes-determined : (κs : _) (a : _) → Determined (put-bytes.Post κs a) (λ r x. r) × Determined (put-bytes.Post κs a) (λ r x. now (x .1 .0))
+put-bytes-determined κs a = (λ r r′ x x′ p q. p .0 ∙ sym (q .0), λ r r′ x x′ p q. p .1 .0 ∙ sym (q .1 .0))
+
 pub field-end-determined : (κs : _) (a : _) → Determined (field-end.Post κs a) (λ r x. r)
 field-end-determined κs a r r′ x x′ p q = p .0 ∙ sym (q .0)
+
+pub numeral-determined : (κs : _) (a : _) → Determined (numeral.Post κs a) (λ r x. r)
+numeral-determined κs a r r′ x x′ p q = p ∙ sym q
+
+pub put-decimal-determined : (κs : _) (a : _) → Determined (put-decimal.Post κs a) (λ r x. r) × Determined (put-decimal.Post κs a) (λ r x. now (x .1 .0))
+put-decimal-determined κs a = (λ r r′ x x′ p q. p .0 ∙ sym (q .0), λ r r′ x x′ p q. p .1 .0 ∙ sym (q .1 .0))
 
 pub put-head-determined : (κs : _) (a : _) → Determined (put-head.Post κs a) (λ r x. r) × Determined (put-head.Post κs a) (λ r x. now (x .1 .0))
 put-head-determined κs a = (λ r r′ x x′ p q. p .0 ∙ sym (q .0), λ r r′ x x′ p q. p .1 .0 ∙ sym (q .1 .0))

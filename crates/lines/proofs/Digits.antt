@@ -1,32 +1,39 @@
--- Laws of `hexFrom`: a turn of the loop that reads digits, its ends, and what a number that was read says of the text.
+-- Laws of `numberFrom`: a turn of the loop that reads digits, its ends, and what a number that was read says of the text.
 use mathlib.Core.Path.{_≡_, refl, sym, ap, subst}
-use mathlib.Core.Bool.{Bool, true, false, cond}
+use mathlib.Core.Bool.{Bool, true, false, cond, _&&_, false≢true}
 use mathlib.Core.List.{List, [], _∷_}
 use Prim.Native.Nat.{ℕ, suc, _+_, _*_, _^_, _<_, _≤_}
 use native.Mathlib.Omega.{arith}
-use native.Mathlib.Nat.{pow-succ', mul-le-mul-right, mul-assoc}
+use native.Mathlib.Nat.{pow-zero, pow-succ', pow-suc, pow-le-pow-right, mul-le-mul-right, mul-assoc}
 use native.Mathlib.Numerals.{add-one}
-use borrow.Author.Tests.{lt-ltb, le-ltb, ltb-true, eqb-true}
-use lib.Dec.{ltb, eqb}
+use borrow.Author.Tests.{lt-ltb, le-ltb, ltb-true, leb-true, eqb-true}
+use lib.Dec.{ltb, leb, eqb, lit<}
 use lib.ListN.{length, getD, drop, drop-of-length-le}
 use lib.Seq.{drop-cons}
 use Rattle.bytes.specs.Bytes.{indexOf, indexAfter}
-use Rattle.lines.specs.Hex.{digitOf, hexFrom, patternOf}
+use Rattle.lines.specs.Hex.{digitOf, numberFrom, patternOf, hexFrom}
+use Rattle.lines.specs.Decimal.{numeralOf}
 use Rattle.lines.specs.declared.hex.Found.{Found}
 use Rattle.lines.specs.declared.hex.Found.the-variants.{Number, Nothing}
 
-pub hex-digit : (n : ℕ) (s : List ℕ) (i : ℕ) → i < length s → digitOf (getD s i 0) < 16
-    → hexFrom n (drop i s) ≡ hexFrom (n * 16 + digitOf (getD s i 0)) (drop (i + 1) s)
-unfolding hexFrom
-hex-digit n s i h d = rw (add-one, drop-cons s i 0, lt-ltb (digitOf (getD s i 0)) 16 d)
+module _ (base n : ℕ) (s : List ℕ) (i : ℕ) where
+  pub one-digit : {d : ℕ} → i < length s → d ≡ digitOf (getD s i 0) → d < base → numberFrom base n (drop i s) ≡ numberFrom base (n * base + d) (drop (i + 1) s)
+  unfolding numberFrom
+  one-digit {d} h e less = rw (add-one, drop-cons s i 0, ← e, lt-ltb d base less)
 
-pub hex-other : (n : ℕ) (s : List ℕ) (i : ℕ) → i < length s → 16 ≤ digitOf (getD s i 0) → hexFrom n (drop i s) ≡ Nothing
-unfolding hexFrom
-hex-other n s i h d = rw (drop-cons s i 0, le-ltb (digitOf (getD s i 0)) 16 d)
+  pub no-digit : {d : ℕ} → i < length s → d ≡ digitOf (getD s i 0) → base ≤ d → numberFrom base n (drop i s) ≡ Nothing
+  unfolding numberFrom
+  no-digit {d} h e big = rw (drop-cons s i 0, ← e, le-ltb d base big)
 
-pub hex-end : (n : ℕ) (s : List ℕ) (i : ℕ) → length s ≤ i → hexFrom n (drop i s) ≡ Number n
-unfolding hexFrom
-hex-end n s i h = rw (drop-of-length-le s h)
+  pub no-more : length s ≤ i → numberFrom base n (drop i s) ≡ Number n
+  unfolding numberFrom
+  no-more h = rw (drop-of-length-le s h)
+
+-- a number of i digits, with one digit more
+pub one-more : (base n d i : ℕ) → n < base ^ i → d < base → n * base + d < base ^ (i + 1)
+one-more base n d i h less =
+    let up : (n + 1) * base ≤ base ^ i * base = mul-le-mul-right base (omega arith) in
+    rw (add-one, pow-suc) (omega arith)
 
 -- what was found is a number, and which
 number : Found → ℕ
@@ -42,48 +49,67 @@ unfolding IsNumber
 nothing-is-none m h = absurd (subst IsNumber (sym h) tt)
 
 -- a number of which n and then k digits were read
-below-step : (t : Bool) (d n m k : ℕ) (s : List ℕ) → ltb d 16 ≡ t → (hexFrom (n * 16 + d) s ≡ Number m → m < (n * 16 + d + 1) * 16 ^ k)
-    → cond t (hexFrom (n * 16 + d) s) Nothing ≡ Number m → m < (n + 1) * 16 ^ suc k
-below-step true d n m k s e ih h =
-    let small : d < 16 = ltb-true d 16 e in
-    let up : (n * 16 + d + 1) * 16 ^ k ≤ (n + 1) * 16 * 16 ^ k = mul-le-mul-right (16 ^ k) (omega arith) in
+below-step : (t : Bool) (base d n m k : ℕ) (s : List ℕ) → ltb d base ≡ t → (numberFrom base (n * base + d) s ≡ Number m → m < (n * base + d + 1) * base ^ k)
+    → cond t (numberFrom base (n * base + d) s) Nothing ≡ Number m → m < (n + 1) * base ^ suc k
+below-step true base d n m k s e ih h =
+    let small : d < base = ltb-true d base e in
+    let up : (n * base + d + 1) * base ^ k ≤ (n + 1) * base * base ^ k = mul-le-mul-right (base ^ k) (omega arith) in
     rw (pow-succ', ← mul-assoc) (omega (arith, ih h))
-below-step false d n m k s e ih h = nothing-is-none m h
+below-step false base d n m k s e ih h = nothing-is-none m h
 
-hex-below : (n m : ℕ) (s : List ℕ) → hexFrom n s ≡ Number m → m < (n + 1) * 16 ^ length s
-unfolding hexFrom number
-hex-below n m [] h = let same : n ≡ m = ap number h in omega arith
-hex-below n m (b ∷ s) h = below-step (ltb (digitOf b) 16) (digitOf b) n m (length s) s refl (hex-below (n * 16 + digitOf b) m s) h
+number-below : (base n m : ℕ) (s : List ℕ) → numberFrom base n s ≡ Number m → m < (n + 1) * base ^ length s
+unfolding numberFrom number
+number-below base n m [] h = let same : n ≡ m = ap number h in rw pow-zero (omega arith)
+number-below base n m (b ∷ s) h =
+    below-step (ltb (digitOf b) base) base (digitOf b) n m (length s) s refl (number-below base (n * base + digitOf b) m s) h
+
+-- the same where the number is found only in a text of some length
+tested-below : (t : Bool) (base m : ℕ) (s : List ℕ) → cond t (numberFrom base 0 s) Nothing ≡ Number m → (m < base ^ length s) × (t ≡ true)
+tested-below true base m s h = (omega (arith, number-below base 0 m s h), refl)
+tested-below false base m s h = nothing-is-none m h
 
 pub pattern-below : (width m : ℕ) (s : List ℕ) → patternOf width s ≡ Number m → m < 16 ^ width
-unfolding patternOf
-pattern-below width m s h = go (eqb (length s) width) refl h
-  where
-    go : (t : Bool) → eqb (length s) width ≡ t → cond t (hexFrom 0 s) Nothing ≡ Number m → m < 16 ^ width
-    go true e p = let size : length s ≡ width = eqb-true _ _ e in rw (← size) (omega (arith, hex-below 0 m s p))
-    go false e p = nothing-is-none m p
+unfolding patternOf hexFrom
+pattern-below width m s h =
+    let (less, e) = tested-below (eqb (length s) width) 16 m s h in
+    rw (← eqb-true (length s) width e) less
 
-none-step : (t u : Bool) (d b x k : ℕ) (s : List ℕ) → eqb x b ≡ t → ltb (digitOf x) 16 ≡ u → 16 ≤ digitOf b
-    → (k < length s → hexFrom d s ≡ Nothing) → indexAfter t k < suc (length s) → cond u (hexFrom d s) Nothing ≡ Nothing
+pub numeral-below : (most m : ℕ) (s : List ℕ) → numeralOf most s ≡ Number m → m < 10 ^ most
+unfolding numeralOf
+numeral-below most m s h =
+    let (less, e) = tested-below (ltb 0 (length s) && leb (length s) most) 10 m s h in
+    let up : 10 ^ length s ≤ 10 ^ most = pow-le-pow-right (lit< tt) (leb-true (length s) most (both (ltb 0 (length s)) _ e)) in
+    omega arith
+  where
+    both : (t u : Bool) → (t && u) ≡ true → u ≡ true
+    both true u e = e
+    both false u e = absurd (false≢true e)
+
+none-step : (t u : Bool) (base d b x k : ℕ) (s : List ℕ) → eqb x b ≡ t → ltb (digitOf x) base ≡ u → base ≤ digitOf b
+    → (k < length s → numberFrom base d s ≡ Nothing) → indexAfter t k < suc (length s) → cond u (numberFrom base d s) Nothing ≡ Nothing
 unfolding indexAfter
-none-step t false d b x k s e f big ih h = refl
-none-step true true d b x k s e f big ih h =
+none-step t false base d b x k s e f big ih h = refl
+none-step true true base d b x k s e f big ih h =
     let same : x ≡ b = eqb-true x b e in
-    let digit : digitOf x < 16 = ltb-true (digitOf x) 16 f in
+    let digit : digitOf x < base = ltb-true (digitOf x) base f in
     absurd (omega (arith, ap digitOf same))
-none-step false true d b x k s e f big ih h = ih (omega arith)
+none-step false true base d b x k s e f big ih h = ih (omega arith)
 
 -- no text with a byte b that is no digit is a number
-hex-none : (b n : ℕ) (s : List ℕ) → 16 ≤ digitOf b → indexOf b s < length s → hexFrom n s ≡ Nothing
-unfolding hexFrom indexOf
-hex-none b n [] big h = absurd (omega arith)
-hex-none b n (x ∷ s) big h =
-    none-step (eqb x b) (ltb (digitOf x) 16) (n * 16 + digitOf x) b x (indexOf b s) s refl refl big (hex-none b (n * 16 + digitOf x) s big) h
+number-none : (base b n : ℕ) (s : List ℕ) → base ≤ digitOf b → indexOf b s < length s → numberFrom base n s ≡ Nothing
+unfolding numberFrom indexOf
+number-none base b n [] big h = absurd (omega arith)
+number-none base b n (x ∷ s) big h =
+    none-step (eqb x b) (ltb (digitOf x) base) base (n * base + digitOf x) b x (indexOf b s) s refl refl big (number-none base b (n * base + digitOf x) s big) h
+
+either : (t : Bool) → cond t Nothing Nothing ≡ Nothing
+either true = refl
+either false = refl
 
 pub pattern-none : (width b : ℕ) (s : List ℕ) → 16 ≤ digitOf b → indexOf b s < length s → patternOf width s ≡ Nothing
-unfolding patternOf
-pattern-none width b s big h = rw (hex-none b 0 s big h) (go (eqb (length s) width))
-  where
-    go : (t : Bool) → cond t Nothing Nothing ≡ Nothing
-    go true = refl
-    go false = refl
+unfolding patternOf hexFrom
+pattern-none width b s big h = rw (number-none 16 b 0 s big h) (either (eqb (length s) width))
+
+pub numeral-none : (most b : ℕ) (s : List ℕ) → 10 ≤ digitOf b → indexOf b s < length s → numeralOf most s ≡ Nothing
+unfolding numeralOf
+numeral-none most b s big h = rw (number-none 10 b 0 s big h) (either (ltb 0 (length s) && leb (length s) most))

@@ -2,6 +2,8 @@
 pub mod Same
 pub mod Digits
 pub mod Spelled
+pub mod Writing
+pub mod Pairs
 pub mod Parting
 pub mod Pieces
 pub mod Whole

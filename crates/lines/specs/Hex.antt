@@ -1,9 +1,10 @@
--- A number in lower-case hexadecimal, the highest digit first.
-use Prim.Native.Nat.{ℕ, _+_, _-_, _*_}
+-- Numbers and bytes in lower-case hexadecimal, the highest digit first.
+use Prim.Native.Nat.{ℕ, _+_, _-_, _*_, _/_, _%_}
 use mathlib.Core.Bool.{Bool, cond, _&&_}
 use mathlib.Core.List.{List, [], _∷_}
 use lib.Dec.{ltb, leb, eqb}
 use lib.ListN.{length}
+use Rattle.io.specs.Digits.{glyph}
 use Rattle.lines.specs.Text.{byte}
 use Rattle.lines.specs.declared.hex.Found.{Found}
 use Rattle.lines.specs.declared.hex.Found.the-variants.{Number, Nothing}
@@ -19,11 +20,32 @@ digitOf b =
     (cond (among (byte "a") (byte "f") b) (b - byte "a" + 10)
     16)
 
--- the number whose digits are those of n and then s
+-- the number whose digits, each below base, are those of n and then s
+unfoldable pub numberFrom : ℕ → ℕ → List ℕ → Found
+numberFrom base n [] = Number n
+numberFrom base n (b ∷ s) = cond (ltb (digitOf b) base) (numberFrom base (n * base + digitOf b) s) Nothing
+
+-- the same in hexadecimal
 unfoldable pub hexFrom : ℕ → List ℕ → Found
-hexFrom n [] = Number n
-hexFrom n (b ∷ s) = cond (ltb (digitOf b) 16) (hexFrom (n * 16 + digitOf b) s) Nothing
+unfolding numberFrom
+hexFrom n s = numberFrom 16 n s
 
 -- the number that s is in exactly width digits
 unfoldable pub patternOf : ℕ → List ℕ → Found
 patternOf width s = cond (eqb (length s) width) (hexFrom 0 s) Nothing
+
+-- the byte that the digits a and b are; 256 where they are not both digits
+unfoldable pub pairOf : ℕ → ℕ → ℕ
+pairOf a b = cond (ltb (digitOf a) 16 && ltb (digitOf b) 16) (digitOf a * 16 + digitOf b) 256
+
+-- the bytes that s spells in two digits each, up to the first two that are not both digits, or a lone last one;
+-- s is a blob in hexadecimal exactly if 2 * length (hexBytes s) ≡ length s
+unfoldable pub hexBytes : List ℕ → List ℕ
+hexBytes [] = []
+hexBytes (a ∷ []) = []
+hexBytes (a ∷ (b ∷ s)) = cond (ltb (pairOf a b) 256) (pairOf a b ∷ hexBytes s) []
+
+-- bytes in two digits each
+unfoldable pub hexOf : List ℕ → List ℕ
+hexOf [] = []
+hexOf (b ∷ s) = glyph (b / 16) ∷ (glyph (b % 16) ∷ hexOf s)

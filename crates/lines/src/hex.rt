@@ -1,9 +1,9 @@
-// Numbers in lower-case hexadecimal, the highest digit first.
+// Numbers and bytes in lower-case hexadecimal, the highest digit first.
 ghost use mathlib.Core.Path.{_≡_};
-ghost use Prim.Native.Nat.{_≤_, _<_, _^_};
+ghost use Prim.Native.Nat.{_*_, _/_, _≤_, _<_, _^_};
 ghost use lib.ListN.{length};
-ghost use Rattle.io.specs.Digits.{digits};
-ghost use Rattle.lines.specs.Hex.{digitOf, patternOf};
+ghost use Rattle.io.specs.Digits.{digits, glyph as Digits·glyph};
+ghost use Rattle.lines.specs.Hex.{digitOf, numberFrom, patternOf, pairOf, hexBytes, hexOf};
 ghost use Rattle.promises.specs.Onto.{onto};
 
 // A number that a text may be.
@@ -31,6 +31,24 @@ pub fn digit(b: u8) -> u64
     16
 }
 
+// The number that s is in digits below base.
+pub(crate) fn number(base: u64, s: &[u8]) -> Found
+    requires { ⌜ base ^ length (now s) ≤ 2 ^ 64 ⌝ }
+    ensures { λ r. ⌜ r ≡ numberFrom base 0 (now (s .entry)) ⌝ }
+{
+    let mut n: u64 = 0;
+    let mut i = 0;
+    while i < s.len() {
+        let d = digit(s[i]);
+        if base <= d {
+            return Found::Nothing;
+        }
+        n = n * base + d;
+        i += 1;
+    }
+    Found::Number(n)
+}
+
 // The number that s is in exactly `width` digits.
 pub fn pattern(width: usize, s: &[u8]) -> Found
     requires { ⌜ width ≤ 16 ⌝ }
@@ -39,17 +57,7 @@ pub fn pattern(width: usize, s: &[u8]) -> Found
     if s.len() != width {
         return Found::Nothing;
     }
-    let mut n: u64 = 0;
-    let mut i = 0;
-    while i < s.len() {
-        let d = digit(s[i]);
-        if 16 <= d {
-            return Found::Nothing;
-        }
-        n = n * 16 + d;
-        i += 1;
-    }
-    Found::Number(n)
+    number(16, s)
 }
 
 // Puts n in `width` digits at the start of out, and answers `width`.
@@ -64,4 +72,66 @@ pub fn put_hex(width: usize, n: u64, out: &mut [u8]) -> usize
     let mut text = [0u8; 16];
     let k = io::hex(n, width, &mut text);
     bytes::copy(&text[..k], out)
+}
+
+// The byte that two digits are, or 256 where they are not both digits.
+fn pair(a: u8, b: u8) -> u64
+    ensures { λ r. ⌜ r ≡ pairOf a b ⌝ }
+{
+    let high = digit(a);
+    let low = digit(b);
+    if 16 <= high {
+        return 256;
+    }
+    if 16 <= low {
+        return 256;
+    }
+    high * 16 + low
+}
+
+// Puts the bytes that s spells at the start of out, and answers how many there are.
+pub fn bytes(s: &[u8], out: &mut [u8]) -> usize
+    requires { ⌜ length (now s) / 2 ≤ length (now out) ⌝ }
+    ensures { λ r. ⌜ r ≡ length (hexBytes (now (s .entry))) ⌝ }
+    ensures { λ _. ⌜ now (out .exit) ≡ onto (hexBytes (now (s .entry))) (now (out .entry)) ⌝ }
+    ensures { λ r. ⌜ 2 * r ≤ length (now (s .entry)) ⌝ }
+{
+    let pairs = s.len() / 2;
+    let mut i = 0;
+    while i < pairs {
+        let at = 2 * i;
+        let b = pair(s[at], s[at + 1]);
+        if 256 <= b {
+            return i;
+        }
+        out[i] = b as u8;
+        i += 1;
+    }
+    i
+}
+
+// The digit of a number below 16.
+fn glyph(d: u8) -> u8
+    requires { ⌜ d < 16 ⌝ }
+    ensures { λ r. ⌜ r ≡ Digits·glyph d ⌝ }
+{
+    if d < 10 { b'0' + d } else { b'a' + (d - 10) }
+}
+
+// Puts s in two digits a byte at the start of out, and answers how many digits there are.
+pub fn put_bytes(s: &[u8], out: &mut [u8]) -> usize
+    requires { ⌜ 2 * length (now s) ≤ length (now out) ⌝ }
+    ensures { λ r. ⌜ r ≡ length (hexOf (now (s .entry))) ⌝ }
+    ensures { λ _. ⌜ now (out .exit) ≡ onto (hexOf (now (s .entry))) (now (out .entry)) ⌝ }
+    ensures { λ r. ⌜ r ≡ 2 * length (now (s .entry)) ⌝ }
+{
+    let mut i = 0;
+    while i < s.len() {
+        let b = s[i];
+        let at = 2 * i;
+        out[at] = glyph(b / 16);
+        out[at + 1] = glyph(b % 16);
+        i += 1;
+    }
+    2 * s.len()
 }

@@ -1,12 +1,14 @@
-// The fields of a line, and a number put into a reply.
+// The fields of a line, and numbers in decimal.
 ghost use mathlib.Core.Path.{_≡_};
 ghost use Prim.Native.Nat.{_≤_};
 ghost use lib.ListN.{length};
 ghost use Rattle.bytes.specs.Bytes.{indexOf};
 ghost use Rattle.lines.specs.Text.{tab};
 ghost use Rattle.promises.specs.Onto.{onto};
-ghost use Rattle.lines.specs.Decimal.{decimalOf};
+ghost use Rattle.lines.specs.Decimal.{decimalOf, numeralOf};
 ghost use Rattle.lines.specs.Printed.{headOf};
+use crate::hex::Found;
+use crate::hex::number;
 
 // Where the first field of s ends: at its first tab, or with s.
 pub fn field_end(s: &[u8]) -> usize
@@ -16,8 +18,22 @@ pub fn field_end(s: &[u8]) -> usize
     bytes::scan::find(s, 0, s.len(), b'\t')
 }
 
+// The number that s is in 1 to `most` digits, which may have zeros in front.
+pub fn numeral(most: usize, s: &[u8]) -> Found
+    requires { ⌜ most ≤ 19 ⌝ }
+    ensures { λ r. ⌜ r ≡ numeralOf most (now (s .entry)) ⌝ }
+{
+    if s.len() == 0 {
+        return Found::Nothing;
+    }
+    if most < s.len() {
+        return Found::Nothing;
+    }
+    number(10, s)
+}
+
 // Puts n in decimal at the start of out, and answers how many digits it has.
-fn put_decimal(n: u64, out: &mut [u8]) -> usize
+pub fn put_decimal(n: u64, out: &mut [u8]) -> usize
     requires { ⌜ 20 ≤ length (now out) ⌝ }
     ensures { λ r. ⌜ r ≡ length (decimalOf n) ⌝ }
     ensures { λ _. ⌜ now (out .exit) ≡ onto (decimalOf n) (now (out .entry)) ⌝ }
