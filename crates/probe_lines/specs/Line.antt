@@ -1,7 +1,9 @@
 -- What vecprobe answers to a line. With | for a tab, the lines are
 --     root|W|F    narrow|F    widen|F    trunc|F
+--     read|H    strict|H    write|K|N|H
 -- where W is 32 or 64 and F is a float's pattern in lower-case hexadecimal, the highest digit first; the answer is F|, and the
--- pattern of the result, or for trunc a number of two digits. The answer to any other line is X.
+-- pattern of the result, or for trunc a number of two digits. H is a blob, or for write a body, in lower-case hexadecimal, K a
+-- type byte 1, 2, 3, 4 or 9, N dims in 1 to 10 decimal digits; `Blobs` has the answers. The answer to any other line is X.
 use Prim.Native.Nat.{ℕ}
 use mathlib.Core.Bool.{cond}
 use mathlib.Core.List.{List, [], _∷_, _++_}
@@ -15,8 +17,10 @@ use Rattle.lines.specs.Hex.{patternOf}
 use Rattle.lines.specs.Parts.{fieldsOf}
 use Rattle.lines.specs.declared.hex.Found.{Found}
 use Rattle.lines.specs.declared.hex.Found.the-variants.{Number, Nothing}
+use Rattle.probe_lines.specs.Blobs.{other, readText, writeText}
 use Rattle.probe_lines.specs.declared.Verb.{Verb}
-use Rattle.probe_lines.specs.declared.Verb.the-variants.{Root, Float, Other}
+use Rattle.probe_lines.specs.declared.Verb.the-variants.{Root, Float, Read, Write, Other}
+use Rattle.probe_lines.specs.declared.blobs.Reader.the-variants.{Plain, Strict}
 use Rattle.probe_lines.specs.declared.float.Work.{Work}
 use Rattle.probe_lines.specs.declared.float.Work.the-variants.{Root32, Root64, Narrow, Widen, Trunc}
 
@@ -36,9 +40,6 @@ rowOf Narrow = row 16 8 (λ n. toBits binary32 (narrowed (ofBits binary64 n)))
 rowOf Widen = row 8 16 (λ n. toBits binary64 (ofBits binary32 n))
 rowOf Trunc = row 8 2 (λ n. truncated (ofBits binary32 n))
 
-abbrev pub other : List ℕ
-other = word "X"
-
 abbrev pub floatOf : ℕ → ℕ → List ℕ
 floatOf width n = word "F\t" ++ digits 16 width n
 
@@ -50,7 +51,7 @@ byFound r Nothing = other
 unfoldable pub computedOf : Work → List ℕ → List ℕ
 computedOf work field = byFound (rowOf work) (patternOf (rowOf work .takes) field)
 
--- exactly one field, exactly two
+-- exactly one field, exactly two, exactly three
 unfoldable pub one : (List ℕ → List ℕ) → List (List ℕ) → List ℕ
 one answer [] = other
 one answer (f ∷ []) = answer f
@@ -60,6 +61,11 @@ unfoldable pub two : (List ℕ → List ℕ → List ℕ) → List (List ℕ) �
 unfolding one
 two answer [] = other
 two answer (f ∷ fs) = one (answer f) fs
+
+unfoldable pub three : (List ℕ → List ℕ → List ℕ → List ℕ) → List (List ℕ) → List ℕ
+unfolding two
+three answer [] = other
+three answer (f ∷ fs) = two (answer f) fs
 
 unfoldable pub ofWidth : List ℕ → List ℕ → List ℕ
 unfolding computedOf
@@ -75,13 +81,18 @@ verbOf first =
     (cond (same first (word "narrow")) (Float Narrow)
     (cond (same first (word "widen")) (Float Widen)
     (cond (same first (word "trunc")) (Float Trunc)
-    Other)))
+    (cond (same first (word "read")) (Read Plain)
+    (cond (same first (word "strict")) (Read Strict)
+    (cond (same first (word "write")) Write
+    Other))))))
 
 -- the answer to the other fields
 unfoldable pub answerTo : Verb → List (List ℕ) → List ℕ
-unfolding computedOf one two ofWidth
+unfolding computedOf one two three ofWidth readText writeText
 answerTo Root fields = two ofWidth fields
 answerTo (Float work) fields = one (computedOf work) fields
+answerTo (Read reader) fields = one (readText reader) fields
+answerTo Write fields = three writeText fields
 answerTo Other fields = other
 
 unfoldable pub answerBy : List (List ℕ) → List ℕ

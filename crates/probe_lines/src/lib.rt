@@ -1,16 +1,20 @@
 // What vecprobe answers to a line, by its first field.
+mod blobs;
 mod float;
 mod replies;
 
 pub use replies::finish;
 pub use replies::serve;
 ghost use mathlib.Core.Path.{_≡_};
-ghost use Prim.Native.Nat.{_≤_};
+ghost use Prim.Native.Nat.{_*_, _≤_};
 ghost use lib.ListN.{length};
 ghost use Rattle.promises.specs.Onto.{onto};
 ghost use Rattle.lines.specs.Parts.{fieldsOf};
-ghost use Rattle.probe_lines.specs.Limits.{limit};
+ghost use Rattle.probe_lines.specs.Limits.{limit, blobRoom};
 ghost use Rattle.probe_lines.specs.Line.{answerOf, verbOf, two, ofWidth};
+use blobs::Reader;
+use blobs::read_line;
+use blobs::write_line;
 use float::Work;
 use float::computed;
 use float::put_other;
@@ -19,6 +23,8 @@ use float::put_other;
 pub enum Verb {
     Root,
     Float(Work),
+    Read(Reader),
+    Write,
     Other,
 }
 
@@ -36,6 +42,15 @@ fn verb_of(word: &[u8]) -> Verb
     }
     if check::same(word, b"trunc") {
         return Verb::Float(Work::Trunc);
+    }
+    if check::same(word, b"read") {
+        return Verb::Read(Reader::Plain);
+    }
+    if check::same(word, b"strict") {
+        return Verb::Read(Reader::Strict);
+    }
+    if check::same(word, b"write") {
+        return Verb::Write;
     }
     Verb::Other
 }
@@ -67,8 +82,15 @@ pub const LIMIT: usize = 1100000;
 // The longest reply: twenty digits, a tab, the answer and a newline.
 pub const LONGEST: usize = LIMIT + 22;
 
-// Puts the answer to a line at the start of out, and answers its length.
-pub fn answer(line: &[u8], out: &mut [u8]) -> usize
+// Room for the bytes that a line spells in hexadecimal, and for the longest blob.
+pub const SPELLED: usize = LIMIT / 2;
+
+pub const BLOB: usize = vector_types::LONGEST;
+
+// Puts the answer to a line at the start of out, and answers its length; the other two are room to work in.
+pub fn answer(line: &[u8], spelled: &mut [u8], made: &mut [u8], out: &mut [u8]) -> usize
+    requires { ⌜ length (now line) ≤ 2 * length (now spelled) ⌝ }
+    requires { ⌜ length (now made) ≡ blobRoom ⌝ }
     requires { ⌜ limit ≤ length (now out) ⌝ }
     ensures { λ r. ⌜ r ≡ length (answerOf (now (line .entry))) ⌝ }
     ensures { λ _. ⌜ now (out .exit) ≡ onto (answerOf (now (line .entry))) (now (out .entry)) ⌝ }
@@ -82,6 +104,8 @@ pub fn answer(line: &[u8], out: &mut [u8]) -> usize
     match verb {
         Verb::Root => root(rest, out),
         Verb::Float(work) => computed(work, rest, out),
+        Verb::Read(reader) => read_line(reader, rest, spelled, out),
+        Verb::Write => write_line(rest, spelled, made, out),
         Verb::Other => put_other(out),
     }
 }

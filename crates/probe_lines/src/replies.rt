@@ -1,13 +1,13 @@
 // Replies to a stream of lines.
 ghost use mathlib.Core.Path.{_≡_};
-ghost use Prim.Native.Nat.{_+_, _≤_, _<_, _^_};
+ghost use Prim.Native.Nat.{_+_, _*_, _≤_, _<_, _^_};
 ghost use mathlib.Core.List.{[], _∷_, _++_};
 ghost use lib.ListN.{length, drop};
 ghost use Rattle.lines.specs.Text.{newline};
 ghost use Rattle.promises.specs.Onto.{onto};
 ghost use Rattle.lines.specs.Stream.{keptWith, pieceOf};
 ghost use Rattle.lines.specs.Served.{heldAnswer, heldReply, saidOf, servedOf, lastSaid};
-ghost use Rattle.probe_lines.specs.Limits.{limit, longest};
+ghost use Rattle.probe_lines.specs.Limits.{limit, longest, blobRoom};
 ghost use Rattle.probe_lines.specs.Line.{answerOf};
 use crate::answer;
 use crate::float::put_other;
@@ -15,8 +15,16 @@ use lines::stream::Held;
 use lines::stream::Served;
 
 // The answer to the line of which this is kept.
-fn answer_held(kept: &[u8], held: Held, out: &mut [u8]) -> usize
+fn answer_held(
+    kept: &[u8],
+    held: Held,
+    spelled: &mut [u8],
+    made: &mut [u8],
+    out: &mut [u8],
+) -> usize
     requires { ⌜ held .count ≤ length (now kept) ⌝ }
+    requires { ⌜ length (now kept) ≤ 2 * length (now spelled) ⌝ }
+    requires { ⌜ length (now made) ≡ blobRoom ⌝ }
     requires { ⌜ limit ≤ length (now out) ⌝ }
     ensures { λ r. ⌜ r ≡ length (heldAnswer answerOf (now (kept .entry)) held) ⌝ }
     ensures { λ _. ⌜ now (out .exit) ≡ onto (heldAnswer answerOf (now (kept .entry)) held) (now (out .entry)) ⌝ }
@@ -25,25 +33,29 @@ fn answer_held(kept: &[u8], held: Held, out: &mut [u8]) -> usize
         return put_other(out);
     }
     let count = held.count;
-    answer(&kept[..count], out)
+    answer(&kept[..count], spelled, made, out)
 }
 
 // The answer to the line of which this is kept, and a newline.
-fn put_line(kept: &[u8], held: Held, out: &mut [u8]) -> usize
+fn put_line(kept: &[u8], held: Held, spelled: &mut [u8], made: &mut [u8], out: &mut [u8]) -> usize
     requires { ⌜ held .count ≤ length (now kept) ⌝ }
+    requires { ⌜ length (now kept) ≤ 2 * length (now spelled) ⌝ }
+    requires { ⌜ length (now made) ≡ blobRoom ⌝ }
     requires { ⌜ limit < length (now out) ⌝ }
     ensures { λ r. ⌜ r ≡ length (heldAnswer answerOf (now (kept .entry)) held ++ (newline ∷ [])) ⌝ }
     ensures { λ _. ⌜ now (out .exit) ≡ onto (heldAnswer answerOf (now (kept .entry)) held ++ (newline ∷ [])) (now (out .entry)) ⌝ }
 {
     let room = out.len() - 1;
-    let said = answer_held(kept, held, &mut out[..room]);
+    let said = answer_held(kept, held, spelled, made, &mut out[..room]);
     out[said] = b'\n';
     said + 1
 }
 
 // The reply to the line of which this is kept: its number, a tab, the answer and a newline.
-fn reply(kept: &[u8], held: Held, out: &mut [u8]) -> usize
+fn reply(kept: &[u8], held: Held, spelled: &mut [u8], made: &mut [u8], out: &mut [u8]) -> usize
     requires { ⌜ held .count ≤ length (now kept) ⌝ }
+    requires { ⌜ length (now kept) ≤ 2 * length (now spelled) ⌝ }
+    requires { ⌜ length (now made) ≡ blobRoom ⌝ }
     requires { ⌜ held .before + 1 < 2 ^ 64 ⌝ }
     requires { ⌜ longest ≤ length (now out) ⌝ }
     ensures { λ r. ⌜ r ≡ length (heldReply answerOf (now (kept .entry)) held) ⌝ }
@@ -51,15 +63,25 @@ fn reply(kept: &[u8], held: Held, out: &mut [u8]) -> usize
 {
     let number = held.before + 1;
     let head = lines::text::put_head(number, out);
-    let line = put_line(kept, held, &mut out[head..]);
+    let line = put_line(kept, held, spelled, made, &mut out[head..]);
     head + line
 }
 
 // Serves the next bytes of a chunk, from `at` on: as far as the end of the line, to which the reply
 // is put at the start of out, or of the chunk.
-pub fn serve(chunk: &[u8], at: usize, kept: &mut [u8], held: Held, out: &mut [u8]) -> Served
+pub fn serve(
+    chunk: &[u8],
+    at: usize,
+    kept: &mut [u8],
+    held: Held,
+    spelled: &mut [u8],
+    made: &mut [u8],
+    out: &mut [u8],
+) -> Served
     requires { ⌜ at ≤ length (now chunk) ⌝ }
     requires { ⌜ held .count ≤ length (now kept) ⌝ }
+    requires { ⌜ length (now kept) ≤ 2 * length (now spelled) ⌝ }
+    requires { ⌜ length (now made) ≡ blobRoom ⌝ }
     requires { ⌜ held .before + 1 < 2 ^ 64 ⌝ }
     requires { ⌜ longest ≤ length (now out) ⌝ }
     ensures { λ r. ⌜ r ≡ servedOf answerOf (now (kept .entry)) (drop at (now (chunk .entry))) at held ⌝ }
@@ -70,7 +92,7 @@ pub fn serve(chunk: &[u8], at: usize, kept: &mut [u8], held: Held, out: &mut [u8
     let next = taken.at;
     let line = taken.held;
     if taken.ended {
-        let said = reply(kept, line, out);
+        let said = reply(kept, line, spelled, made, out);
         let fresh = lines::stream::next(line);
         return Served {
             held: fresh,
@@ -86,8 +108,10 @@ pub fn serve(chunk: &[u8], at: usize, kept: &mut [u8], held: Held, out: &mut [u8
 }
 
 // At the end of the input: the reply to a last line that has bytes, and how long it is.
-pub fn finish(kept: &[u8], held: Held, out: &mut [u8]) -> usize
+pub fn finish(kept: &[u8], held: Held, spelled: &mut [u8], made: &mut [u8], out: &mut [u8]) -> usize
     requires { ⌜ held .count ≤ length (now kept) ⌝ }
+    requires { ⌜ length (now kept) ≤ 2 * length (now spelled) ⌝ }
+    requires { ⌜ length (now made) ≡ blobRoom ⌝ }
     requires { ⌜ held .before + 1 < 2 ^ 64 ⌝ }
     requires { ⌜ longest ≤ length (now out) ⌝ }
     ensures { λ r. ⌜ r ≡ length (lastSaid answerOf (now (kept .entry)) held) ⌝ }
@@ -96,5 +120,5 @@ pub fn finish(kept: &[u8], held: Held, out: &mut [u8]) -> usize
     if held.count == 0 {
         return 0;
     }
-    reply(kept, held, out)
+    reply(kept, held, spelled, made, out)
 }

@@ -1,22 +1,37 @@
 // Replies to the lines of standard input, for service staff and for differential runs.
 ghost use mathlib.Core.Path.{_≡_};
-ghost use Prim.Native.Nat.{_+_, _≤_, _<_, _^_};
+ghost use Prim.Native.Nat.{_+_, _*_, _≤_, _<_, _^_};
 ghost use lib.ListN.{length};
 ghost use Rattle.lines.specs.Output.{Stepped};
-ghost use Rattle.probe_lines.specs.Limits.{limit, longest};
+ghost use Rattle.probe_lines.specs.Limits.{limit, longest, spelledRoom, blobRoom};
 use lines::output::Done;
 use lines::output::Room;
 use lines::output::Step;
 use lines::output::make_room;
 use lines::stream::Held;
+use probe_lines::BLOB;
 use probe_lines::LIMIT;
 use probe_lines::LONGEST;
+use probe_lines::SPELLED;
 
 // As many bytes of a line as are kept: a line of more is answered X.
 fn line_room() -> [u8; LIMIT]
     ensures { λ r. ⌜ limit ≡ length r ⌝ }
 {
     [0; LIMIT]
+}
+
+// Room to work in: for the bytes that a line spells, and for a blob that is written.
+fn spelled_room() -> [u8; SPELLED]
+    ensures { λ r. ⌜ spelledRoom ≡ length r ⌝ }
+{
+    [0; SPELLED]
+}
+
+fn blob_room() -> [u8; BLOB]
+    ensures { λ r. ⌜ blobRoom ≡ length r ⌝ }
+{
+    [0; BLOB]
 }
 
 // Replies that are not written yet, with room for the longest.
@@ -46,16 +61,20 @@ fn serve_from(
     at: usize,
     kept: &mut [u8],
     held: Held,
+    spelled: &mut [u8],
+    made: &mut [u8],
     out: &mut [u8],
     start: usize,
 ) -> Step
     requires { ⌜ at < length (now chunk) ⌝ }
     requires { ⌜ held .count ≤ length (now kept) ⌝ }
+    requires { ⌜ length (now kept) ≤ 2 * length (now spelled) ⌝ }
+    requires { ⌜ length (now made) ≡ blobRoom ⌝ }
     requires { ⌜ held .before + 1 < 2 ^ 64 ⌝ }
     requires { ⌜ start + longest ≤ length (now out) ⌝ }
     ensures { λ r. ⌜ Stepped (length (now (chunk .entry))) at (length (now (kept .entry))) held (length (now (out .entry))) r ⌝ }
 {
-    let served = probe_lines::serve(chunk, at, kept, held, &mut out[start..]);
+    let served = probe_lines::serve(chunk, at, kept, held, spelled, made, &mut out[start..]);
     let line = served.held;
     let next = served.at;
     let filled = start + served.said;
@@ -67,8 +86,17 @@ fn serve_from(
 }
 
 // Serves the lines of a chunk, and writes the replies.
-fn serve_chunk(chunk: &[u8], kept: &mut [u8], held: Held, out: &mut [u8]) -> Done
+fn serve_chunk(
+    chunk: &[u8],
+    kept: &mut [u8],
+    held: Held,
+    spelled: &mut [u8],
+    made: &mut [u8],
+    out: &mut [u8],
+) -> Done
     requires { ⌜ held .count ≤ length (now kept) ⌝ }
+    requires { ⌜ length (now kept) ≤ 2 * length (now spelled) ⌝ }
+    requires { ⌜ length (now made) ≡ blobRoom ⌝ }
     requires { ⌜ held .before + length (now chunk) < 2 ^ 64 ⌝ }
     requires { ⌜ longest ≤ length (now out) ⌝ }
     ensures { λ r. ⌜ r .held .count ≤ length (now (kept .entry)) ⌝ }
@@ -85,7 +113,7 @@ fn serve_chunk(chunk: &[u8], kept: &mut [u8], held: Held, out: &mut [u8]) -> Don
                 fine: false,
             };
         };
-        let step = serve_from(chunk, at, kept, line, out, start);
+        let step = serve_from(chunk, at, kept, line, spelled, made, out, start);
         line = step.held;
         at = step.at;
         filled = step.filled;
@@ -95,17 +123,21 @@ fn serve_chunk(chunk: &[u8], kept: &mut [u8], held: Held, out: &mut [u8]) -> Don
 }
 
 // Replies to a last line that no newline ends, at the end of the input.
-fn serve_end(kept: &[u8], held: Held, out: &mut [u8]) -> bool
+fn serve_end(kept: &[u8], held: Held, spelled: &mut [u8], made: &mut [u8], out: &mut [u8]) -> bool
     requires { ⌜ held .count ≤ length (now kept) ⌝ }
+    requires { ⌜ length (now kept) ≤ 2 * length (now spelled) ⌝ }
+    requires { ⌜ length (now made) ≡ blobRoom ⌝ }
     requires { ⌜ held .before + 1 < 2 ^ 64 ⌝ }
     requires { ⌜ longest ≤ length (now out) ⌝ }
 {
-    let said = probe_lines::finish(kept, held, out);
+    let said = probe_lines::finish(kept, held, spelled, made, out);
     io::write_all(libc::STDOUT_FILENO, &out[..said])
 }
 
 fn main() {
     let mut kept = line_room();
+    let mut spelled = spelled_room();
+    let mut made = blob_room();
     let mut out = reply_room();
     let mut chunk = io::large_buffer();
     let mut held = lines::stream::start();
@@ -122,14 +154,21 @@ fn main() {
             break;
         }
         left -= n as u64;
-        let done = serve_chunk(&chunk[..n], &mut kept, held, &mut out);
+        let done = serve_chunk(
+            &chunk[..n],
+            &mut kept,
+            held,
+            &mut spelled,
+            &mut made,
+            &mut out,
+        );
         if !done.fine {
             cannot_write();
             return;
         }
         held = done.held;
     }
-    if !serve_end(&kept, held, &mut out) {
+    if !serve_end(&kept, held, &mut spelled, &mut made, &mut out) {
         cannot_write();
     }
 }

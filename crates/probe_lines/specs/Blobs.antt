@@ -1,0 +1,77 @@
+-- The answers to lines about one blob. With | for a tab they are
+--     V|K|N|H    W|H    R|number
+-- where K is a type byte, N are dims, and H is a body or a blob in hexadecimal.
+use Prim.Native.Nat.{ℕ, _*_}
+use mathlib.Core.Bool.{cond}
+use mathlib.Core.List.{List, _++_}
+use lib.Dec.{eqb}
+use lib.ListN.{length, take}
+use Rattle.lines.specs.Text.{word, same}
+use Rattle.lines.specs.Hex.{hexBytes, hexOf}
+use Rattle.lines.specs.Printed.{headOf}
+use Rattle.lines.specs.Decimal.{decimalOf, numeralOf}
+use Rattle.lines.specs.declared.hex.Found.{Found}
+use Rattle.lines.specs.declared.hex.Found.the-variants.{Number, Nothing}
+use Rattle.vector_types.specs.Layout.{longest, byteOf}
+use Rattle.vector_types.specs.Read.{readOf, strictOf}
+use Rattle.vector_types.specs.Write.{blobOf, writeOf}
+use Rattle.vector_types.specs.declared.VectorType.{VectorType}
+use Rattle.vector_types.specs.declared.VectorType.the-variants.{Float32Dense, Float64Dense, Float32Sparse, Float1Bit, Float8}
+use Rattle.vector_types.specs.declared.ReadAnswer.{ReadAnswer}
+use Rattle.vector_types.specs.declared.ReadAnswer.the-variants.{View, Refused}
+use Rattle.vector_types.specs.declared.WriteAnswer.{WriteAnswer}
+use Rattle.vector_types.specs.declared.WriteAnswer.the-variants.{Written, Refused as Unwritten, Short}
+use Rattle.probe_lines.specs.declared.blobs.Reader.{Reader}
+use Rattle.probe_lines.specs.declared.blobs.Reader.the-variants.{Plain, Strict}
+use Rattle.probe_lines.specs.declared.blobs.Kind.{Kind}
+use Rattle.probe_lines.specs.declared.blobs.Kind.the-variants.{Known, Unknown}
+
+abbrev pub other : List ℕ
+other = word "X"
+
+abbrev pub refusalText : ℕ → List ℕ
+refusalText n = word "R\t" ++ decimalOf n
+
+-- a view of the blob s
+unfoldable pub viewText : ReadAnswer → List ℕ → List ℕ
+viewText (View v) s = word "V\t" ++ (headOf (byteOf (v .kind)) ++ (headOf (v .dims .0) ++ hexOf (take (v .length) s)))
+viewText (Refused r) s = refusalText (r .number)
+
+-- a blob that is written
+unfoldable pub blobText : WriteAnswer → List ℕ → List ℕ
+blobText (Written n) blob = word "W\t" ++ hexOf blob
+blobText (Unwritten r) blob = refusalText (r .number)
+blobText (Short need) blob = refusalText 15
+
+-- the answer to the bytes that a field spells; X unless all of it does
+unfoldable pub spelled : (List ℕ → List ℕ) → List ℕ → List ℕ
+spelled answer field = cond (eqb (2 * length (hexBytes field)) (length field)) (answer (hexBytes field)) other
+
+abbrev pub readerOf : Reader → List ℕ → ReadAnswer
+readerOf Plain s = readOf s
+readerOf Strict s = strictOf s
+
+unfoldable pub readText : Reader → List ℕ → List ℕ
+unfolding viewText spelled
+readText reader field = spelled (λ s. viewText (readerOf reader s) s) field
+
+-- the kind that K names
+unfoldable pub kindOf : List ℕ → Kind
+kindOf field =
+    cond (same field (word "1")) (Known Float32Dense)
+    (cond (same field (word "2")) (Known Float64Dense)
+    (cond (same field (word "3")) (Known Float1Bit)
+    (cond (same field (word "4")) (Known Float8)
+    (cond (same field (word "9")) (Known Float32Sparse)
+    Unknown))))
+
+-- K, N and H of a blob to be written, in room for the longest
+abbrev pub writtenBy : Kind → Found → List ℕ → List ℕ
+unfolding blobText spelled
+writtenBy (Known k) (Number d) field = spelled (λ body. blobText (writeOf k d body longest) (blobOf k d body)) field
+writtenBy (Known k) Nothing field = other
+writtenBy Unknown n field = other
+
+unfoldable pub writeText : List ℕ → List ℕ → List ℕ → List ℕ
+unfolding blobText spelled kindOf
+writeText kind number field = writtenBy (kindOf kind) (numeralOf 10 number) field

@@ -1,0 +1,197 @@
+// The lines about one blob: read, strict, write.
+ghost use mathlib.Core.Path.{_≡_};
+ghost use Prim.Native.Nat.{_*_, _≤_};
+ghost use lib.ListN.{length, take};
+ghost use Rattle.promises.specs.Onto.{onto};
+ghost use Rattle.lines.specs.Parts.{fieldsOf};
+ghost use Rattle.vector_types.specs.Layout.{longest as longestBlob, byteOf};
+ghost use Rattle.vector_types.specs.Parts.{shownLength};
+ghost use Rattle.vector_types.specs.Write.{blobOf, writeOf};
+ghost use Rattle.vector_types.specs.declared.ReadAnswer.the-variants.{View as Seen};
+ghost use Rattle.probe_lines.specs.Limits.{limit, blobRoom};
+ghost use Rattle.probe_lines.specs.Line.{three};
+ghost use Rattle.probe_lines.specs.Blobs.{refusalText, viewText, blobText, readerOf, readText, kindOf, writeText, writtenBy};
+use crate::float::put_other;
+use lines::hex::Found;
+use vector_types::Dims;
+use vector_types::ReadAnswer;
+use vector_types::VectorType;
+use vector_types::View;
+use vector_types::WriteAnswer;
+
+// Which of the two readers is asked.
+pub enum Reader {
+    Plain,
+    Strict,
+}
+
+// The kind that a field names, if any.
+pub enum Kind {
+    Known(VectorType),
+    Unknown,
+}
+
+// Puts R, a tab and the number of a refusal at the start of out, and answers their length.
+fn put_refusal(number: u8, out: &mut [u8]) -> usize
+    requires { ⌜ 22 ≤ length (now out) ⌝ }
+    ensures { λ r. ⌜ r ≡ length (refusalText number) ⌝ }
+    ensures { λ _. ⌜ now (out .exit) ≡ onto (refusalText number) (now (out .entry)) ⌝ }
+{
+    let head = bytes::copy(b"R\t", out);
+    let digits = lines::text::put_decimal(number as u64, &mut out[head..]);
+    head + digits
+}
+
+fn type_byte(kind: VectorType) -> u64
+    ensures { λ r. ⌜ r ≡ byteOf kind ⌝ }
+{
+    match kind {
+        VectorType::Float32Dense => 1,
+        VectorType::Float64Dense => 2,
+        VectorType::Float32Sparse => 9,
+        VectorType::Float1Bit => 3,
+        VectorType::Float8 => 4,
+    }
+}
+
+// Puts a view of the blob at the start of out: V, its kind, its dims and its body, parted by tabs.
+fn put_view(view: View, blob: &[u8], out: &mut [u8]) -> usize
+    requires { ⌜ view .length ≤ length (now blob) ⌝ }
+    requires { ⌜ view .length ≤ longestBlob ⌝ }
+    requires { ⌜ limit ≤ length (now out) ⌝ }
+    ensures { λ r. ⌜ r ≡ length (viewText (Seen view) (now (blob .entry))) ⌝ }
+    ensures { λ _. ⌜ now (out .exit) ≡ onto (viewText (Seen view) (now (blob .entry))) (now (out .entry)) ⌝ }
+{
+    let kind = view.kind;
+    let dims = view.dims;
+    let length = view.length;
+    let mark = bytes::copy(b"V\t", out);
+    let named = mark + lines::text::put_head(type_byte(kind), &mut out[mark..]);
+    let sized = named + lines::text::put_head(dims.0 as u64, &mut out[named..]);
+    sized + lines::hex::put_bytes(&blob[..length], &mut out[sized..])
+}
+
+fn read_by(reader: Reader, blob: &[u8]) -> ReadAnswer
+    ensures { λ r. ⌜ r ≡ readerOf reader (now (blob .entry)) ⌝ }
+{
+    match reader {
+        Reader::Plain => vector_types::read(blob),
+        Reader::Strict => vector_types::read_strict(blob),
+    }
+}
+
+// Puts what a reader answers of a blob at the start of out.
+fn put_read(reader: Reader, blob: &[u8], out: &mut [u8]) -> usize
+    requires { ⌜ limit ≤ length (now out) ⌝ }
+    ensures { λ r. ⌜ r ≡ length (viewText (readerOf reader (now (blob .entry))) (now (blob .entry))) ⌝ }
+    ensures { λ _. ⌜ now (out .exit) ≡ onto (viewText (readerOf reader (now (blob .entry))) (now (blob .entry))) (now (out .entry)) ⌝ }
+{
+    match read_by(reader, blob) {
+        ReadAnswer::View(view) => put_view(view, blob, out),
+        ReadAnswer::Refused(refusal) => put_refusal(refusal.number, out),
+    }
+}
+
+// The answer to read|H or strict|H. The bytes that H spells are put into `spelled`.
+pub fn read_line(reader: Reader, field: &[u8], spelled: &mut [u8], out: &mut [u8]) -> usize
+    requires { ⌜ length (now field) ≤ 2 * length (now spelled) ⌝ }
+    requires { ⌜ limit ≤ length (now out) ⌝ }
+    ensures { λ r. ⌜ r ≡ length (readText reader (now (field .entry))) ⌝ }
+    ensures { λ _. ⌜ now (out .exit) ≡ onto (readText reader (now (field .entry))) (now (out .entry)) ⌝ }
+{
+    let count = lines::hex::bytes(field, spelled);
+    if 2 * count != field.len() {
+        return put_other(out);
+    }
+    put_read(reader, &spelled[..count], out)
+}
+
+fn kind_of(field: &[u8]) -> Kind
+    ensures { λ r. ⌜ r ≡ kindOf (now (field .entry)) ⌝ }
+{
+    if check::same(field, b"1") {
+        return Kind::Known(VectorType::Float32Dense);
+    }
+    if check::same(field, b"2") {
+        return Kind::Known(VectorType::Float64Dense);
+    }
+    if check::same(field, b"3") {
+        return Kind::Known(VectorType::Float1Bit);
+    }
+    if check::same(field, b"4") {
+        return Kind::Known(VectorType::Float8);
+    }
+    if check::same(field, b"9") {
+        return Kind::Known(VectorType::Float32Sparse);
+    }
+    Kind::Unknown
+}
+
+// Writes a blob into `made`, and puts it at the start of out: W, a tab, and the blob.
+fn put_written(kind: VectorType, dims: usize, body: &[u8], made: &mut [u8], out: &mut [u8]) -> usize
+    requires { ⌜ length (now made) ≡ blobRoom ⌝ }
+    requires { ⌜ limit ≤ length (now out) ⌝ }
+    ensures { λ r. ⌜ r ≡ length (blobText (writeOf kind dims (now (body .entry)) longestBlob) (blobOf kind dims (now (body .entry)))) ⌝ }
+    ensures { λ _. ⌜ now (out .exit) ≡ onto (blobText (writeOf kind dims (now (body .entry)) longestBlob) (blobOf kind dims (now (body .entry)))) (now (out .entry)) ⌝ }
+{
+    match vector_types::write(kind, Dims(dims), body, made) {
+        WriteAnswer::Written(length) => {
+            let head = bytes::copy(b"W\t", out);
+            let digits = lines::hex::put_bytes(&made[..length], &mut out[head..]);
+            head + digits
+        }
+        WriteAnswer::Refused(refusal) => put_refusal(refusal.number, out),
+        WriteAnswer::Short(_) => put_refusal(15, out),
+    }
+}
+
+// The answer to write|K|N|H, of which K and N are found and this is H.
+fn write_found(
+    kind: Kind,
+    number: Found,
+    field: &[u8],
+    spelled: &mut [u8],
+    made: &mut [u8],
+    out: &mut [u8],
+) -> usize
+    requires { ⌜ length (now field) ≤ 2 * length (now spelled) ⌝ }
+    requires { ⌜ length (now made) ≡ blobRoom ⌝ }
+    requires { ⌜ limit ≤ length (now out) ⌝ }
+    ensures { λ r. ⌜ r ≡ length (writtenBy kind number (now (field .entry))) ⌝ }
+    ensures { λ _. ⌜ now (out .exit) ≡ onto (writtenBy kind number (now (field .entry))) (now (out .entry)) ⌝ }
+{
+    let Kind::Known(named) = kind else {
+        return put_other(out);
+    };
+    let Found::Number(dims) = number else {
+        return put_other(out);
+    };
+    let count = lines::hex::bytes(field, spelled);
+    if 2 * count != field.len() {
+        return put_other(out);
+    }
+    put_written(named, dims as usize, &spelled[..count], made, out)
+}
+
+// The answer to write|K|N|H, of which this is K|N|H.
+pub fn write_line(rest: &[u8], spelled: &mut [u8], made: &mut [u8], out: &mut [u8]) -> usize
+    requires { ⌜ length (now rest) ≤ 2 * length (now spelled) ⌝ }
+    requires { ⌜ length (now made) ≡ blobRoom ⌝ }
+    requires { ⌜ limit ≤ length (now out) ⌝ }
+    ensures { λ r. ⌜ r ≡ length (three writeText (fieldsOf (now (rest .entry)))) ⌝ }
+    ensures { λ _. ⌜ now (out .exit) ≡ onto (three writeText (fieldsOf (now (rest .entry)))) (now (out .entry)) ⌝ }
+{
+    let end = lines::text::field_end(rest);
+    if end == rest.len() {
+        return put_other(out);
+    }
+    let kind = kind_of(&rest[..end]);
+    let more = &rest[end + 1..];
+    let stop = lines::text::field_end(more);
+    if stop == more.len() {
+        return put_other(out);
+    }
+    let number = lines::text::numeral(10, &more[..stop]);
+    let field = &more[stop + 1..];
+    write_found(kind, number, field, spelled, made, out)
+}
