@@ -1,4 +1,6 @@
 -- Laws of blobs
+pub mod Accepted
+pub mod Bools
 pub mod Given
 pub mod Rows
 pub mod Search
