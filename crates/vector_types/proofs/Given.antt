@@ -1,7 +1,7 @@
 -- The first of several refusals: none is given exactly if every test fails, and then the answer is not a refusal.
 use mathlib.Core.Path.{_≡_, refl, sym, subst, ap}
-use mathlib.Core.Bool.{Bool, true, false, false≢true}
-use mathlib.Core.List.{List, [], _∷_}
+use mathlib.Core.Bool.{Bool, true, false, cond, false≢true}
+use mathlib.Core.List.{List, [], _∷_, _++_}
 use Rattle.vector_types.specs.Answers.{Test, Given, none, given, firstOf, unless, refused, isSeen}
 use Rattle.vector_types.specs.declared.Refusal.{Refusal}
 use Rattle.vector_types.specs.declared.View.{View}
@@ -49,3 +49,18 @@ passed-none (t ∷ ts) (h, p) = rw h (passed-none ts p)
 pub unless-seen : (g : Given) (x : ReadAnswer) (v : View) → unless g refused x ≡ Seen v → (g ≡ none) × (x ≡ Seen v)
 unless-seen none x v e = (refl, e)
 unless-seen (given r) x v e = absurd (refused-unseen r v e)
+
+-- two lists: the first of the second is given only where the first list gives none
+pub first-append : (ts us : List Test) → firstOf (ts ++ us) ≡ unless (firstOf ts) given (firstOf us)
+first-append [] us = refl
+first-append (t ∷ ts) us = at (t .holds) (first-append ts us)
+  where
+    at : (b : Bool) → firstOf (ts ++ us) ≡ unless (firstOf ts) given (firstOf us)
+        → cond b (given (t .gives)) (firstOf (ts ++ us)) ≡ unless (cond b (given (t .gives)) (firstOf ts)) given (firstOf us)
+    at true rest = refl
+    at false rest = rest
+
+pub unless-twice : {A : Type 0} (g h : Given) (refuse : Refusal → A) (x : A)
+    → unless (unless g given h) refuse x ≡ unless g refuse (unless h refuse x)
+unless-twice none h refuse x = refl
+unless-twice (given r) h refuse x = refl

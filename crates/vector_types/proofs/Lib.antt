@@ -4,4 +4,6 @@ pub mod Bools
 pub mod Given
 pub mod Rows
 pub mod Search
+pub mod Some
+pub mod Strict
 pub mod Views
