@@ -1,5 +1,4 @@
--- The strict reader against the plain one: it refuses what the plain one refuses, and of the rest accepts exactly the sparse blobs
--- that are sorted and the 1-bit blobs whose unused bits are zero.
+-- The strict reader against the plain one: it refuses what that one refuses, and else objects exactly to falling indices and to unused bits that are set.
 use mathlib.Core.Path.{_≡_, refl, sym, ap₂, _∙_}
 use mathlib.Core.Bool.{Bool, true, false, cond, true≢false}
 use mathlib.Core.Logic.{_↔_, Iff·trans}
