@@ -1,4 +1,10 @@
 -- Laws of blobs
+pub mod Accepted
+pub mod Bools
+pub mod Given
+pub mod Rows
 pub mod Search
+pub mod Some
+pub mod Strict
 pub mod Views
 pub mod ByKind
