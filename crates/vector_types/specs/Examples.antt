@@ -6,7 +6,7 @@ use Rattle.elements.specs.Bytes.{numberAt}
 use Rattle.vector_types.specs.Answers.{seen, refused, refusal}
 use Rattle.vector_types.specs.Search.{firstFrom}
 use Rattle.vector_types.specs.Layout.{named, byByte, before, dimsOf, lengthOf, fits}
-use Rattle.vector_types.specs.Read.{readOf, refusals, shown}
+use Rattle.vector_types.specs.Read.{readOf, strictOf, refusals, strictRefusals, shown}
 use Rattle.vector_types.specs.Parts.{bodyOf}
 use Rattle.vector_types.specs.declared.VectorType.the-variants.{Float32Dense, Float32Sparse, Float1Bit, Float8}
 use Rattle.vector_types.specs.declared.ReadAnswer.{ReadAnswer}
