@@ -2,3 +2,4 @@
 pub mod Search
 pub mod Views
 pub mod Unused
+pub mod Strictly

@@ -1,75 +1,82 @@
+-- The test of a kind refuses exactly where the definition's does; the other kinds have none.
+use mathlib.Core.Path.{_≡_, sym, ap, _∙_}
+use mathlib.Core.Bool.{true, false}
+use Prim.Native.Nat.{ℕ}
+use native.Mathlib.Omega.{arith}
+use lib.Dec.{ltb}
+use borrow.Author.Tests.{lt-ltb, le-ltb}
+use Rattle.vector_types.specs.Read.{strictRefusals}
+use Rattle.vector_types.specs.declared.VectorType.the-variants.{Float32Dense, Float64Dense, Float8}
+use Rattle.vector_types.proofs.Views.{told}
+use Rattle.vector_types.proofs.Strictly.{strictly-kind, strictly-sparse, strictly-one-bit, one-bit-within}
 use borrow.Author.Needs.{needs}
 use Rattle.vector_types.proofs.strictness.hold.Statement.{statement}
 use Rattle.vector_types.proofs.strictness.hold.Tie as tie
-use Rattle.vector_types.proofs.strictness.hold.Reads as reads
-use Rattle.vector_types.proofs.strictness.hold.Lts as lts
-use Rattle.vector_types.proofs.reading.refuse.Reads as refuse-reads
-use Rattle.vector_types.proofs.strictness.first_fall.Reads as first-fall-reads
-use Rattle.vector_types.proofs.strictness.unused_set.Reads as unused-set-reads
 
--- src/strictness.rt:53:25
 enum-told : tie.Need-enum-told
 enum-told c = search needs
 
--- src/strictness.rt:54:16
 first-fall-requires : tie.Need-first-fall-requires
-first-fall-requires c κs = ?
+first-fall-requires c κs = omega (arith, told _ _ (c .before .before .before .before .pre) .within)
 
--- src/strictness.rt:55:17
 refuse-requires : tie.Need-refuse-requires
 refuse-requires c κs = search needs
 
--- src/strictness.rt:55:17
 returns : tie.Need-returns
-returns c = ?
+returns c = 
+    c .refuse .ensures
+    ∙ sym
+    (strictly-sparse _ _ (c .before .before .before .before .before .before .before .pre) (c .before .before .before .before .enum-told .given .1) true _
+    (c .before .before .first-fall .ensures) (lt-ltb _ _ (c .before .if1 .taken)))
 
--- src/strictness.rt:60:16
 enum-told-2 : tie.Need-enum-told-2
 enum-told-2 c = search needs
 
--- src/strictness.rt:60:16
 unused-set-requires : tie.Need-unused-set-requires
-unused-set-requires c κs = ?
+unused-set-requires c κs = one-bit-within _ _ (c .before .before .before .pre) (c .enum-told2 .given .1)
 
--- src/strictness.rt:61:17
 refuse-requires-2 : tie.Need-refuse-requires-2
 refuse-requires-2 c κs = search needs
 
--- src/strictness.rt:61:17
 returns-2 : tie.Need-returns-2
-returns-2 c = ?
+returns-2 c = 
+    c .refuse2 .ensures
+    ∙ sym
+    (strictly-one-bit _ _ (c .before .before .before .before .before .before .pre) (c .before .before .before .enum-told2 .given .1) true
+    (sym (c .before .before .unused-set .ensures) ∙ c .before .if2 .taken))
 
--- src/strictness.rt:65:37
 enum-told-3 : tie.Need-enum-told-3
 enum-told-3 c = search needs
 
--- src/strictness.rt:66:37
 enum-told-4 : tie.Need-enum-told-4
 enum-told-4 c = search needs
 
--- src/strictness.rt:67:31
 enum-told-5 : tie.Need-enum-told-5
 enum-told-5 c = search needs
 
--- src/strictness.rt:46:1
 returns-3 : tie.Need-returns-3
-returns-3 c = ?
+returns-3 c = 
+    sym
+    (strictly-sparse _ _ (c .before .before .before .before .before .before .pre) (c .before .before .before .enum-told .given .1) false _
+    (c .before .first-fall .ensures) (le-ltb _ _ (c .if1 .left)))
 
--- src/strictness.rt:46:1
 returns-4 : tie.Need-returns-4
-returns-4 c = ?
+returns-4 c = 
+    sym
+    (strictly-one-bit _ _ (c .before .before .before .before .before .pre) (c .before .before .enum-told2 .given .1) false
+    (sym (c .before .unused-set .ensures) ∙ c .if2 .left))
 
--- src/strictness.rt:46:1
 returns-5 : tie.Need-returns-5
-returns-5 c = ?
+unfolding strictRefusals
+returns-5 c = sym (strictly-kind _ _ (c .before .before .before .pre) Float32Dense (c .enum-told3 .given .1))
 
--- src/strictness.rt:46:1
 returns-6 : tie.Need-returns-6
-returns-6 c = ?
+unfolding strictRefusals
+returns-6 c = sym (strictly-kind _ _ (c .before .before .before .pre) Float64Dense (c .enum-told4 .given .1))
 
--- src/strictness.rt:46:1
 returns-7 : tie.Need-returns-7
-returns-7 c = ?
+unfolding strictRefusals
+returns-7 c = sym (strictly-kind _ _ (c .before .before .before .pre) Float8 (c .enum-told5 .given .1))
 
 pub hold-spec : {M : Type 1} → statement M
 hold-spec =
