@@ -62,11 +62,10 @@ loop-less c = omega arith
 
 loop-again : tie.Need-loop-again Inv-loop μ-loop
 loop-again c =
-    let l = c .before .before .before .loop in
-    (
+    let l = c .before .before .before .loop in (
       c .before .u32-at .ensures ∙ before-next _ _ _,
       search-miss _ _ _ (l .inv .1) (c .before .before .loop-test .taken)
-      (compared _ _ _ (c .before .u32-at .ensures) (l .inv .0) ∙ le-ltb _ _ (c .if1 .left)),
+          (compared _ _ _ (c .before .u32-at .ensures) (l .inv .0) ∙ le-ltb _ _ (c .if1 .left)),
     )
 
 returns-2 : tie.Need-returns-2 Inv-loop μ-loop

@@ -23,7 +23,7 @@ refuse-requires : tie.Need-refuse-requires
 refuse-requires c κs = search needs
 
 returns : tie.Need-returns
-returns c = 
+returns c =
     c .refuse .ensures
     ∙ sym
     (strictly-sparse _ _ (c .before .before .before .before .before .before .before .pre) (c .before .before .before .before .enum-told .given .1) true _
@@ -39,7 +39,7 @@ refuse-requires-2 : tie.Need-refuse-requires-2
 refuse-requires-2 c κs = search needs
 
 returns-2 : tie.Need-returns-2
-returns-2 c = 
+returns-2 c =
     c .refuse2 .ensures
     ∙ sym
     (strictly-one-bit _ _ (c .before .before .before .before .before .before .pre) (c .before .before .before .enum-told2 .given .1) true
@@ -55,13 +55,13 @@ enum-told-5 : tie.Need-enum-told-5
 enum-told-5 c = search needs
 
 returns-3 : tie.Need-returns-3
-returns-3 c = 
+returns-3 c =
     sym
     (strictly-sparse _ _ (c .before .before .before .before .before .before .pre) (c .before .before .before .enum-told .given .1) false _
     (c .before .first-fall .ensures) (le-ltb _ _ (c .if1 .left)))
 
 returns-4 : tie.Need-returns-4
-returns-4 c = 
+returns-4 c =
     sym
     (strictly-one-bit _ _ (c .before .before .before .before .before .pre) (c .before .before .enum-told2 .given .1) false
     (sym (c .before .unused-set .ensures) ∙ c .if2 .left))
