@@ -3,3 +3,4 @@ pub mod Search
 pub mod Views
 pub mod Unused
 pub mod Strictly
+pub mod Determined

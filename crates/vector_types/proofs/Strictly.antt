@@ -1,5 +1,5 @@
 -- The strict reader is the plain one and then two tests of what it shows, one for each of two kinds.
-use mathlib.Core.Path.{_≡_, refl, sym, ap, _∙_}
+use mathlib.Core.Path.{_≡_, refl, ap, _∙_}
 use mathlib.Core.Bool.{Bool, true, false, cond}
 use mathlib.Core.List.{List, [], _∷_, _++_}
 use Prim.Native.Nat.{ℕ, _-_, _*_, _/_, _≤_}
@@ -17,7 +17,7 @@ use Rattle.vector_types.specs.declared.VectorType.{VectorType}
 use Rattle.vector_types.specs.declared.VectorType.the-variants.{Float32Sparse, Float1Bit}
 use Rattle.vector_types.specs.declared.ReadAnswer.{ReadAnswer}
 use Rattle.vector_types.specs.declared.ReadAnswer.the-variants.{View as Seen, Refused}
-use Rattle.vector_types.proofs.Views.{Told, told}
+use Rattle.vector_types.proofs.Views.{told}
 
 -- further refusals are asked for where the answer is a view
 abbrev pub further : ReadAnswer → Given → ReadAnswer
