@@ -1,13 +1,17 @@
 -- What a view tells of its blob: the law of the reader that callers cite.
-use mathlib.Core.Path.{_≡_}
+use mathlib.Core.Path.{_≡_, refl, subst}
 use mathlib.Core.Bool.{true}
 use mathlib.Core.List.{List}
 use Prim.Native.Nat.{ℕ, _≤_}
 use lib.ListN.{length}
-use Rattle.vector_types.specs.Layout.{longest, mostDims, a, named, accepted, dimsOf, lengthOf, fits}
-use Rattle.vector_types.specs.Read.{readOf}
+use Rattle.vector_types.specs.Layout.{longest, mostDims, Named, a, unsupported, unknown, named, accepted, dimsOf, lengthOf, fits}
+use Rattle.vector_types.specs.Read.{readOf, refusals, shown}
+use Rattle.vector_types.specs.declared.VectorType.{VectorType}
 use Rattle.vector_types.specs.declared.View.{View}
 use Rattle.vector_types.specs.declared.ReadAnswer.the-variants.{View as Seen}
+use Rattle.vector_types.specs.Answers.{firstOf, dims, refusal}
+use Rattle.vector_types.proofs.Given.{Passed, none-passed, unless-seen, seen-same, refused-unseen}
+use Rattle.vector_types.proofs.Rows.{passed-accepted, passed-fit, passed-few, passed-short, length-within}
 
 -- its kind is the one named; dims and length are those of the row, which accepts the blob, and fit each other; the limits are kept
 pub record Told (s : List ℕ) (v : View) : Type 0 where
@@ -20,5 +24,29 @@ pub record Told (s : List ℕ) (v : View) : Type 0 where
   pub short : length s ≤ longest
   pub within : v .length ≤ length s
 
+-- the view of a blob by its kind's row
+abbrev viewOf : VectorType → List ℕ → View
+viewOf k s = record { kind = k; dims = dims (dimsOf k s); length = lengthOf k s }
+
+told-at : (s : List ℕ) (k : VectorType) → named s ≡ a k → Passed (refusals (a k) s) → Told s (viewOf k s)
+told-at s k e p = record {
+  names = e;
+  sized = refl;
+  long = refl;
+  accepts = passed-accepted s k e p;
+  fit = passed-fit s k p;
+  few = passed-few s k p;
+  short = passed-short s k p;
+  within = length-within s k;
+}
+
 pub told : (s : List ℕ) (v : View) → readOf s ≡ Seen v → Told s v
-told s v e = ?
+unfolding readOf
+told s v e =
+    let (none, shows) = unless-seen (firstOf (refusals (named s) s)) (shown (named s) s) v e in
+    at (named s) refl (none-passed (refusals (named s) s) none) shows
+  where
+    at : (n : Named) → named s ≡ n → Passed (refusals n s) → shown n s ≡ Seen v → Told s v
+    at (a k) h p shows = subst (Told s) (seen-same (viewOf k s) v shows) (told-at s k h p)
+    at unsupported h p shows = absurd (refused-unseen (refusal 2) v shows)
+    at unknown h p shows = absurd (refused-unseen (refusal 3) v shows)

@@ -101,3 +101,42 @@ reading-holds = (
     ),
   ),
 )
+
+-- a blob, what the plain reader answers, and what the strict one does
+pub record Compared : Type 0 where
+  pub blob : List ℕ
+  pub plain : ReadAnswer
+  pub strict : ReadAnswer
+
+abbrev pub agrees : List ℕ → ReadAnswer → Compared
+agrees s r = record { blob = s; plain = r; strict = r }
+
+abbrev pub objects : List ℕ → ReadAnswer → ℕ → Compared
+objects s r n = record { blob = s; plain = r; strict = refused (refusal n) }
+
+-- a sparse blob of two entries, dims 4
+abbrev pub pair : ℕ → ℕ → List ℕ
+pair i j = 0 ∷ 0 ∷ 0x80 ∷ 0x3f ∷ 0 ∷ 0 ∷ 0x80 ∷ 0x3f ∷ i ∷ 0 ∷ 0 ∷ 0 ∷ j ∷ 0 ∷ 0 ∷ 0 ∷ 4 ∷ 0 ∷ 0 ∷ 0 ∷ 9 ∷ []
+
+-- a 1-bit blob of five elements in the byte b
+abbrev pub five : ℕ → List ℕ
+five b = b ∷ 11 ∷ 3 ∷ []
+
+abbrev pub comparing : List Compared
+comparing =
+    agrees (pair 1 2) (seen Float32Sparse 4 16)
+    ∷ agrees (pair 1 1) (seen Float32Sparse 4 16)
+    ∷ objects (pair 2 1) (seen Float32Sparse 4 16) 10
+    ∷ agrees (pair 5 1) (refused (refusal 8))
+    ∷ agrees (five 0x1f) (seen Float1Bit 5 1)
+    ∷ objects (five 0x3f) (seen Float1Bit 5 1) 11
+    ∷ agrees (0x03 ∷ []) (refused (refusal 4))
+    ∷ []
+
+abbrev pub Compare : List Compared → Type 0
+Compare [] = Unit
+Compare (e ∷ es) = (readOf (e .blob) ≡ e .plain) × (strictOf (e .blob) ≡ e .strict) × Compare es
+
+pub comparing-holds : Compare comparing
+unfolding readOf strictOf named byByte before dimsOf lengthOf fits refusals strictRefusals shown firstFrom numberAt
+comparing-holds = (refl, refl, (refl, refl, (refl, refl, (refl, refl, (refl, refl, (refl, refl, (refl, refl, tt)))))))

@@ -2,6 +2,7 @@ pub mod Answers
 pub mod Search
 pub mod Layout
 pub mod Read
+pub mod Strict
 pub mod Parts
 pub mod Write
 pub mod Examples

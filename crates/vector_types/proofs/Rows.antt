@@ -1,0 +1,138 @@
+-- The layout table against the refusals, kind by kind: every test fails exactly if the row and the limits accept the blob.
+use mathlib.Core.Path.{_≡_, refl, ap, _∙_}
+use mathlib.Core.Bool.{Bool, true, false, not, true≢false, and-eq-true-iff}
+use mathlib.Core.List.{List}
+use Prim.Native.Nat.{ℕ, _+_, _-_, _*_, _/_, _%_, _≤_}
+use native.Mathlib.Omega.{arith}
+use borrow.Author.Tests.{ltb-false, leb-false, eqb-true, eqb-false, leb-true, le-leb, lt-leb, le-ltb, eq-eqb, ne-eqb, not-true, not-false}
+use lib.Dec.{ltb, leb, eqb}
+use lib.ListN.{length}
+use Rattle.vector_types.specs.Layout.{longest, mostDims, a, named, even, is, before, trailing, accepted, entries, sparseDims, outside, ceil, unfit, dimsOf, lengthOf, fits}
+use Rattle.vector_types.specs.Search.{some}
+use Rattle.vector_types.specs.Read.{of, refusals}
+use Rattle.vector_types.specs.declared.VectorType.{VectorType}
+use Rattle.vector_types.specs.declared.VectorType.the-variants.{Float32Dense, Float64Dense, Float32Sparse, Float1Bit, Float8}
+use Rattle.vector_types.proofs.Bools.{or-both, and-three}
+use Rattle.vector_types.proofs.Given.{Passed}
+
+-- of a blob with a type byte: what stands before it
+pub record Ended (s : List ℕ) : Type 0 where
+  pub one-more : length s ≡ before s + 1
+  pub halved : before s % 2 ≡ 0
+
+ended : (s : List ℕ) → even s ≡ false → Ended s
+unfolding before
+ended s e = let odd = eqb-false (length s % 2) 0 e in record { one-more = rw e (omega arith); halved = rw e (omega arith) }
+
+-- all but Float32Dense have a type byte
+pub named-odd : (s : List ℕ) (k : VectorType) → named s ≡ a k → is 1 k ≡ false → Ended s
+unfolding named
+named-odd s k e other = at (even s) refl
+  where
+    at : (b : Bool) → even s ≡ b → Ended s
+    at true h = absurd (true≢false (ap (λ n. of n (is 1)) (rw h at e) ∙ other))
+    at false h = ended s h
+
+pub before-within : (s : List ℕ) → before s ≤ length s
+unfolding before
+before-within s = at (even s) refl
+  where
+    at : (b : Bool) → even s ≡ b → before s ≤ length s
+    at true h = rw h (omega arith)
+    at false h = rw h (omega arith)
+
+-- a body is part of its blob
+pub length-within : (s : List ℕ) (k : VectorType) → lengthOf k s ≤ length s
+unfolding lengthOf
+length-within s Float32Dense = before-within s
+length-within s Float64Dense = before-within s
+length-within s Float1Bit = omega (arith, before-within s)
+length-within s Float8 = omega (arith, before-within s)
+length-within s Float32Sparse = omega (arith, before-within s)
+
+-- what the tests tell where all of them fail
+module _ (s : List ℕ) (k : VectorType) (p : Passed (refusals (a k) s)) where
+  pub passed-short : length s ≤ longest
+  unfolding refusals
+  passed-short = ltb-false longest (length s) (p .0)
+
+  pub passed-few : dimsOf k s ≤ mostDims
+  unfolding refusals
+  passed-few = ltb-false mostDims (dimsOf k s) (p .1 .1 .1 .1 .1 .1 .1 .1 .0)
+
+  pub passed-fit : fits k (dimsOf k s) (lengthOf k s) ≡ true
+  unfolding refusals
+  passed-fit = not-false _ (or-both _ _ (or-both _ _ (p .1 .1 .1 .1 .1 .1 .0) .0) .0)
+
+module _ (s : List ℕ) where
+  pub passed-accepted : (k : VectorType) → named s ≡ a k → Passed (refusals (a k) s) → accepted k s ≡ true
+  unfolding accepted refusals
+  passed-accepted Float32Dense e p =
+      let whole = eqb-true (before s) (4 * (before s / 4)) (passed-fit s Float32Dense p) in
+      eq-eqb (before s % 4) 0 (omega arith)
+  passed-accepted Float64Dense e p =
+      let whole = eqb-true (before s) (8 * (before s / 8)) (passed-fit s Float64Dense p) in
+      eq-eqb (before s % 8) 0 (omega arith)
+  passed-accepted Float1Bit e (_, (_, (_, (full, (count, (apart, (fit, _))))))) =
+      let n = before s in
+      let t = trailing s in
+      let bytes = eqb-false n 0 full in
+      let pairs = named-odd s Float1Bit e refl .halved in
+      let counted = or-both (ltb (8 * n) t) false count in
+      let elements = eqb-false (8 * n - t) 0 (or-both (unfit Float1Bit s) (eqb (8 * n - t) 0) fit .1) in
+      let below = leb-false n (ceil (8 * n - t) 8) apart in
+      rw (le-leb 2 n (omega arith), le-leb 8 t (omega (arith, ltb-false)), le-leb t (8 * n - 1) (omega (arith, ltb-false)))
+  passed-accepted Float8 e (_, (_, (_, (_, (count, (_, (fit, _))))))) =
+      let n = before s in
+      let t = trailing s in
+      let d = n - 10 - t in
+      let counted = or-both (ltb (n - 10) t) (ltb n 10) count in
+      let (whole, full) = or-both (unfit Float8 s) (eqb d 0) fit in
+      let aligned = eqb-true (n - 2) (4 * ceil d 4 + 8) (not-false _ (or-both _ _ whole .0)) in
+      let elements = eqb-false d 0 full in
+      rw (le-leb 14 n (omega (arith, ltb-false)), eq-eqb ((n - 10) % 4) 0 (omega (arith, ltb-false)), le-leb t 3 (omega (arith, ltb-false)))
+  passed-accepted Float32Sparse e (_, (_, (_, (_, (_, (_, (fit, (inside, _)))))))) =
+      let trailed : Bool = eqb (before s) (4 + 8 * entries s) in
+      let (_, ends) = or-both (not (eqb (8 * entries s % 8) 0)) (not trailed) (or-both _ false fit .0) in
+      rw (not-false trailed ends, inside)
+
+  -- and where the row and the limits accept the blob, every test fails
+  pub accepted-passed : (k : VectorType) → accepted k s ≡ true → ltb longest (length s) ≡ false → ltb mostDims (dimsOf k s) ≡ false
+      → Passed (refusals (a k) s)
+  unfolding accepted refusals
+  accepted-passed Float32Dense e short few =
+      let whole = eqb-true (before s % 4) 0 e in
+      let fit = eq-eqb (before s) (4 * (before s / 4)) (omega arith) in
+      (short, (refl, (refl, (refl, (refl, (refl, (rw fit, (refl, (few, tt)))))))))
+  accepted-passed Float64Dense e short few =
+      let whole = eqb-true (before s % 8) 0 e in
+      let fit = eq-eqb (before s) (8 * (before s / 8)) (omega arith) in
+      (short, (refl, (refl, (refl, (refl, (refl, (rw fit, (refl, (few, tt)))))))))
+  accepted-passed Float1Bit e short few =
+      let n = before s in
+      let t = trailing s in
+      let d = 8 * n - t in
+      let row = and-three (leb 2 n) (leb 8 t) (leb t (8 * n - 1)) e in
+      let bytes = ne-eqb n 0 (omega (arith, leb-true)) in
+      let counted = le-ltb (8 * n) t (omega (arith, leb-true)) in
+      let apart = lt-leb n (ceil d 8) (omega (arith, leb-true)) in
+      let elements = ne-eqb d 0 (omega (arith, leb-true)) in
+      let fit = eq-eqb (ceil d 8) (ceil d 8) refl in
+      (short, (refl, (refl, (bytes, (rw counted, (apart, (rw (fit, elements), (refl, (few, tt)))))))))
+  accepted-passed Float8 e short few =
+      let n = before s in
+      let t = trailing s in
+      let d = n - 10 - t in
+      let row = and-three (leb 14 n) (eqb ((n - 10) % 4) 0) (leb t 3) e in
+      let bytes = ne-eqb n 0 (omega (arith, leb-true)) in
+      let counted = le-ltb (n - 10) t (omega (arith, leb-true)) in
+      let enough = le-ltb n 10 (omega (arith, leb-true)) in
+      let elements = ne-eqb d 0 (omega (arith, leb-true)) in
+      let fit = eq-eqb (n - 2) (4 * ceil d 4 + 8) (omega (arith, leb-true, eqb-true)) in
+      (short, (refl, (refl, (bytes, (rw counted enough, (refl, (rw (fit, elements), (refl, (few, tt)))))))))
+  accepted-passed Float32Sparse e short few =
+      let m = 8 * entries s in
+      let out : Bool = some (outside s (entries s) (sparseDims s)) (entries s) in
+      let (ends, inside) = and-eq-true-iff (eqb (before s) (4 + m)) (not out) .0 e in
+      let fit = eq-eqb (m % 8) 0 (omega arith) in
+      (short, (refl, (refl, (refl, (refl, (refl, (rw (fit, ends), (not-true out inside, (few, tt)))))))))
