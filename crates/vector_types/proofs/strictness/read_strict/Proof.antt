@@ -1,6 +1,6 @@
 -- A refusal of the plain reader is one of the strict reader; a view is held to its tests.
 use mathlib.Core.Path.{sym, _∙_}
-use Rattle.vector_types.proofs.Strictly.{strictly-refused}
+use Rattle.vector_types.proofs.Strict.{strict-refuses}
 use borrow.Author.Needs.{needs}
 use Rattle.vector_types.proofs.strictness.read_strict.Statement.{statement}
 use Rattle.vector_types.proofs.strictness.read_strict.Tie as tie
@@ -21,7 +21,7 @@ returns : tie.Need-returns
 returns c = search needs
 
 returns-2 : tie.Need-returns-2
-returns-2 c = sym (strictly-refused _ _ (sym (c .before .before .before .read .ensures) ∙ c .before .refusal .given .1))
+returns-2 c = sym (strict-refuses _ _ (sym (c .before .before .before .read .ensures) ∙ c .before .refusal .given .1))
 
 pub read-strict-spec : {M : Type 1} → statement M
 read-strict-spec =
