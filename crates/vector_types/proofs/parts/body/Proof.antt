@@ -1,37 +1,41 @@
+-- The answer read tells how long the part is that is shown.
+use mathlib.Core.Path.{refl, sym, _∙_}
+use native.Mathlib.Omega.{arith}
+use lib.ListN.{length-take}
+use Rattle.vector_types.specs.Parts.{bodyOf}
+use Rattle.vector_types.proofs.Views.{told}
 use borrow.Author.Needs.{needs}
 use Rattle.vector_types.proofs.parts.body.Statement.{statement}
 use Rattle.vector_types.proofs.parts.body.Tie as tie
-use Rattle.vector_types.proofs.parts.body.Reads as reads
-use Rattle.vector_types.proofs.parts.body.Lts as lts
-use Rattle.vector_types.proofs.reading.read.Reads as read-reads
 
--- src/parts.rt:16:11
 read-requires : tie.Need-read-requires
 read-requires c κs = search needs
 
--- src/parts.rt:17:26
 enum-known-view : tie.Need-enum-known-view
 enum-known-view c = search needs
 
--- src/parts.rt:19:13
 slice-aggregate-result : tie.Need-slice-aggregate-result
-slice-aggregate-result c = ?
+slice-aggregate-result c =
+    let e = sym (c .before .before .before .before .read .ensures) ∙ c .before .before .view .given .1 in
+    simp length-take (omega (arith, told _ _ e .within))
 
--- src/parts.rt:21:35
 enum-told : tie.Need-enum-told
 enum-told c = search needs
 
--- src/parts.rt:21:35
 slice-aggregate-result-2 : tie.Need-slice-aggregate-result-2
 slice-aggregate-result-2 c = search needs
 
--- src/parts.rt:12:1
 returns : tie.Need-returns
-returns c = ?
+unfolding bodyOf
+returns c =
+    let e = sym (c .before .before .before .before .read .ensures) ∙ c .before .before .view .given .1 in
+    (rw e, refl)
 
--- src/parts.rt:12:1
 returns-2 : tie.Need-returns-2
-returns-2 c = ?
+unfolding bodyOf
+returns-2 c =
+    let e = sym (c .before .before .before .read .ensures) ∙ c .before .enum-told .given .1 in
+    (rw e, refl)
 
 pub body-spec : {M : Type 1} → statement M
 body-spec =

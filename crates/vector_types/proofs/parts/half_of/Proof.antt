@@ -1,46 +1,35 @@
+-- Each arm has its row of `halfOf`.
 use borrow.Author.Needs.{needs}
 use Rattle.vector_types.proofs.parts.half_of.Statement.{statement}
 use Rattle.vector_types.proofs.parts.half_of.Tie as tie
-use Rattle.vector_types.proofs.parts.half_of.Reads as reads
-use Rattle.vector_types.proofs.parts.half_of.Lts as lts
 
--- src/parts.rt:29:38
 enum-told : tie.Need-enum-told
 enum-told c = search needs
 
--- src/parts.rt:30:37
 enum-told-2 : tie.Need-enum-told-2
 enum-told-2 c = search needs
 
--- src/parts.rt:31:37
 enum-told-3 : tie.Need-enum-told-3
 enum-told-3 c = search needs
 
--- src/parts.rt:32:34
 enum-told-4 : tie.Need-enum-told-4
 enum-told-4 c = search needs
 
--- src/parts.rt:33:31
 enum-told-5 : tie.Need-enum-told-5
 enum-told-5 c = search needs
 
--- src/parts.rt:25:1
 returns : tie.Need-returns
-returns c = ?
+returns c = rw (c .enum-told .given .1)
 
--- src/parts.rt:25:1
 returns-2 : tie.Need-returns-2
 returns-2 c = search needs
 
--- src/parts.rt:25:1
 returns-3 : tie.Need-returns-3
 returns-3 c = search needs
 
--- src/parts.rt:25:1
 returns-4 : tie.Need-returns-4
 returns-4 c = search needs
 
--- src/parts.rt:25:1
 returns-5 : tie.Need-returns-5
 returns-5 c = search needs
 

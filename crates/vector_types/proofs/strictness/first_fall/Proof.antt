@@ -1,54 +1,75 @@
+-- The loop searches by `Searched`; `last` is the index before, 0 before the first, and nothing is below 0.
+use mathlib.Core.Path.{_≡_, refl, sym, _∙_}
+use mathlib.Core.List.{List}
+use Prim.Native.Nat.{ℕ, zero, suc, _+_, _-_}
+use native.Mathlib.Numerals.{add-one}
+use lib.Dec.{ltb, leb·suc-zero}
+use borrow.Author.Tests.{lt-ltb, le-ltb}
+use Rattle.vector_types.specs.Layout.{indexAt}
+use Rattle.vector_types.specs.Read.{falls}
+use Rattle.vector_types.proofs.Search.{Searched, search-start, search-hit, search-miss, search-end}
+use native.Mathlib.Omega.{arith}
 use Rattle.vector_types.proofs.strictness.first_fall.Statement.{statement}
 use Rattle.vector_types.proofs.strictness.first_fall.Tie as tie
-use Rattle.vector_types.proofs.strictness.first_fall.Reads as reads
-use Rattle.vector_types.proofs.strictness.first_fall.Lts as lts
-use Rattle.elements.proofs.u32_at.Reads as u32-at-reads
+
+abbrev indexBefore : List ℕ → ℕ → ℕ → ℕ
+indexBefore s k zero = 0
+indexBefore s k (suc j) = indexAt s k j
+
+falls-below : (s : List ℕ) (k j : ℕ) → falls s k j ≡ ltb (indexAt s k j) (indexBefore s k j)
+falls-below s k zero = sym (leb·suc-zero (indexAt s k zero))
+falls-below s k (suc j) = refl
+
+-- what one turn compares
+compared : (s : List ℕ) (k j : ℕ) {index last : ℕ} → index ≡ indexAt s k j → last ≡ indexBefore s k j → falls s k j ≡ ltb index last
+compared s k j e f = falls-below s k j ∙ rw (← e, ← f)
+
+before-next : (s : List ℕ) (k j : ℕ) → indexAt s k j ≡ indexBefore s k (j + 1)
+before-next s k j = rw (add-one j)
 
 abbrev Inv-loop : tie.InvT-loop
-Inv-loop s count last₀ j₀ last j = ?
+Inv-loop s count last₀ j₀ last j = (last ≡ indexBefore s count j) × Searched (falls s count) count j
 
 abbrev μ-loop : tie.MeasureT-loop
-μ-loop s count last₀ j₀ last j = ?
+μ-loop s count last₀ j₀ last j = count - j
 
--- src/strictness.rt:22:5
 loop-holds : tie.Need-loop-holds Inv-loop μ-loop
-loop-holds c = ?
+loop-holds c = (refl, search-start _ _)
 
--- src/strictness.rt:23:41
 mul-u32-at : tie.Need-mul-u32-at Inv-loop μ-loop
-mul-u32-at c = ?
+mul-u32-at c = omega arith
 
--- src/strictness.rt:23:53
 mul-u32-at-2 : tie.Need-mul-u32-at-2 Inv-loop μ-loop
-mul-u32-at-2 c = ?
+mul-u32-at-2 c = omega arith
 
--- src/strictness.rt:23:41
 add-u32-at : tie.Need-add-u32-at Inv-loop μ-loop
-add-u32-at c = ?
+add-u32-at c = omega arith
 
--- src/strictness.rt:23:13
 u32-at-requires : tie.Need-u32-at-requires Inv-loop μ-loop
-u32-at-requires c κs = ?
+u32-at-requires c κs = omega arith
 
--- src/strictness.rt:25:13
 returns : tie.Need-returns Inv-loop μ-loop
-returns c = ?
+returns c =
+    let l = c .before .before .before .loop in
+    search-hit _ _ _ (l .inv .1) (c .before .before .loop-test .taken)
+    (compared _ _ _ (c .before .u32-at .ensures) (l .inv .0) ∙ lt-ltb _ _ (c .if1 .taken))
 
--- src/strictness.rt:28:9
 add-j : tie.Need-add-j Inv-loop μ-loop
-add-j c = ?
+add-j c = omega arith
 
--- src/strictness.rt:22:5
 loop-less : tie.Need-loop-less Inv-loop μ-loop
-loop-less c = ?
+loop-less c = omega arith
 
--- src/strictness.rt:22:5
 loop-again : tie.Need-loop-again Inv-loop μ-loop
-loop-again c = ?
+loop-again c =
+    let l = c .before .before .before .loop in (
+      c .before .u32-at .ensures ∙ before-next _ _ _,
+      search-miss _ _ _ (l .inv .1) (c .before .before .loop-test .taken)
+          (compared _ _ _ (c .before .u32-at .ensures) (l .inv .0) ∙ le-ltb _ _ (c .if1 .left)),
+    )
 
--- src/strictness.rt:16:1
 returns-2 : tie.Need-returns-2 Inv-loop μ-loop
-returns-2 c = ?
+returns-2 c = search-end _ _ _ (c .before .loop .inv .1) (c .loop-test .left)
 
 pub first-fall-spec : {M : Type 1} → statement M
 first-fall-spec =

@@ -1,75 +1,111 @@
+-- The test of a kind refuses exactly where the definition's does; the other kinds have none.
+use mathlib.Core.Path.{_≡_, sym, ap, _∙_}
+use mathlib.Core.Bool.{Bool, true, false, cond}
+use mathlib.Core.List.{List}
+use Prim.Native.Nat.{ℕ, _-_, _*_, _/_, _≤_}
+use native.Mathlib.Omega.{arith}
+use lib.Dec.{ltb}
+use lib.ListN.{length}
+use borrow.Author.Tests.{lt-ltb, le-ltb, eqb-true}
+use Rattle.vector_types.specs.Answers.{refused, refusal}
+use Rattle.vector_types.specs.Search.{first, some}
+use Rattle.vector_types.specs.Layout.{ceil, is, entries, lengthOf, fits}
+use Rattle.vector_types.specs.Read.{readOf, strictOf, falls, unusedSet}
+use Rattle.vector_types.specs.declared.View.{View}
+use Rattle.vector_types.specs.declared.VectorType.the-variants.{Float32Sparse, Float1Bit}
+use Rattle.vector_types.specs.declared.ReadAnswer.the-variants.{View as Seen}
+use Rattle.vector_types.proofs.Views.{told}
+use Rattle.vector_types.proofs.Strict.{strict-sparse, strict-bits, strict-other}
 use borrow.Author.Needs.{needs}
 use Rattle.vector_types.proofs.strictness.hold.Statement.{statement}
 use Rattle.vector_types.proofs.strictness.hold.Tie as tie
-use Rattle.vector_types.proofs.strictness.hold.Reads as reads
-use Rattle.vector_types.proofs.strictness.hold.Lts as lts
-use Rattle.vector_types.proofs.reading.refuse.Reads as refuse-reads
-use Rattle.vector_types.proofs.strictness.first_fall.Reads as first-fall-reads
-use Rattle.vector_types.proofs.strictness.unused_set.Reads as unused-set-reads
 
--- src/strictness.rt:53:25
+-- what the code takes from the view is what the definitions take from the blob
+module _ (s : List ℕ) (v : View) (e : readOf s ≡ Seen v) where
+  count-is : v .kind ≡ Float32Sparse → entries s ≡ v .length / 8
+  unfolding lengthOf
+  count-is h = let long : v .length ≡ lengthOf Float32Sparse s = told s v e .long ∙ rw h in omega arith
+
+  length-is : v .kind ≡ Float1Bit → v .length ≡ ceil (v .dims .0) 8
+  unfolding fits
+  length-is h = eqb-true (v .length) (ceil (v .dims .0) 8) (rw h at (told s v e .fit))
+
+  bits-within : v .kind ≡ Float1Bit → ceil (v .dims .0) 8 ≤ length s
+  bits-within h = omega (arith, length-is h, told s v e .within)
+
+  by-falls : v .kind ≡ Float32Sparse → (b : Bool) (place : ℕ) → let count = v .length / 8 in
+      place ≡ first (falls s count) count → ltb place count ≡ b → strictOf s ≡ cond b (refused (refusal 10)) (Seen v)
+  by-falls h b place p q =
+      let test : some (falls s (entries s)) (entries s) ≡ b = rw (count-is h, ← p) q in
+      strict-sparse s v e h ∙ ap (λ (t : Bool). cond t (refused (refusal 10)) (Seen v)) test
+
+  by-bits : v .kind ≡ Float1Bit → (b : Bool) → some (unusedSet s (v .dims .0)) (8 * ceil (v .dims .0) 8 - v .dims .0) ≡ b
+      → strictOf s ≡ cond b (refused (refusal 11)) (Seen v)
+  by-bits h b q =
+      let test : some (unusedSet s (v .dims .0)) (8 * v .length - v .dims .0) ≡ b = rw (length-is h) q in
+      strict-bits s v e h ∙ ap (λ (t : Bool). cond t (refused (refusal 11)) (Seen v)) test
+
 enum-told : tie.Need-enum-told
 enum-told c = search needs
 
--- src/strictness.rt:54:16
 first-fall-requires : tie.Need-first-fall-requires
-first-fall-requires c κs = ?
+first-fall-requires c κs = omega (arith, told _ _ (c .before .before .before .before .pre) .within)
 
--- src/strictness.rt:55:17
 refuse-requires : tie.Need-refuse-requires
 refuse-requires c κs = search needs
 
--- src/strictness.rt:55:17
 returns : tie.Need-returns
-returns c = ?
+returns c =
+    c .refuse .ensures
+    ∙ sym
+    (by-falls _ _ (c .before .before .before .before .before .before .before .pre) (c .before .before .before .before .enum-told .given .1) true _
+    (c .before .before .first-fall .ensures) (lt-ltb _ _ (c .before .if1 .taken)))
 
--- src/strictness.rt:60:16
 enum-told-2 : tie.Need-enum-told-2
 enum-told-2 c = search needs
 
--- src/strictness.rt:60:16
 unused-set-requires : tie.Need-unused-set-requires
-unused-set-requires c κs = ?
+unused-set-requires c κs = bits-within _ _ (c .before .before .before .pre) (c .enum-told2 .given .1)
 
--- src/strictness.rt:61:17
 refuse-requires-2 : tie.Need-refuse-requires-2
 refuse-requires-2 c κs = search needs
 
--- src/strictness.rt:61:17
 returns-2 : tie.Need-returns-2
-returns-2 c = ?
+returns-2 c =
+    c .refuse2 .ensures
+    ∙ sym
+    (by-bits _ _ (c .before .before .before .before .before .before .pre) (c .before .before .before .enum-told2 .given .1) true
+    (sym (c .before .before .unused-set .ensures) ∙ c .before .if2 .taken))
 
--- src/strictness.rt:65:37
 enum-told-3 : tie.Need-enum-told-3
 enum-told-3 c = search needs
 
--- src/strictness.rt:66:37
 enum-told-4 : tie.Need-enum-told-4
 enum-told-4 c = search needs
 
--- src/strictness.rt:67:31
 enum-told-5 : tie.Need-enum-told-5
 enum-told-5 c = search needs
 
--- src/strictness.rt:46:1
 returns-3 : tie.Need-returns-3
-returns-3 c = ?
+returns-3 c =
+    sym
+    (by-falls _ _ (c .before .before .before .before .before .before .pre) (c .before .before .before .enum-told .given .1) false _
+    (c .before .first-fall .ensures) (le-ltb _ _ (c .if1 .left)))
 
--- src/strictness.rt:46:1
 returns-4 : tie.Need-returns-4
-returns-4 c = ?
+returns-4 c =
+    sym
+    (by-bits _ _ (c .before .before .before .before .before .pre) (c .before .before .enum-told2 .given .1) false
+    (sym (c .before .unused-set .ensures) ∙ c .if2 .left))
 
--- src/strictness.rt:46:1
 returns-5 : tie.Need-returns-5
-returns-5 c = ?
+returns-5 c = sym (strict-other _ _ (c .before .before .before .pre) (ap (is 9) (c .enum-told3 .given .1)) (ap (is 3) (c .enum-told3 .given .1)))
 
--- src/strictness.rt:46:1
 returns-6 : tie.Need-returns-6
-returns-6 c = ?
+returns-6 c = sym (strict-other _ _ (c .before .before .before .pre) (ap (is 9) (c .enum-told4 .given .1)) (ap (is 3) (c .enum-told4 .given .1)))
 
--- src/strictness.rt:46:1
 returns-7 : tie.Need-returns-7
-returns-7 c = ?
+returns-7 c = sym (strict-other _ _ (c .before .before .before .pre) (ap (is 9) (c .enum-told5 .given .1)) (ap (is 3) (c .enum-told5 .given .1)))
 
 pub hold-spec : {M : Type 1} → statement M
 hold-spec =

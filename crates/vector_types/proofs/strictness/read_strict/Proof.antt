@@ -1,34 +1,27 @@
+-- A refusal of the plain reader is one of the strict reader; a view is held to its tests.
+use mathlib.Core.Path.{sym, _∙_}
+use Rattle.vector_types.proofs.Strict.{strict-refuses}
 use borrow.Author.Needs.{needs}
 use Rattle.vector_types.proofs.strictness.read_strict.Statement.{statement}
 use Rattle.vector_types.proofs.strictness.read_strict.Tie as tie
-use Rattle.vector_types.proofs.strictness.read_strict.Reads as reads
-use Rattle.vector_types.proofs.strictness.read_strict.Lts as lts
-use Rattle.vector_types.proofs.reading.read.Reads as read-reads
-use Rattle.vector_types.proofs.strictness.hold.Reads as hold-reads
 
--- src/strictness.rt:75:11
 read-requires : tie.Need-read-requires
 read-requires c κs = search needs
 
--- src/strictness.rt:76:26
 enum-known-view : tie.Need-enum-known-view
 enum-known-view c = search needs
 
--- src/strictness.rt:76:35
 hold-requires : tie.Need-hold-requires
-hold-requires c κs = ?
+hold-requires c κs = sym (c .before .before .before .read .ensures) ∙ c .before .view .given .1
 
--- src/strictness.rt:77:29
 enum-known-refusal : tie.Need-enum-known-refusal
 enum-known-refusal c = search needs
 
--- src/strictness.rt:72:1
 returns : tie.Need-returns
 returns c = search needs
 
--- src/strictness.rt:72:1
 returns-2 : tie.Need-returns-2
-returns-2 c = ?
+returns-2 c = sym (strict-refuses _ _ (sym (c .before .before .before .read .ensures) ∙ c .before .refusal .given .1))
 
 pub read-strict-spec : {M : Type 1} → statement M
 read-strict-spec =

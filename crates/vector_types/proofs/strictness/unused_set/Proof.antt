@@ -1,28 +1,26 @@
+-- Nothing is unused where dims fill the last byte; else the shifted byte holds the unused bits.
+use Prim.Native.Nat.{_/_}
+use Rattle.vector_types.proofs.Unused.{none-unused, some-unused}
 use borrow.Author.Needs.{needs}
 use Rattle.vector_types.proofs.strictness.unused_set.Statement.{statement}
 use Rattle.vector_types.proofs.strictness.unused_set.Tie as tie
-use Rattle.vector_types.proofs.strictness.unused_set.Reads as reads
-use Rattle.vector_types.proofs.strictness.unused_set.Lts as lts
 
--- src/strictness.rt:40:9
 returns : tie.Need-returns
-returns c = ?
+returns c = let a = c .before .args in none-unused (a .s .now) (a .dims) (c .if1 .taken)
 
--- src/strictness.rt:42:5
 shared-slice-read-result : tie.Need-shared-slice-read-result
 shared-slice-read-result c = search needs
 
--- src/strictness.rt:42:20
 cast-result : tie.Need-cast-result
 cast-result c = search needs
 
--- src/strictness.rt:42:5
 shr-result : tie.Need-shr-result
 shr-result c = search needs
 
--- src/strictness.rt:34:1
 returns-2 : tie.Need-returns-2
-returns-2 c = ?
+returns-2 c =
+    let a = c .before .before .args in
+    some-unused (a .s .now) (a .dims) (c .shared-slice-known .given (a .dims / 8) .fits) (c .before .if1 .left)
 
 pub unused-set-spec : {M : Type 1} → statement M
 unused-set-spec =
