@@ -1,3 +1,4 @@
 -- Laws of blobs
 pub mod Search
 pub mod Views
+pub mod Tails
