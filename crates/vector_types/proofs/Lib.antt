@@ -2,3 +2,4 @@
 pub mod Search
 pub mod Views
 pub mod Tails
+pub mod Measured

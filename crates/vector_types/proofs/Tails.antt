@@ -13,7 +13,8 @@ use Rattle.elements.specs.Bytes.{bytesOf}
 use Rattle.elements.proofs.Numbers.{length-bytesOf}
 use Rattle.vector_types.specs.Layout.{ceil}
 use Rattle.vector_types.specs.Write.{zeroIf, filler, trailingBits, tailOf}
-use Rattle.vector_types.specs.declared.VectorType.the-variants.{Float32Sparse}
+use Rattle.vector_types.specs.declared.VectorType.{VectorType}
+use Rattle.vector_types.specs.declared.VectorType.the-variants.{Float32Dense, Float64Dense, Float32Sparse, Float1Bit, Float8}
 
 -- one byte after an even body
 pub length-filler : (m : ℕ) → length (filler m) ≡ 1 - m % 2
@@ -28,6 +29,14 @@ trailingBits-byte d = omega (arith, length-filler (ceil d 8))
 pub length-sparse : (d : ℕ) → length (tailOf Float32Sparse d) ≡ 5
 unfolding tailOf
 length-sparse d = simp (length-append, length-bytesOf)
+
+pub tail-short : (k : VectorType) (d : ℕ) → length (tailOf k d) ≤ 5
+unfolding tailOf
+tail-short Float32Dense d = omega arith
+tail-short Float64Dense d = omega arith
+tail-short Float32Sparse d = omega (arith, length-sparse d)
+tail-short Float1Bit d = rw length-append (omega (arith, length-filler (ceil d 8)))
+tail-short Float8 d = omega arith
 
 -- bytes stored one after another
 pub two-put : (l : List ℕ) (a b : ℕ) → 2 ≤ length l → set (set l 0 a) 1 b ≡ onto (a ∷ b ∷ []) l
