@@ -14,9 +14,12 @@ use Rattle.vector_types.specs.declared.VectorType.the-variants.{Float32D
 use Rattle.vector_types.specs.declared.WriteAnswer.{WriteAnswer}
 use Rattle.vector_types.specs.declared.WriteAnswer.the-variants.{Written, Refused, Short}
 
--- what stands between a 1-bit body of m bytes and its count: one zero byte after an even body
+-- a zero byte where one is asked for; between a 1-bit body of m bytes and its count, after an even body
+abbrev pub zeroIf : Bool → List ℕ
+zeroIf b = cond b (0 ∷ []) []
+
 abbrev pub filler : ℕ → List ℕ
-filler m = cond (eqb (m % 2) 0) (0 ∷ []) []
+filler m = zeroIf (eqb (m % 2) 0)
 
 -- the trailing counts: bits of all that stands before the type byte, and bytes up to a multiple of 4
 abbrev pub trailingBits : ℕ → ℕ
@@ -24,6 +27,10 @@ trailingBits d = 8 * (ceil d 8 + length (filler (ceil d 8)) + 1) - d
 
 abbrev pub trailingBytes : ℕ → ℕ
 trailingBytes d = 4 * ceil d 4 - d
+
+-- a count and the type byte, after a zero byte where one is asked for
+abbrev pub countOf : Bool → ℕ → ℕ → List ℕ
+countOf filled n b = zeroIf filled ++ (n ∷ b ∷ [])
 
 -- what follows the body of a vector of d elements
 unfoldable pub tailOf : VectorType → ℕ → List ℕ

@@ -8,8 +8,8 @@ ghost use Rattle.promises.specs.Onto.{onto};
 ghost use Rattle.vector_types.specs.Answers.{refusal, firstOf, unless};
 ghost use Rattle.vector_types.specs.Search.{some};
 ghost use Rattle.vector_types.specs.Layout.{mostDims, is, counted, fits, outside};
-ghost use Rattle.vector_types.specs.Write.{filler, trailingBits, trailingBytes, tailOf, blobOf, writeRefusals, writeOf, leftOf};
-ghost use Rattle.vector_types.specs.declared.VectorType.the-variants.{Float32Sparse, Float1Bit, Float8};
+ghost use Rattle.vector_types.specs.Write.{filler, trailingBits, trailingBytes, countOf, tailOf, blobOf, writeRefusals, writeOf, leftOf};
+ghost use Rattle.vector_types.specs.declared.VectorType.the-variants.{Float32Sparse};
 ghost use Rattle.vector_types.specs.declared.writing.Size.the-variants.{Bytes, Refused};
 use crate::Dims;
 use crate::LONGEST;
@@ -61,7 +61,8 @@ fn trailing_bits(dims: Dims) -> TrailingBits
     ensures { λ r. ⌜ r .0 ≡ trailingBits (dims .0) ⌝ }
 {
     let size = (dims.0 + 7) / 8;
-    TrailingBits(8 * (size + fill(size) + 1) - dims.0)
+    let before = size + fill(size) + 1;
+    TrailingBits(8 * before - dims.0)
 }
 
 fn trailing_bytes(dims: Dims) -> TrailingBytes
@@ -137,33 +138,22 @@ fn measure(kind: VectorType, dims: Dims, body: &[u8]) -> Size
     Size::Bytes(length)
 }
 
-// Puts the end of a 1-bit blob at the start of out, and of a Float8 one, and of a sparse one.
-fn put_one_bit_tail(dims: Dims, out: &mut [u8])
-    requires { ⌜ dims .0 ≤ mostDims ⌝ }
-    requires { ⌜ length (tailOf Float1Bit (dims .0)) ≤ length (now out) ⌝ }
-    ensures { λ _. ⌜ now (out .exit) ≡ onto (tailOf Float1Bit (dims .0)) (now (out .entry)) ⌝ }
+// Puts a trailing count and the type byte at the start of out, after a zero byte if `filled`.
+fn put_count(filled: bool, count: u8, byte: u8, out: &mut [u8])
+    requires { ⌜ length (countOf filled count byte) ≤ length (now out) ⌝ }
+    ensures { λ _. ⌜ now (out .exit) ≡ onto (countOf filled count byte) (now (out .entry)) ⌝ }
 {
-    let t = trailing_bits(dims).0 as u8;
-    if fill((dims.0 + 7) / 8) == 0 {
-        out[0] = t;
-        out[1] = 3;
-    } else {
+    if filled {
         out[0] = 0;
-        out[1] = t;
-        out[2] = 3;
+        out[1] = count;
+        out[2] = byte;
+    } else {
+        out[0] = count;
+        out[1] = byte;
     }
 }
 
-fn put_float8_tail(dims: Dims, out: &mut [u8])
-    requires { ⌜ dims .0 ≤ mostDims ⌝ }
-    requires { ⌜ length (tailOf Float8 (dims .0)) ≤ length (now out) ⌝ }
-    ensures { λ _. ⌜ now (out .exit) ≡ onto (tailOf Float8 (dims .0)) (now (out .entry)) ⌝ }
-{
-    out[0] = 0;
-    out[1] = trailing_bytes(dims).0 as u8;
-    out[2] = 4;
-}
-
+// Puts the dims and the type byte of a sparse blob at the start of out.
 fn put_sparse_tail(dims: Dims, out: &mut [u8])
     requires { ⌜ dims .0 ≤ mostDims ⌝ }
     requires { ⌜ length (tailOf Float32Sparse (dims .0)) ≤ length (now out) ⌝ }
@@ -185,8 +175,15 @@ fn put_tail(kind: VectorType, dims: Dims, out: &mut [u8])
             out[0] = 2;
         }
         VectorType::Float32Sparse => put_sparse_tail(dims, out),
-        VectorType::Float1Bit => put_one_bit_tail(dims, out),
-        VectorType::Float8 => put_float8_tail(dims, out),
+        VectorType::Float1Bit => {
+            let filled = (dims.0 + 7) / 8 % 2 == 0;
+            let count = trailing_bits(dims).0 as u8;
+            put_count(filled, count, 3, out)
+        }
+        VectorType::Float8 => {
+            let count = trailing_bytes(dims).0 as u8;
+            put_count(true, count, 4, out)
+        }
     }
 }
 

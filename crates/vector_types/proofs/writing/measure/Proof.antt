@@ -1,95 +1,85 @@
+-- Each test is that of the list of refusals.
+use mathlib.Core.Path.{_≡_, sym, ap, _∙_}
+use mathlib.Core.Bool.{true, false, not}
+use Prim.Native.Nat.{_+_}
+use lib.Dec.{ltb}
+use lib.ListN.{length}
+use borrow.Author.Tests.{lt-ltb, le-ltb}
+use Rattle.vector_types.specs.Layout.{longest, mostDims, fits}
+use Rattle.vector_types.specs.Write.{blobOf, writeRefusals}
+use Rattle.vector_types.specs.declared.writing.Size.the-variants.{Bytes}
+use Rattle.vector_types.proofs.Tails.{tail-short}
+use Rattle.vector_types.proofs.Measured.{length-blob}
 use borrow.Author.Needs.{needs}
+use native.Mathlib.Omega.{arith}
 use Rattle.vector_types.proofs.writing.measure.Statement.{statement}
 use Rattle.vector_types.proofs.writing.measure.Tie as tie
-use Rattle.vector_types.proofs.writing.measure.Reads as reads
-use Rattle.vector_types.proofs.writing.measure.Lts as lts
-use Rattle.vector_types.proofs.writing.is_empty.Reads as is-empty-reads
-use Rattle.vector_types.proofs.writing.is_fit.Reads as is-fit-reads
-use Rattle.vector_types.proofs.writing.is_outside.Reads as is-outside-reads
-use Rattle.vector_types.proofs.writing.refuse.Reads as refuse-reads
-use Rattle.vector_types.proofs.writing.tail_length.Reads as tail-length-reads
 
--- src/writing.rt:122:9
-refuse-requires : tie.Need-refuse-requires
-refuse-requires c κs = search needs
-
--- src/writing.rt:122:9
 returns : tie.Need-returns
-returns c = ?
+unfolding writeRefusals
+returns c = c .refuse .ensures ∙ simp (lt-ltb _ _ (c .before .if1 .taken))
 
--- src/writing.rt:124:9
-is-fit-requires : tie.Need-is-fit-requires
-is-fit-requires c κs = search needs
+few : (c : tie.Else1) → ltb mostDims (c .before .before .before .args .dims .0) ≡ false
+few c = le-ltb _ _ (c .if1 .left)
 
--- src/writing.rt:125:9
-refuse-requires-2 : tie.Need-refuse-requires-2
-refuse-requires-2 c κs = search needs
-
--- src/writing.rt:125:9
 returns-2 : tie.Need-returns-2
-returns-2 c = ?
+unfolding writeRefusals
+returns-2 c = c .refuse2 .ensures ∙ simp (few (c .before .before .before), ap not (sym (c .before .before .is-fit .ensures)) ∙ c .before .if2 .taken)
 
--- src/writing.rt:127:31
-tail-length-requires : tie.Need-tail-length-requires
-tail-length-requires c κs = search needs
+fit : (c : tie.Else2) → let a = c .before .before .before .before .before .args in not (fits (a .kind) (a .dims .0) (length (a .body .now))) ≡ false
+fit c = ap not (sym (c .before .is-fit .ensures)) ∙ c .if2 .left
 
--- src/writing.rt:127:18
 add-length : tie.Need-add-length
-add-length c = ?
+add-length c = let a = c .before .before .before .before .before .before .args in omega (arith, c .tail-length .ensures, tail-short (a .kind) (a .dims .0))
 
--- src/writing.rt:129:9
-refuse-requires-3 : tie.Need-refuse-requires-3
-refuse-requires-3 c κs = search needs
+-- the length is that of the blob
+whole : (c : tie.After-tail-length) → let a = c .before .before .before .before .before .before .args in
+    length (a .body .now) + c .tail-length .result ≡ length (blobOf (a .kind) (a .dims .0) (a .body .now))
+whole c =
+    let a = c .before .before .before .before .before .before .args in
+    omega (arith, c .tail-length .ensures, length-blob (a .kind) (a .dims .0) (a .body .now))
 
--- src/writing.rt:129:9
 returns-3 : tie.Need-returns-3
-returns-3 c = ?
+unfolding writeRefusals
+returns-3 c =
+    let l = c .before .before in
+    c .refuse3 .ensures ∙ simp (few (l .before .before .before), fit (l .before), ← whole l, lt-ltb _ _ (c .before .if3 .taken))
 
--- src/writing.rt:131:8
-is-outside-requires : tie.Need-is-outside-requires
-is-outside-requires c κs = search needs
+short : (c : tie.Else3) → let a = c .before .before .before .before .before .before .before .args in
+    ltb longest (length (blobOf (a .kind) (a .dims .0) (a .body .now))) ≡ false
+short c = sym (ap (ltb longest) (whole (c .before))) ∙ le-ltb _ _ (c .if3 .left)
 
--- src/writing.rt:132:9
-refuse-requires-4 : tie.Need-refuse-requires-4
-refuse-requires-4 c κs = search needs
-
--- src/writing.rt:132:9
 returns-4 : tie.Need-returns-4
-returns-4 c = ?
+unfolding writeRefusals
+returns-4 c =
+    let s = c .before .before .before in
+    c .refuse4 .ensures
+    ∙ simp (few (s .before .before .before .before), fit (s .before .before), short s, sym (c .before .before .is-outside .ensures) ∙ c .before .if4 .taken)
 
--- src/writing.rt:134:8
-is-empty-requires : tie.Need-is-empty-requires
-is-empty-requires c κs = search needs
-
--- src/writing.rt:135:9
-refuse-requires-5 : tie.Need-refuse-requires-5
-refuse-requires-5 c κs = search needs
-
--- src/writing.rt:135:9
 returns-5 : tie.Need-returns-5
-returns-5 c = ?
+unfolding writeRefusals
+returns-5 c =
+    let o = c .before .before .before in
+    let s = o .before .before in
+    c .refuse5 .ensures
+    ∙ simp (few (s .before .before .before .before), fit (s .before .before), short s, sym (o .before .is-outside .ensures) ∙ o .if4 .left, sym (c .before .before .is-empty .ensures) ∙ c .before .if5 .taken)
 
--- src/writing.rt:118:1
 returns-6 : tie.Need-returns-6
-returns-6 c = ?
+unfolding writeRefusals
+returns-6 c =
+    let o = c .before .before in
+    let s = o .before .before in
+    ap Bytes (whole (s .before))
+    ∙ simp (few (s .before .before .before .before), fit (s .before .before), short s, sym (o .before .is-outside .ensures) ∙ o .if4 .left, sym (c .before .is-empty .ensures) ∙ c .if5 .left)
 
 pub measure-spec : {M : Type 1} → statement M
 measure-spec =
     tie.close
     (tie.spec
-    refuse-requires
-    returns
-    is-fit-requires
-    refuse-requires-2
-    returns-2
-    tail-length-requires
-    add-length
-    refuse-requires-3
-    returns-3
-    is-outside-requires
-    refuse-requires-4
-    returns-4
-    is-empty-requires
-    refuse-requires-5
-    returns-5
+    (λ c κs. search needs) returns
+    (λ c κs. search needs) (λ c κs. search needs) returns-2
+    (λ c κs. search needs) add-length
+    (λ c κs. search needs) returns-3
+    (λ c κs. search needs) (λ c κs. search needs) returns-4
+    (λ c κs. search needs) (λ c κs. search needs) returns-5
     returns-6)

@@ -1,47 +1,46 @@
+-- The tail is put after the body.
+use mathlib.Core.Path.{refl, sym}
+use lib.ListN.{length-drop}
+use Rattle.promises.proofs.Onto.{copied, onto-then, tail-lent}
+use Rattle.vector_types.specs.Write.{tailOf, blobOf}
+use Rattle.vector_types.proofs.Measured.{length-blob}
 use borrow.Author.Needs.{needs}
+use native.Mathlib.Omega.{arith}
 use Rattle.vector_types.proofs.writing.put_blob.Statement.{statement}
 use Rattle.vector_types.proofs.writing.put_blob.Tie as tie
-use Rattle.vector_types.proofs.writing.put_blob.Reads as reads
-use Rattle.vector_types.proofs.writing.put_blob.Lts as lts
-use Rattle.bytes.proofs.copy.Reads as copy-reads
-use Rattle.vector_types.proofs.writing.put_tail.Reads as put-tail-reads
 
--- src/writing.rt:199:9
 copy-requires : tie.Need-copy-requires
-copy-requires c κs = ?
+copy-requires c κs =
+    let a = c .before .before .before in
+    omega (arith, a .pre .1, length-blob (a .args .kind) (a .args .dims .0) (a .args .body .now))
 
--- src/writing.rt:200:26
 sub-put-tail : tie.Need-sub-put-tail
-sub-put-tail c = ?
+sub-put-tail c =
+    let a = c .before .before .before .before .before .before in
+    let copy = c .before .before .copy in
+    omega (arith, a .pre .1, length-blob (a .args .kind) (a .args .dims .0) (a .args .body .now), copy .ensures .0, copy .kept .1 .0)
 
--- src/writing.rt:200:26
-part-put-tail-start : tie.Need-part-put-tail-start
-part-put-tail-start c = ?
-
--- src/writing.rt:200:26
-part-put-tail-end : tie.Need-part-put-tail-end
-part-put-tail-end c = search needs
-
--- src/writing.rt:200:5
 put-tail-requires : tie.Need-put-tail-requires
-put-tail-requires c κs = ?
+put-tail-requires c κs =
+    let a = c .before .before .before .before .before .before .before in
+    let copy = c .before .before .before .copy in (
+      a .pre .0,
+      rw (tail-lent (copy .result) (copy .last .1 .0), length-drop)
+          (omega (arith, a .pre .1, length-blob (a .args .kind) (a .args .dims .0) (a .args .body .now), copy .ensures .0, copy .kept .1 .0)),
+    )
 
--- src/writing.rt:194:1
-same-length : tie.Need-same-length
-same-length c = search needs
-
--- src/writing.rt:194:1
 returns : tie.Need-returns
-returns c = ?
+unfolding blobOf
+returns c =
+    let copy = c .before .before .before .before .before .before .copy in
+    let a = c .before .before .before .before .before .before .before .before .before .before .args in
+    let body = a .body .now in
+    let head = copied body body (a .out .now) (copy .last .1 .0) (copy .result) refl (copy .ensures .0) (copy .ensures .1) in
+    onto-then body (tailOf (a .kind) (a .dims .0)) (a .out .now) (copy .last .1 .0) (c .before .before .put-tail .last .1 .1 .0) (copy .result)
+    (head .1) (sym (head .0)) (c .before .before .put-tail .ensures)
 
 pub put-blob-spec : {M : Type 1} → statement M
 put-blob-spec =
     tie.close
     (tie.spec
-    copy-requires
-    sub-put-tail
-    part-put-tail-start
-    part-put-tail-end
-    put-tail-requires
-    same-length
-    returns)
+    copy-requires sub-put-tail sub-put-tail (λ c. search needs) put-tail-requires (λ c. search needs) returns)

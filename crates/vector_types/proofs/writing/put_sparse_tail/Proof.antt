@@ -1,30 +1,29 @@
+-- The type byte is stored after the four bytes of the dims.
+use mathlib.Core.Path.{refl}
+use Rattle.promises.proofs.Onto.{onto-put}
+use Rattle.elements.specs.Bytes.{bytesOf, put}
+use Rattle.vector_types.specs.Write.{tailOf}
+use Rattle.vector_types.proofs.Tails.{length-sparse}
 use borrow.Author.Needs.{needs}
+use native.Mathlib.Omega.{arith}
 use Rattle.vector_types.proofs.writing.put_sparse_tail.Statement.{statement}
 use Rattle.vector_types.proofs.writing.put_sparse_tail.Tie as tie
-use Rattle.vector_types.proofs.writing.put_sparse_tail.Reads as reads
-use Rattle.vector_types.proofs.writing.put_sparse_tail.Lts as lts
-use Rattle.elements.proofs.put_u32.Reads as put-u32-reads
 
--- src/writing.rt:172:31
-cast-put-u32 : tie.Need-cast-put-u32
-cast-put-u32 c = search needs
-
--- src/writing.rt:172:5
 put-u32-requires : tie.Need-put-u32-requires
-put-u32-requires c κs = ?
+put-u32-requires c κs = let a = c .before .before .before in omega (arith, a .pre, length-sparse (a .args .dims .0))
 
--- src/writing.rt:173:5
 slice-write-out : tie.Need-slice-write-out
-slice-write-out c = ?
+slice-write-out c = let a = c .before .before .before .before .before .before in omega (arith, a .pre, length-sparse (a .args .dims .0), c .before .before .put-u32 .kept .0)
 
--- src/writing.rt:167:1
-same-length : tie.Need-same-length
-same-length c = search needs
-
--- src/writing.rt:167:1
 returns : tie.Need-returns
-returns c = ?
+unfolding tailOf put bytesOf
+returns c =
+    let a = c .before .before .before .before .before .before in
+    let d = a .args .dims .0 in
+    onto-put (bytesOf 4 d) (a .args .out .now) _ 9 4 refl (c .before .before .put-u32 .ensures) (omega (arith, a .pre, length-sparse d)) .1
 
 pub put-sparse-tail-spec : {M : Type 1} → statement M
 put-sparse-tail-spec =
-    tie.close (tie.spec cast-put-u32 put-u32-requires slice-write-out same-length returns)
+    tie.close
+    (tie.spec
+    (λ c. search needs) put-u32-requires slice-write-out (λ c. search needs) returns)

@@ -1,102 +1,69 @@
+-- Each arm is its row.
+use mathlib.Core.Path.{refl, _∙_}
+use mathlib.Core.List.{[]}
+use Rattle.promises.proofs.Onto.{onto-put}
+use Rattle.vector_types.specs.Write.{tailOf}
+use Rattle.vector_types.proofs.Tails.{trailingBits-byte}
 use borrow.Author.Needs.{needs}
+use native.Mathlib.Omega.{arith}
 use Rattle.vector_types.proofs.writing.put_tail.Statement.{statement}
 use Rattle.vector_types.proofs.writing.put_tail.Tie as tie
-use Rattle.vector_types.proofs.writing.put_tail.Reads as reads
-use Rattle.vector_types.proofs.writing.put_tail.Lts as lts
-use Rattle.vector_types.proofs.writing.put_float8_tail.Reads as put-float8-tail-reads
-use Rattle.vector_types.proofs.writing.put_one_bit_tail.Reads as put-one-bit-tail-reads
-use Rattle.vector_types.proofs.writing.put_sparse_tail.Reads as put-sparse-tail-reads
 
-enum-told : tie.Need-enum-told
-enum-told c = search needs
-
--- src/writing.rt:185:13
-enum-told-2 : tie.Need-enum-told-2
-enum-told-2 c = search needs
-
--- src/writing.rt:185:13
 slice-write-out : tie.Need-slice-write-out
-slice-write-out c = ?
+unfolding tailOf
+slice-write-out c = rw (c .enum-told2 .given .1) at (c .before .before .before .pre .1)
 
--- src/writing.rt:187:60
-enum-told-3 : tie.Need-enum-told-3
-enum-told-3 c = search needs
-
--- src/writing.rt:187:38
 put-sparse-tail-requires : tie.Need-put-sparse-tail-requires
-put-sparse-tail-requires c κs = ?
+put-sparse-tail-requires c κs = let a = c .before .before .before .before in (a .pre .0, rw (c .before .enum-told3 .given .1) at (a .pre .1))
 
--- src/writing.rt:188:57
-enum-told-4 : tie.Need-enum-told-4
-enum-told-4 c = search needs
+cast-count : tie.Need-cast-count
+cast-count c = omega (arith, c .before .trailing-bits .ensures, trailingBits-byte (c .before .before .before .before .before .before .args .dims .0))
 
--- src/writing.rt:188:34
-put-one-bit-tail-requires : tie.Need-put-one-bit-tail-requires
-put-one-bit-tail-requires c κs = ?
+put-count-requires : tie.Need-put-count-requires
+unfolding tailOf
+put-count-requires c κs =
+    let d = c .before .before in
+    let told = d .before .before in
+    rw (d .trailing-bits .ensures) (rw (told .enum-told4 .given .1) at (told .before .before .before .pre .1))
 
--- src/writing.rt:189:53
-enum-told-5 : tie.Need-enum-told-5
-enum-told-5 c = search needs
+put-count-requires-2 : tie.Need-put-count-requires-2
+unfolding tailOf
+put-count-requires-2 c κs = let d = c .before .before .before in rw (d .enum-told5 .given .1) at (d .before .before .before .pre .1)
 
--- src/writing.rt:189:31
-put-float8-tail-requires : tie.Need-put-float8-tail-requires
-put-float8-tail-requires c κs = ?
-
--- src/writing.rt:177:1
 returns : tie.Need-returns
-returns c = ?
+unfolding tailOf
+returns c = rw (c .enum-told .given .1)
 
--- src/writing.rt:177:1
-same-length : tie.Need-same-length
-same-length c = search needs
-
--- src/writing.rt:177:1
 returns-2 : tie.Need-returns-2
-returns-2 c = ?
+unfolding tailOf
+returns-2 c = rw (c .enum-told2 .given .1) (onto-put [] (c .before .before .before .args .out .now) _ 2 0 refl refl (slice-write-out c) .1)
 
--- src/writing.rt:177:1
-same-length-2 : tie.Need-same-length-2
-same-length-2 c = search needs
-
--- src/writing.rt:177:1
 returns-3 : tie.Need-returns-3
-returns-3 c = ?
+returns-3 c = rw (c .before .before .before .before .enum-told3 .given .1) (c .before .before .put-sparse-tail .ensures)
 
--- src/writing.rt:177:1
-same-length-3 : tie.Need-same-length-3
-same-length-3 c = search needs
-
--- src/writing.rt:177:1
 returns-4 : tie.Need-returns-4
-returns-4 c = ?
+unfolding tailOf
+returns-4 c =
+    let d = c .before .before .before .before .before in
+    rw (d .before .before .enum-told4 .given .1, ← d .trailing-bits .ensures) (c .before .before .put-count .ensures)
 
--- src/writing.rt:177:1
-same-length-4 : tie.Need-same-length-4
-same-length-4 c = search needs
-
--- src/writing.rt:177:1
 returns-5 : tie.Need-returns-5
-returns-5 c = ?
+unfolding tailOf
+returns-5 c =
+    let d = c .before .before .before .before .before in
+    rw (d .before .enum-told5 .given .1, ← d .trailing-bytes .ensures) (c .before .before .put-count2 .ensures)
 
 pub put-tail-spec : {M : Type 1} → statement M
 put-tail-spec =
     tie.close
     (tie.spec
-    enum-told
-    enum-told-2
-    slice-write-out
-    enum-told-3
-    put-sparse-tail-requires
-    enum-told-4
-    put-one-bit-tail-requires
-    enum-told-5
-    put-float8-tail-requires
+    (λ c. search needs)
+    (λ c. search needs) slice-write-out
+    (λ c. search needs) put-sparse-tail-requires
+    (λ c. search needs) (λ c. search needs) (λ c κs. search needs) cast-count put-count-requires
+    (λ c. search needs) (λ c κs. search needs) (λ c. search needs) put-count-requires-2
     returns
-    same-length
-    returns-2
-    same-length-2
-    returns-3
-    same-length-3
-    returns-4
-    same-length-4
-    returns-5)
+    (λ c. search needs) returns-2
+    (λ c. search needs) returns-3
+    (λ c. search needs) returns-4
+    (λ c. search needs) returns-5)

@@ -1,76 +1,44 @@
+-- Each arm is its row.
+use Rattle.vector_types.specs.Layout.{ceil}
+use Rattle.vector_types.specs.Write.{tailOf}
+use Rattle.vector_types.proofs.Tails.{length-filler}
+use Rattle.elements.proofs.Numbers.{length-bytesOf}
+use lib.ListN.{length-append}
 use borrow.Author.Needs.{needs}
+use native.Mathlib.Omega.{arith}
 use Rattle.vector_types.proofs.writing.tail_length.Statement.{statement}
 use Rattle.vector_types.proofs.writing.tail_length.Tie as tie
-use Rattle.vector_types.proofs.writing.tail_length.Reads as reads
-use Rattle.vector_types.proofs.writing.tail_length.Lts as lts
-use Rattle.vector_types.proofs.writing.fill.Reads as fill-reads
 
--- src/writing.rt:80:37
-enum-told : tie.Need-enum-told
-enum-told c = search needs
-
--- src/writing.rt:81:37
-enum-told-2 : tie.Need-enum-told-2
-enum-told-2 c = search needs
-
--- src/writing.rt:82:38
-enum-told-3 : tie.Need-enum-told-3
-enum-told-3 c = search needs
-
--- src/writing.rt:83:44
-enum-told-4 : tie.Need-enum-told-4
-enum-told-4 c = search needs
-
--- src/writing.rt:83:44
-add-fill : tie.Need-add-fill
-add-fill c = search needs
-
--- src/writing.rt:83:38
-fill-requires : tie.Need-fill-requires
-fill-requires c κs = search needs
-
--- src/writing.rt:83:34
 add-result : tie.Need-add-result
-add-result c = ?
+add-result c = omega (arith, c .fill .ensures, length-filler (ceil (c .before .before .before .before .args .dims .0) 8))
 
--- src/writing.rt:84:31
-enum-told-5 : tie.Need-enum-told-5
-enum-told-5 c = search needs
-
--- src/writing.rt:75:1
 returns : tie.Need-returns
-returns c = ?
+unfolding tailOf
+returns c = rw (c .enum-told .given .1)
 
--- src/writing.rt:75:1
 returns-2 : tie.Need-returns-2
-returns-2 c = ?
+unfolding tailOf
+returns-2 c = rw (c .enum-told2 .given .1)
 
--- src/writing.rt:75:1
 returns-3 : tie.Need-returns-3
-returns-3 c = ?
+unfolding tailOf
+returns-3 c = rw (c .enum-told3 .given .1) (simp (length-append, length-bytesOf))
 
--- src/writing.rt:75:1
 returns-4 : tie.Need-returns-4
-returns-4 c = ?
+unfolding tailOf
+returns-4 c = rw (c .before .before .enum-told4 .given .1, c .fill .ensures, length-append) (omega arith)
 
--- src/writing.rt:75:1
 returns-5 : tie.Need-returns-5
-returns-5 c = ?
+unfolding tailOf
+returns-5 c = rw (c .enum-told5 .given .1)
 
 pub tail-length-spec : {M : Type 1} → statement M
 tail-length-spec =
     tie.close
     (tie.spec
-    enum-told
-    enum-told-2
-    enum-told-3
-    enum-told-4
-    add-fill
-    fill-requires
-    add-result
-    enum-told-5
-    returns
-    returns-2
-    returns-3
-    returns-4
-    returns-5)
+    (λ c. search needs)
+    (λ c. search needs)
+    (λ c. search needs)
+    (λ c. search needs) (λ c. search needs) (λ c κs. search needs) add-result
+    (λ c. search needs)
+    returns returns-2 returns-3 returns-4 returns-5)
