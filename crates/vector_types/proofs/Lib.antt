@@ -3,3 +3,4 @@ pub mod Search
 pub mod Views
 pub mod Tails
 pub mod Measured
+pub mod Determined
