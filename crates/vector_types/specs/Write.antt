@@ -16,10 +16,11 @@ use Rattle.vector_types.specs.declared.writing.Size.the-variants.{Bytes,
 use Rattle.vector_types.specs.declared.WriteAnswer.{WriteAnswer}
 use Rattle.vector_types.specs.declared.WriteAnswer.the-variants.{Written, Refused, Short}
 
--- a zero byte where one is asked for; between a 1-bit body of m bytes and its count, after an even body
+-- a zero byte where one is asked for
 abbrev pub zeroIf : Bool → List ℕ
 zeroIf b = cond b (0 ∷ []) []
 
+-- what stands between a 1-bit body of m bytes and its count: a zero byte after an even body
 abbrev pub filler : ℕ → List ℕ
 filler m = zeroIf (eqb (m % 2) 0)
 

@@ -18,6 +18,7 @@ returns : tie.Need-returns
 unfolding writeRefusals
 returns c = c .refuse .ensures ∙ simp (lt-ltb _ _ (c .before .if1 .taken))
 
+-- a test that failed, here and below
 few : (c : tie.Else1) → ltb mostDims (c .before .before .before .args .dims .0) ≡ false
 few c = le-ltb _ _ (c .if1 .left)
 
