@@ -1,17 +1,22 @@
--- Each public contract determines its outcome, the answer or the part shown and where it points: stated over the contract's own reading, so it changes with the contract.
+-- Each public contract determines its outcome, the answer, the part shown and where it points, and the lent bytes: stated over the contract's own reading, so it changes with the contract.
 use mathlib.Core.Path.{ap₂, _∙_, sym}
 use mathlib.Core.List.{List}
 use Prim.Native.Nat.{ℕ}
 use denote.Ref.{now}
 use Rattle.promises.specs.Determined.{Determined}
+use Rattle.vector_types.proofs.reading.read.Reads as read
 use Rattle.vector_types.proofs.strictness.read_strict.Reads as read-strict
 use Rattle.vector_types.proofs.parts.body.Reads as body
 use Rattle.vector_types.proofs.parts.values.Reads as values
 use Rattle.vector_types.proofs.parts.indices.Reads as indices
+use Rattle.vector_types.proofs.writing.write.Reads as write
 
 -- the bytes of a part, and where it points
 abbrev pub part : List ℕ → ℕ × ℕ → List ℕ × (ℕ × ℕ)
 part bytes at = (bytes, at)
+
+pub read-determined : (κs : _) (a : _) → Determined (read.Post κs a) (λ r x. r)
+read-determined κs a r r′ x x′ p q = p ∙ sym q
 
 pub read-strict-determined : (κs : _) (a : _) → Determined (read-strict.Post κs a) (λ r x. r)
 read-strict-determined κs a r r′ x x′ p q = p ∙ sym q
@@ -24,3 +29,6 @@ values-determined κs a r r′ x x′ p q = ap₂ part (p .0 ∙ sym (q .0)) (p 
 
 pub indices-determined : (κs : _) (a : _) → Determined (indices.Post κs a) (λ r x. part (now r) (r .ptr))
 indices-determined κs a r r′ x x′ p q = ap₂ part (p .0 ∙ sym (q .0)) (p .1 ∙ sym (q .1))
+
+pub write-determined : (κs : _) (a : _) → Determined (write.Post κs a) (λ r x. r) × Determined (write.Post κs a) (λ r x. now (x .1 .1 .1 .0))
+write-determined κs a = (λ r r′ x x′ p q. p .0 ∙ sym (q .0), λ r r′ x x′ p q. p .1 ∙ sym (q .1))

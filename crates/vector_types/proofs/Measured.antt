@@ -1,44 +1,34 @@
--- Laws of the writer's answer: what its measure tells of the refusals, and the answer from there.
+-- What the writer's measure tells: a length that is the blob's, or the refusal; and from there the answer and the buffer.
 use mathlib.Core.Path.{_≡_, refl, sym, ap, _∙_}
 use mathlib.Core.Bool.{Bool, true, false, cond}
 use mathlib.Core.List.{List}
-use Prim.Native.Nat.{ℕ, _+_, _<_, _≤_}
-use native.Mathlib.Omega.{arith}
+use Prim.Native.Nat.{ℕ, _<_, _≤_}
 use lib.Dec.{ltb}
-use lib.ListN.{length, length-append}
+use lib.ListN.{length}
 use borrow.Author.Tests.{ltb-false, lt-ltb, le-ltb}
-use Rattle.promises.specs.Onto.{onto}
-use Rattle.elements.specs.Bytes.{bytesOf}
 use Rattle.vector_types.specs.Answers.{Given, none, given, firstOf, unless, written, unwritten, short}
-use Rattle.vector_types.specs.Layout.{mostDims, ceil}
-use Rattle.vector_types.specs.Write.{tailOf, blobOf, writeRefusals, writeOf, leftBy, leftOf}
-use Rattle.vector_types.specs.declared.WriteAnswer.{WriteAnswer}
+use Rattle.vector_types.specs.Layout.{mostDims}
+use Rattle.vector_types.specs.Write.{blobOf, writeRefusals, sizeOf, writeOf, leftBy, leftOf}
 use Rattle.vector_types.specs.declared.Refusal.{Refusal}
 use Rattle.vector_types.specs.declared.VectorType.{VectorType}
-use Rattle.vector_types.specs.declared.VectorType.the-variants.{Float32Dense, Float64Dense, Float32Sparse, Float1Bit, Float8}
+use Rattle.vector_types.specs.declared.WriteAnswer.{WriteAnswer}
 use Rattle.vector_types.specs.declared.writing.Size.{Size}
 use Rattle.vector_types.specs.declared.writing.Size.the-variants.{Bytes, Refused}
 
--- ---- a size, and the refusal that it came from
-abbrev refusalOf : Size → Given
-refusalOf (Bytes n) = none
-refusalOf (Refused r) = given r
+-- what a size was made of
+abbrev refusalIn : Size → Given
+refusalIn (Bytes n) = none
+refusalIn (Refused r) = given r
 
 abbrev bytesIn : Size → ℕ
 bytesIn (Bytes n) = n
 bytesIn (Refused r) = 0
 
-back : (g : Given) (need : ℕ) → refusalOf (unless g Refused (Bytes need)) ≡ g
+back : (g : Given) (need : ℕ) → refusalIn (unless g Refused (Bytes need)) ≡ g
 back none need = refl
 back (given r) need = refl
 
-refused : (g : Given) (need : ℕ) (r : Refusal) → unless g Refused (Bytes need) ≡ Refused r → g ≡ given r
-refused g need r e = sym (back g need) ∙ ap refusalOf e
-
-measured : (g : Given) (need n : ℕ) → unless g Refused (Bytes need) ≡ Bytes n → (g ≡ none) × (n ≡ need)
-measured g need n e = let p : g ≡ none = sym (back g need) ∙ ap refusalOf e in (p, sym (ap bytesIn (rw p at e)))
-
--- ---- where nothing is refused, the first test fails
+-- where nothing is refused, the first test fails
 abbrev isGiven : Given → Bool
 isGiven none = false
 isGiven (given r) = true
@@ -48,38 +38,43 @@ first-fails true r g e = ap isGiven e
 first-fails false r g e = refl
 
 module _ (k : VectorType) (d : ℕ) (body : List ℕ) where
-  pub length-blob : length (blobOf k d body) ≡ length body + length (tailOf k d)
-  unfolding blobOf
-  length-blob = length-append body (tailOf k d)
+  abbrev refusals : Given
+  refusals = firstOf (writeRefusals k d body)
 
-  module _ (n : ℕ) (e : unless (firstOf (writeRefusals k d body)) Refused (Bytes (length (blobOf k d body))) ≡ Bytes n) where
-    told : (firstOf (writeRefusals k d body) ≡ none) × (n ≡ length (blobOf k d body))
-    told = measured _ _ _ e
+  abbrev need : ℕ
+  need = length (blobOf k d body)
 
-    pub measure-need : n ≡ length (blobOf k d body)
-    measure-need = told .1
+  -- w is the answer, and the buffer afterwards follows from it
+  abbrev pub Leaves : WriteAnswer → List ℕ → Type 0
+  Leaves w out = (w ≡ writeOf k d body (length out)) × (leftBy w (blobOf k d body) out ≡ leftOf k d body out)
 
-    pub measure-few : d ≤ mostDims
+  leaves : (w : WriteAnswer) (out : List ℕ) → writeOf k d body (length out) ≡ w → Leaves w out
+  unfolding leftOf
+  leaves w out e = (sym e, ap (λ (x : WriteAnswer). leftBy x (blobOf k d body) out) (sym e))
+
+  module _ (n : ℕ) (e : sizeOf k d body ≡ Bytes n) where
+    unrefused : refusals ≡ none
+    unrefused = sym (back refusals need) ∙ ap refusalIn e
+
+    pub measured-need : n ≡ need
+    measured-need = sym (ap bytesIn (rw unrefused at e))
+
+    pub measured-few : d ≤ mostDims
     unfolding writeRefusals
-    measure-few = ltb-false mostDims d (first-fails _ _ _ (told .0))
+    measured-few = ltb-false mostDims d (first-fails _ _ _ unrefused)
 
-    -- the answer is the measure, unless the buffer is too short
     answer : (room : ℕ) → writeOf k d body room ≡ cond (ltb room n) (short n) (written n)
     unfolding writeOf
-    answer room = rw (told .0, ← measure-need)
+    answer room = rw (unrefused, ← measured-need)
 
-    pub write-short : (room : ℕ) → room < n → short n ≡ writeOf k d body room
-    write-short room h = sym (answer room ∙ rw (lt-ltb room n h))
+    pub measured-short : (out : List ℕ) → length out < n → Leaves (short n) out
+    measured-short out h = leaves (short n) out (answer (length out) ∙ rw (lt-ltb (length out) n h))
 
-    pub write-whole : (room : ℕ) → n ≤ room → written n ≡ writeOf k d body room
-    write-whole room h = sym (answer room ∙ rw (le-ltb room n h))
+    pub measured-whole : (out : List ℕ) → n ≤ length out → Leaves (written n) out
+    measured-whole out h = leaves (written n) out (answer (length out) ∙ rw (le-ltb (length out) n h))
 
-  pub write-refused : (r : Refusal) (room : ℕ) → unless (firstOf (writeRefusals k d body)) Refused (Bytes (length (blobOf k d body))) ≡ Refused r
-      → unwritten r ≡ writeOf k d body room
+  pub measured-refused : (r : Refusal) → sizeOf k d body ≡ Refused r → (out : List ℕ) → Leaves (unwritten r) out
   unfolding writeOf
-  write-refused r room e = sym (rw (refused (firstOf (writeRefusals k d body)) (length (blobOf k d body)) r e))
-
-  -- the buffer follows from the answer
-  pub left : (out : List ℕ) (w : WriteAnswer) → w ≡ writeOf k d body (length out) → leftBy w (blobOf k d body) out ≡ leftOf k d body out
-  unfolding leftOf
-  left out w e = ap (λ (x : WriteAnswer). leftBy x (blobOf k d body) out) e
+  measured-refused r e out =
+      let p : refusals ≡ given r = sym (back refusals need) ∙ ap refusalIn e in
+      leaves (unwritten r) out (rw p)

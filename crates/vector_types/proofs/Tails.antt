@@ -2,17 +2,16 @@
 use mathlib.Core.Path.{_≡_, refl}
 use mathlib.Core.Bool.{Bool, true, false}
 use mathlib.Core.List.{List, [], _∷_}
-use Prim.Native.Nat.{ℕ, _-_, _%_, _<_, _≤_}
+use Prim.Native.Nat.{ℕ, _+_, _-_, _%_, _<_, _≤_}
 use native.Mathlib.Omega.{arith}
 use lib.Dec.{eqb}
 use lib.ListN.{length, set, length-append}
 use borrow.Author.Tests.{eqb-true, eqb-false}
 use Rattle.promises.specs.Onto.{onto}
 use Rattle.promises.proofs.Onto.{onto-put}
-use Rattle.elements.specs.Bytes.{bytesOf}
 use Rattle.elements.proofs.Numbers.{length-bytesOf}
 use Rattle.vector_types.specs.Layout.{ceil}
-use Rattle.vector_types.specs.Write.{zeroIf, filler, trailingBits, tailOf}
+use Rattle.vector_types.specs.Write.{zeroIf, filler, trailingBits, tailOf, blobOf}
 use Rattle.vector_types.specs.declared.VectorType.{VectorType}
 use Rattle.vector_types.specs.declared.VectorType.the-variants.{Float32Dense, Float64Dense, Float32Sparse, Float1Bit, Float8}
 
@@ -37,6 +36,10 @@ tail-short Float64Dense d = omega arith
 tail-short Float32Sparse d = omega (arith, length-sparse d)
 tail-short Float1Bit d = rw length-append (omega (arith, length-filler (ceil d 8)))
 tail-short Float8 d = omega arith
+
+pub length-blob : (k : VectorType) (d : ℕ) (body : List ℕ) → length (blobOf k d body) ≡ length body + length (tailOf k d)
+unfolding blobOf
+length-blob k d body = length-append body (tailOf k d)
 
 -- bytes stored one after another
 pub two-put : (l : List ℕ) (a b : ℕ) → 2 ≤ length l → set (set l 0 a) 1 b ≡ onto (a ∷ b ∷ []) l

@@ -11,13 +11,16 @@ use Rattle.vector_types.specs.Search.{some}
 use Rattle.vector_types.specs.Layout.{longest, mostDims, ceil, is, counted, fits, outside}
 use Rattle.vector_types.specs.declared.VectorType.{VectorType}
 use Rattle.vector_types.specs.declared.VectorType.the-variants.{Float32Dense, Float64Dense, Float32Sparse, Float1Bit, Float8}
+use Rattle.vector_types.specs.declared.writing.Size.{Size}
+use Rattle.vector_types.specs.declared.writing.Size.the-variants.{Bytes, Refused as Unsized}
 use Rattle.vector_types.specs.declared.WriteAnswer.{WriteAnswer}
 use Rattle.vector_types.specs.declared.WriteAnswer.the-variants.{Written, Refused, Short}
 
--- a zero byte where one is asked for; between a 1-bit body of m bytes and its count, after an even body
+-- a zero byte where one is asked for
 abbrev pub zeroIf : Bool → List ℕ
 zeroIf b = cond b (0 ∷ []) []
 
+-- what stands between a 1-bit body of m bytes and its count: a zero byte after an even body
 abbrev pub filler : ℕ → List ℕ
 filler m = zeroIf (eqb (m % 2) 0)
 
@@ -56,6 +59,10 @@ writeRefusals k d body =
     ∷ test 8 (is 9 k && some (outside body entries d) entries)
     ∷ test 16 (counted k && eqb d 0)
     ∷ []
+
+-- how long the blob is, or the first of these refusals
+abbrev pub sizeOf : VectorType → ℕ → List ℕ → Size
+sizeOf k d body = unless (firstOf (writeRefusals k d body)) Unsized (Bytes (length (blobOf k d body)))
 
 -- the answer where the buffer has `room` bytes: 15, the last refusal, carries the blob's length
 unfoldable pub writeOf : VectorType → ℕ → List ℕ → ℕ → WriteAnswer

@@ -5,12 +5,12 @@ ghost use mathlib.Core.Bool.{_&&_};
 ghost use lib.Dec.{eqb};
 ghost use lib.ListN.{length};
 ghost use Rattle.promises.specs.Onto.{onto};
-ghost use Rattle.vector_types.specs.Answers.{refusal, firstOf, unless};
+ghost use Rattle.vector_types.specs.Answers.{refusal};
 ghost use Rattle.vector_types.specs.Search.{some};
 ghost use Rattle.vector_types.specs.Layout.{mostDims, is, counted, fits, outside};
-ghost use Rattle.vector_types.specs.Write.{filler, trailingBits, trailingBytes, countOf, tailOf, blobOf, writeRefusals, writeOf, leftOf};
+ghost use Rattle.vector_types.specs.Write.{filler, trailingBits, trailingBytes, countOf, tailOf, blobOf, sizeOf, writeOf, leftOf};
 ghost use Rattle.vector_types.specs.declared.VectorType.the-variants.{Float32Sparse};
-ghost use Rattle.vector_types.specs.declared.writing.Size.the-variants.{Bytes, Refused};
+ghost use Rattle.vector_types.specs.declared.writing.Size.the-variants.{Refused};
 use crate::Dims;
 use crate::LONGEST;
 use crate::MOST_DIMS;
@@ -117,7 +117,7 @@ fn is_empty(kind: VectorType, dims: Dims) -> bool
 
 // How long the blob is, or the first refusal in the writer's order, a short buffer apart.
 fn measure(kind: VectorType, dims: Dims, body: &[u8]) -> Size
-    ensures { λ r. ⌜ r ≡ unless (firstOf (writeRefusals kind (dims .0) (now (body .entry)))) Refused (Bytes (length (blobOf kind (dims .0) (now (body .entry))))) ⌝ }
+    ensures { λ r. ⌜ r ≡ sizeOf kind (dims .0) (now (body .entry)) ⌝ }
 {
     if MOST_DIMS < dims.0 {
         return refuse(9);

@@ -1,6 +1,6 @@
 -- Each test is that of the list of refusals.
 use mathlib.Core.Path.{_≡_, sym, ap, _∙_}
-use mathlib.Core.Bool.{true, false, not}
+use mathlib.Core.Bool.{false, not}
 use Prim.Native.Nat.{_+_}
 use lib.Dec.{ltb}
 use lib.ListN.{length}
@@ -8,8 +8,7 @@ use borrow.Author.Tests.{lt-ltb, le-ltb}
 use Rattle.vector_types.specs.Layout.{longest, mostDims, fits}
 use Rattle.vector_types.specs.Write.{blobOf, writeRefusals}
 use Rattle.vector_types.specs.declared.writing.Size.the-variants.{Bytes}
-use Rattle.vector_types.proofs.Tails.{tail-short}
-use Rattle.vector_types.proofs.Measured.{length-blob}
+use Rattle.vector_types.proofs.Tails.{tail-short, length-blob}
 use borrow.Author.Needs.{needs}
 use native.Mathlib.Omega.{arith}
 use Rattle.vector_types.proofs.writing.measure.Statement.{statement}
@@ -19,6 +18,7 @@ returns : tie.Need-returns
 unfolding writeRefusals
 returns c = c .refuse .ensures ∙ simp (lt-ltb _ _ (c .before .if1 .taken))
 
+-- a test that failed, here and below
 few : (c : tie.Else1) → ltb mostDims (c .before .before .before .args .dims .0) ≡ false
 few c = le-ltb _ _ (c .if1 .left)
 

@@ -3,7 +3,7 @@ use mathlib.Core.Path.{refl, sym}
 use lib.ListN.{length-drop}
 use Rattle.promises.proofs.Onto.{copied, onto-then, tail-lent}
 use Rattle.vector_types.specs.Write.{tailOf, blobOf}
-use Rattle.vector_types.proofs.Measured.{length-blob}
+use Rattle.vector_types.proofs.Tails.{length-blob}
 use borrow.Author.Needs.{needs}
 use native.Mathlib.Omega.{arith}
 use Rattle.vector_types.proofs.writing.put_blob.Statement.{statement}

@@ -7,6 +7,7 @@ use native.Mathlib.Omega.{arith}
 use Rattle.vector_types.proofs.writing.put_count.Statement.{statement}
 use Rattle.vector_types.proofs.writing.put_count.Tie as tie
 
+-- the room, with a zero byte and without
 room-filled : (c : tie.Then1) → 3 ≤ length (c .before .args .out .now)
 room-filled c = rw (c .if1 .taken) at (c .before .pre)
 

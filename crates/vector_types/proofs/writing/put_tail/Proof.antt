@@ -1,5 +1,5 @@
 -- Each arm is its row.
-use mathlib.Core.Path.{refl, _∙_}
+use mathlib.Core.Path.{refl}
 use mathlib.Core.List.{[]}
 use Rattle.promises.proofs.Onto.{onto-put}
 use Rattle.vector_types.specs.Write.{tailOf}
