@@ -1,3 +1,7 @@
 -- Laws of blobs
 pub mod Search
 pub mod Views
+pub mod Clear
+pub mod Appended
+pub mod Shapes
+pub mod Rewritten
