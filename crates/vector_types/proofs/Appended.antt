@@ -43,6 +43,10 @@ module _ (body tail : List ℕ) where
       let (names, size) = oddly (body ++ tail) (length body + i) (rw length-append (omega arith)) h in
       (names ∙ rw getD-append-add, size)
 
+  -- the byte before the last
+  pub count-appended : (i : ℕ) → getD (body ++ tail) (length body + (i + 1) - 1) 0 ≡ getD tail i 0
+  count-appended i = let e : length body + (i + 1) - 1 ≡ length body + i = omega arith in rw (e, getD-append-add)
+
   -- the k indices of a sparse body
   pub index-appended : (k : ℕ) → length body ≡ 8 * k → (j : ℕ) → j < k → indexAt (body ++ tail) k j ≡ indexAt body k j
   index-appended k long j h = numberAt-left 4 body tail (4 * k + 4 * j) (omega arith)

@@ -4,4 +4,5 @@ pub mod Views
 pub mod Clear
 pub mod Appended
 pub mod Shapes
+pub mod Written
 pub mod Rewritten

@@ -1,153 +1,172 @@
--- What is written reads back as the same kind, dims and body.
+-- A blob that was read and written again is no longer than before, reads as before, strictly too, and does not change a second time.
 use mathlib.Core.Path.{_≡_, refl, sym, ap, _∙_}
-use mathlib.Core.Bool.{Bool, true, false, cond, not, _&&_}
-use mathlib.Core.List.{List, [], _∷_, _++_, append-nil, append-assoc}
+use mathlib.Core.Bool.{Bool, true, false, cond, not, _&&_, and-eq-true-iff, true≢false}
+use mathlib.Core.List.{List, [], _∷_, _++_}
 use Prim.Native.Nat.{ℕ, zero, suc, _+_, _-_, _*_, _/_, _%_, _^_, _<_, _≤_}
 use native.Mathlib.Omega.{arith}
 use lib.Dec.{ltb, leb, eqb}
-use lib.ListN.{length, getD, take, drop, length-append}
-use lib.Seq.{getD-append-add, take-append-seam, take-at}
-use borrow.Author.Tests.{eq-eqb, ne-eqb, le-ltb, ltb-false, eqb-true, eqb-false, not-false}
-use Rattle.elements.specs.Bytes.{bytesOf, u32At}
-use Rattle.elements.proofs.Numbers.{numberAt-left, numberAt-right, numberAt-bytesOf, length-bytesOf}
-use Rattle.vector_types.specs.Answers.{Given, none, given, firstOf, unless, seen, written, unwritten, short}
+use lib.ListN.{length, getD, take, drop, length-append, take-append-drop}
+use lib.Seq.{length-take-le}
+use borrow.Author.Tests.{eqb-true, eqb-false, leb-true, ne-eqb, not-true}
+use Rattle.elements.proofs.Numbers.{length-bytesOf}
+use Rattle.vector_types.specs.Answers.{none, firstOf, seen}
 use Rattle.vector_types.specs.Search.{some}
-use Rattle.vector_types.specs.Layout.{longest, mostDims, ceil, is, counted, fits, outside, byByte}
-use Rattle.vector_types.specs.Read.{readOf}
-use Rattle.vector_types.specs.Parts.{bodyOf, shownLength}
-use Rattle.vector_types.specs.Write.{filler, trailingBits, trailingBytes, tailOf, blobOf, writeRefusals, writeOf, leftOf, leftBy}
+use Rattle.vector_types.specs.Layout.{longest, mostDims, ceil, Named, a, is, counted, even, named, before, trailing, entries, sparseDims, accepted, dimsOf, lengthOf, fits, outside}
+use Rattle.vector_types.specs.Read.{of, readOf}
+use Rattle.vector_types.specs.Parts.{bodyOf}
+use Rattle.vector_types.specs.Write.{filler, tailOf, blobOf, writeRefusals}
+use Rattle.vector_types.specs.Rewritten.{rewritten, rewrittenAs}
+use Rattle.vector_types.specs.declared.View.{View}
+use Rattle.vector_types.specs.declared.Refusal.{Refusal}
+use Rattle.vector_types.specs.declared.ReadAnswer.{ReadAnswer}
 use Rattle.vector_types.specs.declared.VectorType.{VectorType}
 use Rattle.vector_types.specs.declared.VectorType.the-variants.{Float32Dense, Float64Dense, Float32Sparse, Float1Bit, Float8}
-use Rattle.vector_types.specs.declared.ReadAnswer.{ReadAnswer}
-use Rattle.vector_types.specs.declared.WriteAnswer.{WriteAnswer}
-use Rattle.vector_types.specs.declared.WriteAnswer.the-variants.{Written, Refused as WriteRefused, Short}
-use Rattle.vector_types.proofs.Clear.{clear}
-use Rattle.vector_types.proofs.Appended.{evenly, ended, outside-appended}
-use Rattle.vector_types.proofs.Shapes.{reads-float32, reads-float64, reads-float8, reads-one-bit, reads-sparse}
+use Rattle.vector_types.specs.declared.ReadAnswer.the-variants.{View as Seen, Refused as ReadRefused}
+use Rattle.vector_types.proofs.Views.{Told, told}
+use Rattle.vector_types.proofs.Appended.{evenly, oddly, outside-appended}
+use Rattle.vector_types.proofs.Written.{Writable, unrefused, length-filler, body-seen, reads-back}
 
--- ---- what the writer does not refuse, a short buffer apart
-pub record Writable (k : VectorType) (d : ℕ) (body : List ℕ) : Type 0 where
-  pub few : d ≤ mostDims
-  pub fit : fits k d (length body) ≡ true
-  pub short : length (blobOf k d body) ≤ longest
-  pub inside : (is 9 k && some (outside body (length body / 8) d) (length body / 8)) ≡ false
-  pub filled : (counted k && eqb d 0) ≡ false
-
-pub writable : (k : VectorType) (d : ℕ) (body : List ℕ) → firstOf (writeRefusals k d body) ≡ none → Writable k d body
-unfolding writeRefusals
-writable k d body e =
-    let c = clear (writeRefusals k d body) e in
-    record {
-      few = ltb-false mostDims d (c .0);
-      fit = not-false (fits k d (length body)) (c .1 .0);
-      short = ltb-false longest (length (blobOf k d body)) (c .1 .1 .0);
-      inside = c .1 .1 .1 .0;
-      filled = c .1 .1 .1 .1 .0;
-    }
-
-pub unrefused : (k : VectorType) (d : ℕ) (body : List ℕ) → Writable k d body → firstOf (writeRefusals k d body) ≡ none
-unfolding writeRefusals
-unrefused k d body w =
-    rw (le-ltb mostDims d (w .few), w .fit, le-ltb longest (length (blobOf k d body)) (w .short), w .inside, w .filled)
-
--- ---- each kind reads back
-filled-up : (m : ℕ) → (m + length (filler m) + 1) % 2 ≡ 0
-filled-up m = by (eqb (m % 2) 0) refl
+-- ---- a kind that a byte names: there is such a byte, after an even number of others
+typed : (s : List ℕ) (k : VectorType) → named s ≡ a k → is 1 k ≡ false → (length s ≡ before s + 1) × (before s % 2 ≡ 0)
+typed s k names other = by (even s) refl
   where
-    by : (b : Bool) → eqb (m % 2) 0 ≡ b → (m + length {A = ℕ} (cond b (0 ∷ []) []) + 1) % 2 ≡ 0
-    by true e = omega (arith, eqb-true (m % 2) 0 e)
-    by false e = omega (arith, eqb-false (m % 2) 0 e)
+    by : (b : Bool) → even s ≡ b → (length s ≡ before s + 1) × (before s % 2 ≡ 0)
+    by true e =
+        let dense = sym (evenly s (eqb-true (length s % 2) 0 e) .0) ∙ names in
+        absurd (true≢false (ap (λ (n : Named). of n (λ k. is 1 k)) dense ∙ other))
+    by false e =
+        let odd = eqb-false (length s % 2) 0 e in
+        let size = oddly s (length s - 1) (omega arith) (omega arith) .1 in
+        (omega arith, omega arith)
 
-module _ (d : ℕ) (body : List ℕ) where
-  float32-back : Writable Float32Dense d body → readOf (blobOf Float32Dense d body) ≡ seen Float32Dense d (length body)
-  unfolding blobOf fits
-  float32-back w =
-      let e = eqb-true (length body) (4 * d) (w .fit) in
-      let (names, size) = evenly body (omega arith) in
-      rw append-nil (reads-float32 body (length body) d size (w .few) (rw append-nil at (w .short)) names e)
+most : (s : List ℕ) → before s ≤ length s
+unfolding before
+most s = by (even s)
+  where
+    by : (b : Bool) → cond b (length s) (length s - 1) ≤ length s
+    by true = omega arith
+    by false = omega arith
 
-  float64-back : Writable Float64Dense d body → readOf (blobOf Float64Dense d body) ≡ seen Float64Dense d (length body)
-  unfolding blobOf fits byByte
-  float64-back w =
-      let e = eqb-true (length body) (8 * d) (w .fit) in
-      let (names, size) = ended body (2 ∷ []) 0 refl (omega arith) in
-      reads-float64 (body ++ (2 ∷ [])) (length body) d (size ∙ omega arith) (w .few) (w .short) names e
+-- ---- what a row that accepts a blob tells of its body and of what follows it
+record Kept (k : VectorType) (s : List ℕ) : Type 0 where
+  room : lengthOf k s + length (tailOf k (dimsOf k s)) ≤ length s
+  filled : (counted k && eqb (dimsOf k s) 0) ≡ false
+  inside : (is 9 k && some (outside (take (lengthOf k s) s) (lengthOf k s / 8) (dimsOf k s)) (lengthOf k s / 8)) ≡ false
 
-  float8-back : Writable Float8 d body → readOf (blobOf Float8 d body) ≡ seen Float8 d (length body)
-  unfolding blobOf fits byByte
-  float8-back w =
-      let t = trailingBytes d in
-      let e = eqb-true (length body) (4 * ceil d 4 + 8) (w .fit) in
-      let (names, size) = ended body (0 ∷ t ∷ 4 ∷ []) 2 refl (omega arith) in
-      let last : length body + 2 - 1 ≡ length body + 1 = omega arith in
-      let long : length body + 2 - 2 ≡ length body = omega arith in
-      let count : getD (body ++ (0 ∷ t ∷ 4 ∷ [])) (length body + 2 - 1) 0 ≡ t = rw (last, getD-append-add) in
-      rw long at (reads-float8 (body ++ (0 ∷ t ∷ 4 ∷ [])) (length body + 2) d size (w .few) (w .short) names (omega (arith, eqb-false d 0 (w .filled))) (omega arith) count)
+both : (p q : Bool) → (p && q) ≡ true → (p ≡ true) × (q ≡ true)
+both p q = and-eq-true-iff p q .0
 
-  one-bit-back : Writable Float1Bit d body → readOf (blobOf Float1Bit d body) ≡ seen Float1Bit d (length body)
-  unfolding blobOf fits byByte
-  one-bit-back w =
-      let front = body ++ filler (ceil d 8) in
-      let t = trailingBits d in
-      let e = eqb-true (length body) (ceil d 8) (w .fit) in
-      let long = length-append body (filler (ceil d 8)) in
-      let (names, size) = ended front (t ∷ 3 ∷ []) 1 refl (omega (arith, filled-up (ceil d 8))) in
-      let last : length front + 1 - 1 ≡ length front + 0 = omega arith in
-      let count : getD (front ++ (t ∷ 3 ∷ [])) (length front + 1 - 1) 0 ≡ t = rw (last, getD-append-add) in
-      let all : t ≡ 8 * (length front + 1) - d = rw (long, e) in
-      rw (e, ← append-assoc) (reads-one-bit (front ++ (t ∷ 3 ∷ [])) (length front + 1) d size (w .few) (rw (← append-assoc) at (w .short)) names (omega (arith, eqb-false d 0 (w .filled))) (omega arith) (count ∙ all))
+module _ (s : List ℕ) where
+  one-bit-kept : named s ≡ a Float1Bit → accepted Float1Bit s ≡ true → Kept Float1Bit s
+  unfolding lengthOf accepted tailOf
+  one-bit-kept names row =
+      let n = before s in
+      let t = trailing s in
+      let (rows, most) = both (leb 2 n && leb 8 t) (leb t (8 * n - 1)) row in
+      let (two, eight) = both (leb 2 n) (leb 8 t) rows in
+      let two = leb-true 2 n two in
+      let eight = leb-true 8 t eight in
+      let most = leb-true t (8 * n - 1) most in
+      let d : dimsOf Float1Bit s ≡ 8 * n - t = refl in
+      record {
+        room = rw length-append (omega (arith, length-filler (ceil (dimsOf Float1Bit s) 8), typed s Float1Bit names refl));
+        filled = ne-eqb (dimsOf Float1Bit s) 0 (omega arith);
+        inside = refl;
+      }
 
-  sparse-back : Writable Float32Sparse d body → readOf (blobOf Float32Sparse d body) ≡ seen Float32Sparse d (length body)
-  unfolding blobOf fits byByte bytesOf
-  sparse-back w =
-      let k = length body / 8 in
-      let tail = bytesOf 4 d ++ (9 ∷ []) in
-      let e : length body ≡ 8 * k = omega (arith, eqb-true (length body % 8) 0 (w .fit)) in
-      let (names, size) = ended body tail 4 refl (omega arith) in
-      let place : length body + 4 - 4 ≡ length body + 0 = omega arith in
-      let stored : u32At (body ++ tail) (length body + 4 - 4) ≡ d =
-      rw place (numberAt-right 4 body tail 0 ∙ numberAt-left 4 (bytesOf 4 d) (9 ∷ []) 0 (omega arith) ∙ numberAt-bytesOf 4 d (omega arith)) in
-      rw (← e) at (reads-sparse (body ++ tail) (length body + 4) d size (w .few) (w .short) k names (omega arith) stored (outside-appended body tail k d e ∙ w .inside))
+  float8-kept : named s ≡ a Float8 → accepted Float8 s ≡ true → Kept Float8 s
+  unfolding lengthOf accepted tailOf
+  float8-kept names row =
+      let n = before s in
+      let t = trailing s in
+      let (rows, most) = both (leb 14 n && eqb ((n - 10) % 4) 0) (leb t 3) row in
+      let long = leb-true 14 n (both (leb 14 n) (eqb ((n - 10) % 4) 0) rows .0) in
+      let most = leb-true t 3 most in
+      let d : dimsOf Float8 s ≡ n - 10 - t = refl in
+      record { room = omega (arith, typed s Float8 names refl); filled = ne-eqb (dimsOf Float8 s) 0 (omega arith); inside = refl }
 
-read-back : (k : VectorType) (d : ℕ) (body : List ℕ) → Writable k d body → readOf (blobOf k d body) ≡ seen k d (length body)
-read-back Float32Dense d body w = float32-back d body w
-read-back Float64Dense d body w = float64-back d body w
-read-back Float32Sparse d body w = sparse-back d body w
-read-back Float1Bit d body w = one-bit-back d body w
-read-back Float8 d body w = float8-back d body w
+  sparse-kept : named s ≡ a Float32Sparse → accepted Float32Sparse s ≡ true → Kept Float32Sparse s
+  unfolding lengthOf accepted tailOf
+  sparse-kept names row =
+      let n = before s in
+      let k = entries s in
+      let m = 8 * k in
+      let (size, within) = both (eqb n (4 + 8 * k)) (not (some (outside s k (sparseDims s)) k)) row in
+      let size = eqb-true n (4 + 8 * k) size in
+      let last = typed s Float32Sparse names refl in
+      let count : m / 8 ≡ k = omega arith in
+      let long = length-take-le m s (omega arith) in
+      let same = rw take-append-drop at (outside-appended (take m s) (drop m s) k (sparseDims s) long) in
+      record {
+        room = rw (length-append, length-bytesOf) (omega arith);
+        filled = refl;
+        inside = rw count (sym same ∙ not-true (some (outside s k (sparseDims s)) k) within);
+      }
 
--- the body that is shown by a view of length m
-pub body-seen : (s : List ℕ) (k : VectorType) (d m : ℕ) → readOf s ≡ seen k d m → bodyOf s ≡ take m s
-unfolding bodyOf
-body-seen s k d m e = ap (λ (r : ReadAnswer). take (shownLength r) s) e
+kept : (k : VectorType) (s : List ℕ) → named s ≡ a k → accepted k s ≡ true → Kept k s
+unfolding lengthOf tailOf
+kept Float32Dense s names row = record { room = omega (arith, most s); filled = refl; inside = refl }
+kept Float64Dense s names row = record { room = omega (arith, typed s Float64Dense names refl); filled = refl; inside = refl }
+kept Float32Sparse s names row = sparse-kept s names row
+kept Float1Bit s names row = one-bit-kept s names row
+kept Float8 s names row = float8-kept s names row
 
-pub reads-back : (k : VectorType) (d : ℕ) (body : List ℕ) → firstOf (writeRefusals k d body) ≡ none
-    → (readOf (blobOf k d body) ≡ seen k d (length body)) × (bodyOf (blobOf k d body) ≡ body)
-unfolding blobOf
-reads-back k d body e =
-    let view = read-back k d body (writable k d body e) in
-    (view, body-seen (blobOf k d body) k d (length body) view ∙ take-append-seam body (tailOf k d))
+-- ---- a view's body can be written, and its blob is no longer than the one that was read
+module _ (s : List ℕ) (v : View) (e : readOf s ≡ Seen v) where
+  body-is : bodyOf s ≡ take (v .length) s
+  body-is = body-seen s (v .kind) (v .dims .0) (v .length) e
 
--- ---- as the writer's caller has it: the first n bytes of the buffer, where n is the answer
--- one more than the length written
-abbrev reach : WriteAnswer → ℕ
-reach (Written n) = suc n
-reach (WriteRefused r) = 0
-reach (Short need) = 0
+  body-long : length (bodyOf s) ≡ v .length
+  body-long = rw body-is (length-take-le (v .length) s (told s v e .within))
 
-taken : (g : Given) (fails : Bool) (need n : ℕ) → unless g unwritten (cond fails (short need) (written need)) ≡ written n → (g ≡ none) × (need ≡ n)
-taken none true need n e = let z = ap reach e in absurd (omega arith)
-taken none false need n e = let z = ap reach e in (refl, omega arith)
-taken (given r) fails need n e = let z = ap reach e in absurd (omega arith)
+  here : Kept (v .kind) s
+  here = let t = told s v e in kept (v .kind) s (t .names) (t .accepts)
 
-pub written-blob : (k : VectorType) (d : ℕ) (body out : List ℕ) (n : ℕ) → writeOf k d body (length out) ≡ written n
-    → (firstOf (writeRefusals k d body) ≡ none) × (take n (leftOf k d body out) ≡ blobOf k d body)
-unfolding writeOf leftOf
-written-blob k d body out n e =
-    let blob = blobOf k d body in
-    let (clear, long) = taken (firstOf (writeRefusals k d body)) (ltb (length out) (length blob)) (length blob) n e in
-    (clear, rw e (take-at blob (drop (length blob) out) n long))
+  pub blob-no-longer : length (blobOf (v .kind) (v .dims .0) (bodyOf s)) ≤ length s
+  unfolding blobOf
+  blob-no-longer = let t = told s v e in rw (length-append, body-long, t .sized, t .long) (here .room)
 
-pub written-reads-back : (k : VectorType) (d : ℕ) (body out : List ℕ) (n : ℕ) → writeOf k d body (length out) ≡ written n
-    → (readOf (take n (leftOf k d body out)) ≡ seen k d (length body)) × (bodyOf (take n (leftOf k d body out)) ≡ body)
-written-reads-back k d body out n e = let (clear, left) = written-blob k d body out n e in rw left (reads-back k d body clear)
+  pub rewritable : firstOf (writeRefusals (v .kind) (v .dims .0) (bodyOf s)) ≡ none
+  rewritable =
+      let t = told s v e in
+      unrefused (v .kind) (v .dims .0) (bodyOf s)
+      (record {
+        few = t .few;
+        fit = rw body-long (t .fit);
+        short = omega (arith, blob-no-longer, t .short);
+        inside = rw (body-long, body-is, t .sized, t .long) (here .inside);
+        filled = rw (t .sized) (here .filled);
+      })
+
+-- ---- reading it again
+rewritten-as : (s : List ℕ) (r : ReadAnswer) → readOf s ≡ r → rewritten s ≡ rewrittenAs r s
+unfolding rewritten
+rewritten-as s r e = ap (λ (r : ReadAnswer). rewrittenAs r s) e
+
+rewritten-by : (s : List ℕ) (P : List ℕ → Type 0) → ((v : View) → readOf s ≡ Seen v → P (blobOf (v .kind) (v .dims .0) (bodyOf s)))
+    → ((r : Refusal) → readOf s ≡ ReadRefused r → P s) → P (rewritten s)
+rewritten-by s P view refusal = by (readOf s) refl
+  where
+    by : (r : ReadAnswer) → readOf s ≡ r → P (rewritten s)
+    by (Seen v) e = rw (rewritten-as s (Seen v) e) (view v e)
+    by (ReadRefused r) e = rw (rewritten-as s (ReadRefused r) e) (refusal r e)
+
+pub rewritten-no-longer : (s : List ℕ) → length (rewritten s) ≤ length s
+rewritten-no-longer s = rewritten-by s (λ w. length w ≤ length s) (blob-no-longer s) (λ r e. omega arith)
+
+pub rewritten-same : (s : List ℕ) → (readOf (rewritten s) ≡ readOf s) × (bodyOf (rewritten s) ≡ bodyOf s)
+rewritten-same s =
+    rewritten-by s (λ w. (readOf w ≡ readOf s) × (bodyOf w ≡ bodyOf s))
+    (λ v e.
+    let (view, body) = reads-back (v .kind) (v .dims .0) (bodyOf s) (rewritable s v e) in
+    (rw (body-long s v e) at view ∙ sym e, body))
+    (λ r e. (refl, refl))
+
+pub rewritten-once : (s : List ℕ) → rewritten (rewritten s) ≡ rewritten s
+rewritten-once s =
+    let (view, body) = rewritten-same s in
+    rewritten-by s (λ w. readOf w ≡ readOf s → bodyOf w ≡ bodyOf s → rewritten w ≡ w)
+    (λ v e view body.
+    let again = blobOf (v .kind) (v .dims .0) in
+    rewritten-as (again (bodyOf s)) (Seen v) (view ∙ e) ∙ ap (λ (b : List ℕ). again b) body)
+    (λ r e _ _. rewritten-as s (ReadRefused r) e) view body

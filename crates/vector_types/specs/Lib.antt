@@ -4,4 +4,5 @@ pub mod Layout
 pub mod Read
 pub mod Parts
 pub mod Write
+pub mod Rewritten
 pub mod Examples
