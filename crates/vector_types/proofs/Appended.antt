@@ -5,12 +5,13 @@ use mathlib.Core.List.{List, [], _∷_, _++_}
 use Prim.Native.Nat.{ℕ, zero, suc, _+_, _-_, _*_, _/_, _%_, _^_, _<_, _≤_}
 use native.Mathlib.Omega.{arith}
 use lib.Dec.{ltb, leb, eqb}
-use lib.ListN.{length, getD, length-append}
+use lib.ListN.{length, getD, length-append, List·getD-append}
 use lib.Seq.{getD-append-add}
 use borrow.Author.Tests.{eq-eqb, ne-eqb}
 use Rattle.elements.proofs.Numbers.{numberAt-left}
 use Rattle.vector_types.specs.Search.{firstFrom, first, some}
 use Rattle.vector_types.specs.Layout.{Named, a, even, named, byByte, before, indexAt, outside}
+use Rattle.vector_types.specs.Read.{falls, unusedSet}
 use Rattle.vector_types.specs.declared.VectorType.the-variants.{Float32Dense}
 
 -- ---- two tests that agree at the places searched find the same
@@ -54,3 +55,16 @@ module _ (body tail : List ℕ) where
   pub outside-appended : (k d : ℕ) → length body ≡ 8 * k → some (outside (body ++ tail) k d) k ≡ some (outside body k d) k
   outside-appended k d long =
       some-same (outside (body ++ tail) k d) (outside body k d) k (λ j h. ap (λ (i : ℕ). leb d i) (index-appended k long j h))
+
+  pub falls-appended : (k : ℕ) → length body ≡ 8 * k → some (falls (body ++ tail) k) k ≡ some (falls body k) k
+  falls-appended k long = some-same (falls (body ++ tail) k) (falls body k) k at
+    where
+      at : (j : ℕ) → j < k → falls (body ++ tail) k j ≡ falls body k j
+      at zero h = refl
+      at (suc j) h = rw (index-appended k long (suc j) h, index-appended k long j (omega arith))
+
+  -- the bits of a 1-bit body past the first d
+  pub unused-appended : (d : ℕ) → some (unusedSet (body ++ tail) d) (8 * length body - d) ≡ some (unusedSet body d) (8 * length body - d)
+  unused-appended d =
+      some-same (unusedSet (body ++ tail) d) (unusedSet body d) (8 * length body - d)
+      (λ i h. rw (List·getD-append body tail 0 ((d + i) / 8) (omega arith)))

@@ -6,3 +6,4 @@ pub mod Appended
 pub mod Shapes
 pub mod Written
 pub mod Rewritten
+pub mod RewrittenStrictly

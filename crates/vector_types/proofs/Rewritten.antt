@@ -113,7 +113,7 @@ kept Float8 s names row = float8-kept s names row
 
 -- ---- a view's body can be written, and its blob is no longer than the one that was read
 module _ (s : List ℕ) (v : View) (e : readOf s ≡ Seen v) where
-  body-is : bodyOf s ≡ take (v .length) s
+  pub body-is : bodyOf s ≡ take (v .length) s
   body-is = body-seen s (v .kind) (v .dims .0) (v .length) e
 
   body-long : length (bodyOf s) ≡ v .length
@@ -143,7 +143,7 @@ rewritten-as : (s : List ℕ) (r : ReadAnswer) → readOf s ≡ r → rewritten 
 unfolding rewritten
 rewritten-as s r e = ap (λ (r : ReadAnswer). rewrittenAs r s) e
 
-rewritten-by : (s : List ℕ) (P : List ℕ → Type 0) → ((v : View) → readOf s ≡ Seen v → P (blobOf (v .kind) (v .dims .0) (bodyOf s)))
+pub rewritten-by : (s : List ℕ) (P : List ℕ → Type 0) → ((v : View) → readOf s ≡ Seen v → P (blobOf (v .kind) (v .dims .0) (bodyOf s)))
     → ((r : Refusal) → readOf s ≡ ReadRefused r → P s) → P (rewritten s)
 rewritten-by s P view refusal = by (readOf s) refl
   where
