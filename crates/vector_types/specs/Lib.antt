@@ -5,4 +5,5 @@ pub mod Read
 pub mod Parts
 pub mod Write
 pub mod Rewritten
+pub mod WrittenExamples
 pub mod Examples
