@@ -1,16 +1,16 @@
 -- Reading from a body with more bytes after it: what stands in the body is read as from the body alone, and what follows it by its own places.
-use mathlib.Core.Path.{_≡_, refl, sym, ap, _∙_}
-use mathlib.Core.Bool.{Bool, true, false, cond}
-use mathlib.Core.List.{List, [], _∷_, _++_}
-use Prim.Native.Nat.{ℕ, zero, suc, _+_, _-_, _*_, _/_, _%_, _^_, _<_, _≤_}
+use mathlib.Core.Path.{_≡_, refl, ap, _∙_}
+use mathlib.Core.Bool.{Bool}
+use mathlib.Core.List.{List, _++_}
+use Prim.Native.Nat.{ℕ, zero, suc, _+_, _-_, _*_, _/_, _%_, _<_, _≤_}
 use native.Mathlib.Omega.{arith}
-use lib.Dec.{ltb, leb, eqb}
+use lib.Dec.{ltb, leb}
 use lib.ListN.{length, getD, length-append, List·getD-append}
 use lib.Seq.{getD-append-add}
 use borrow.Author.Tests.{eq-eqb, ne-eqb}
 use Rattle.elements.proofs.Numbers.{numberAt-left}
-use Rattle.vector_types.specs.Search.{firstFrom, first, some}
-use Rattle.vector_types.specs.Layout.{Named, a, even, named, byByte, before, indexAt, outside}
+use Rattle.vector_types.specs.Search.{firstFrom, some}
+use Rattle.vector_types.specs.Layout.{a, named, byByte, before, indexAt, outside}
 use Rattle.vector_types.specs.Read.{falls, unusedSet}
 use Rattle.vector_types.specs.declared.VectorType.the-variants.{Float32Dense}
 

@@ -7,3 +7,4 @@ pub mod Shapes
 pub mod Written
 pub mod Rewritten
 pub mod RewrittenStrictly
+pub mod Unchanged

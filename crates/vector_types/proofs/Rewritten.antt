@@ -1,20 +1,20 @@
 -- A blob that was read and written again is no longer than before, reads as before, strictly too, and does not change a second time.
 use mathlib.Core.Path.{_≡_, refl, sym, ap, _∙_}
 use mathlib.Core.Bool.{Bool, true, false, cond, not, _&&_, and-eq-true-iff, true≢false}
-use mathlib.Core.List.{List, [], _∷_, _++_}
-use Prim.Native.Nat.{ℕ, zero, suc, _+_, _-_, _*_, _/_, _%_, _^_, _<_, _≤_}
+use mathlib.Core.List.{List}
+use Prim.Native.Nat.{ℕ, _+_, _-_, _*_, _/_, _%_, _≤_}
 use native.Mathlib.Omega.{arith}
-use lib.Dec.{ltb, leb, eqb}
-use lib.ListN.{length, getD, take, drop, length-append, take-append-drop}
+use lib.Dec.{leb, eqb}
+use lib.ListN.{length, take, drop, length-append, take-append-drop}
 use lib.Seq.{length-take-le}
 use borrow.Author.Tests.{eqb-true, eqb-false, leb-true, ne-eqb, not-true}
 use Rattle.elements.proofs.Numbers.{length-bytesOf}
-use Rattle.vector_types.specs.Answers.{none, firstOf, seen}
+use Rattle.vector_types.specs.Answers.{none, firstOf}
 use Rattle.vector_types.specs.Search.{some}
-use Rattle.vector_types.specs.Layout.{longest, mostDims, ceil, Named, a, is, counted, even, named, before, trailing, entries, sparseDims, accepted, dimsOf, lengthOf, fits, outside}
+use Rattle.vector_types.specs.Layout.{ceil, Named, a, is, counted, even, named, before, trailing, entries, sparseDims, accepted, dimsOf, lengthOf, outside}
 use Rattle.vector_types.specs.Read.{of, readOf}
 use Rattle.vector_types.specs.Parts.{bodyOf}
-use Rattle.vector_types.specs.Write.{filler, tailOf, blobOf, writeRefusals}
+use Rattle.vector_types.specs.Write.{tailOf, blobOf, writeRefusals}
 use Rattle.vector_types.specs.Rewritten.{rewritten, rewrittenAs}
 use Rattle.vector_types.specs.declared.View.{View}
 use Rattle.vector_types.specs.declared.Refusal.{Refusal}
@@ -22,12 +22,12 @@ use Rattle.vector_types.specs.declared.ReadAnswer.{ReadAnswer}
 use Rattle.vector_types.specs.declared.VectorType.{VectorType}
 use Rattle.vector_types.specs.declared.VectorType.the-variants.{Float32Dense, Float64Dense, Float32Sparse, Float1Bit, Float8}
 use Rattle.vector_types.specs.declared.ReadAnswer.the-variants.{View as Seen, Refused as ReadRefused}
-use Rattle.vector_types.proofs.Views.{Told, told}
+use Rattle.vector_types.proofs.Views.{told}
 use Rattle.vector_types.proofs.Appended.{evenly, oddly, outside-appended}
-use Rattle.vector_types.proofs.Written.{Writable, unrefused, length-filler, body-seen, reads-back}
+use Rattle.vector_types.proofs.Written.{unrefused, length-filler, body-seen, reads-back}
 
 -- ---- a kind that a byte names: there is such a byte, after an even number of others
-typed : (s : List ℕ) (k : VectorType) → named s ≡ a k → is 1 k ≡ false → (length s ≡ before s + 1) × (before s % 2 ≡ 0)
+pub typed : (s : List ℕ) (k : VectorType) → named s ≡ a k → is 1 k ≡ false → (length s ≡ before s + 1) × (before s % 2 ≡ 0)
 typed s k names other = by (even s) refl
   where
     by : (b : Bool) → even s ≡ b → (length s ≡ before s + 1) × (before s % 2 ≡ 0)
@@ -139,7 +139,7 @@ module _ (s : List ℕ) (v : View) (e : readOf s ≡ Seen v) where
       })
 
 -- ---- reading it again
-rewritten-as : (s : List ℕ) (r : ReadAnswer) → readOf s ≡ r → rewritten s ≡ rewrittenAs r s
+pub rewritten-as : (s : List ℕ) (r : ReadAnswer) → readOf s ≡ r → rewritten s ≡ rewrittenAs r s
 unfolding rewritten
 rewritten-as s r e = ap (λ (r : ReadAnswer). rewrittenAs r s) e
 

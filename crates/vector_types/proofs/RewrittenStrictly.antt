@@ -1,7 +1,7 @@
 -- A blob that was read and written again is read by the strict reader as before: what that reader tests stands in the body.
 use mathlib.Core.Path.{_≡_, refl, sym, ap, _∙_}
-use mathlib.Core.Bool.{Bool, true, false, cond, _&&_, true≢false}
-use mathlib.Core.List.{List, [], _∷_, _++_}
+use mathlib.Core.Bool.{Bool, false, _&&_, true≢false}
+use mathlib.Core.List.{List, [], _∷_}
 use Prim.Native.Nat.{ℕ, _-_, _*_, _/_, _≤_}
 use native.Mathlib.Omega.{arith}
 use lib.ListN.{length, take, drop, take-append-drop}
@@ -17,8 +17,8 @@ use Rattle.vector_types.specs.declared.View.{View}
 use Rattle.vector_types.specs.declared.VectorType.{VectorType}
 use Rattle.vector_types.specs.declared.VectorType.the-variants.{Float32Dense, Float64Dense, Float32Sparse, Float1Bit, Float8}
 use Rattle.vector_types.specs.declared.ReadAnswer.{ReadAnswer}
-use Rattle.vector_types.specs.declared.ReadAnswer.the-variants.{View as Seen, Refused as ReadRefused}
-use Rattle.vector_types.proofs.Views.{Told, told}
+use Rattle.vector_types.specs.declared.ReadAnswer.the-variants.{View as Seen}
+use Rattle.vector_types.proofs.Views.{told}
 use Rattle.vector_types.proofs.Clear.{clear, clear-before}
 use Rattle.vector_types.proofs.Appended.{falls-appended, unused-appended}
 use Rattle.vector_types.proofs.Rewritten.{body-is, rewritten-by, rewritten-same}

@@ -1,16 +1,16 @@
 -- Reading a blob by its length and its last bytes, a kind at a time.
-use mathlib.Core.Path.{_≡_, refl, sym, ap, _∙_}
-use mathlib.Core.Bool.{Bool, true, false, cond}
-use mathlib.Core.List.{List, [], _∷_, _++_}
-use Prim.Native.Nat.{ℕ, zero, suc, _+_, _-_, _*_, _/_, _%_, _<_, _≤_}
+use mathlib.Core.Path.{_≡_, refl, ap, _∙_}
+use mathlib.Core.Bool.{false}
+use mathlib.Core.List.{List}
+use Prim.Native.Nat.{ℕ, _+_, _-_, _*_, _/_, _%_, _<_, _≤_}
 use native.Mathlib.Omega.{arith}
-use lib.Dec.{ltb, leb, eqb}
+use lib.Dec.{ltb}
 use lib.ListN.{length, getD}
 use borrow.Author.Tests.{eq-eqb, ne-eqb, le-ltb, lt-leb}
 use Rattle.elements.specs.Bytes.{u32At}
 use Rattle.vector_types.specs.Answers.{seen, unless, firstOf, refused}
-use Rattle.vector_types.specs.Search.{firstFrom, first, some}
-use Rattle.vector_types.specs.Layout.{longest, mostDims, ceil, Named, a, named, byByte, before, trailing, dimsOf, lengthOf, fits, outside}
+use Rattle.vector_types.specs.Search.{some}
+use Rattle.vector_types.specs.Layout.{longest, mostDims, ceil, Named, a, named, before, outside}
 use Rattle.vector_types.specs.Read.{readOf, refusals, shown}
 use Rattle.vector_types.specs.declared.VectorType.the-variants.{Float32Dense, Float64Dense, Float32Sparse, Float1Bit, Float8}
 

@@ -1,21 +1,21 @@
 -- What is written reads back as the same kind, dims and body.
-use mathlib.Core.Path.{_≡_, refl, sym, ap, _∙_}
-use mathlib.Core.Bool.{Bool, true, false, cond, not, _&&_}
+use mathlib.Core.Path.{_≡_, refl, ap, _∙_}
+use mathlib.Core.Bool.{Bool, true, false, cond, _&&_}
 use mathlib.Core.List.{List, [], _∷_, _++_, append-nil, append-assoc}
-use Prim.Native.Nat.{ℕ, zero, suc, _+_, _-_, _*_, _/_, _%_, _^_, _<_, _≤_}
+use Prim.Native.Nat.{ℕ, suc, _+_, _-_, _*_, _/_, _%_, _≤_}
 use native.Mathlib.Omega.{arith}
-use lib.Dec.{ltb, leb, eqb}
-use lib.ListN.{length, getD, take, drop, length-append}
-use lib.Seq.{getD-append-add, take-append-seam, take-at}
-use borrow.Author.Tests.{eq-eqb, ne-eqb, le-ltb, ltb-false, eqb-true, eqb-false, not-false}
+use lib.Dec.{ltb, eqb}
+use lib.ListN.{length, take, drop, length-append}
+use lib.Seq.{take-append-seam, take-at}
+use borrow.Author.Tests.{le-ltb, ltb-false, eqb-true, eqb-false, not-false}
 use Rattle.elements.specs.Bytes.{bytesOf, u32At}
-use Rattle.elements.proofs.Numbers.{numberAt-left, numberAt-right, numberAt-bytesOf, length-bytesOf}
+use Rattle.elements.proofs.Numbers.{numberAt-left, numberAt-right, numberAt-bytesOf}
 use Rattle.vector_types.specs.Answers.{Given, none, given, firstOf, unless, seen, written, unwritten, short}
 use Rattle.vector_types.specs.Search.{some}
 use Rattle.vector_types.specs.Layout.{longest, mostDims, ceil, is, counted, fits, outside, byByte}
 use Rattle.vector_types.specs.Read.{readOf}
 use Rattle.vector_types.specs.Parts.{bodyOf, shownLength}
-use Rattle.vector_types.specs.Write.{filler, trailingBits, trailingBytes, tailOf, blobOf, writeRefusals, writeOf, leftOf, leftBy}
+use Rattle.vector_types.specs.Write.{filler, trailingBits, trailingBytes, tailOf, blobOf, writeRefusals, writeOf, leftOf}
 use Rattle.vector_types.specs.declared.VectorType.{VectorType}
 use Rattle.vector_types.specs.declared.VectorType.the-variants.{Float32Dense, Float64Dense, Float32Sparse, Float1Bit, Float8}
 use Rattle.vector_types.specs.declared.ReadAnswer.{ReadAnswer}
