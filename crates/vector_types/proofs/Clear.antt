@@ -25,7 +25,3 @@ clear (t ∷ ts) e = let (here, later) = passed (t .holds) (t .gives) (firstOf t
 pub clear-before : (ts us : List Test) → Clear ts → firstOf (ts ++ us) ≡ firstOf us
 clear-before [] us c = refl
 clear-before (t ∷ ts) us c = rw (c .0) (clear-before ts us (c .1))
-
-pub unrefused : (ts : List Test) → Clear ts → firstOf ts ≡ none
-unrefused [] c = refl
-unrefused (t ∷ ts) c = rw (c .0) (unrefused ts (c .1))

@@ -1,4 +1,4 @@
--- A blob that was read and written again is no longer than before, reads as before, strictly too, and does not change a second time.
+-- A blob that was read and written again is no longer than before, reads as before, and does not change a second time.
 use mathlib.Core.Path.{_≡_, refl, sym, ap, _∙_}
 use mathlib.Core.Bool.{Bool, true, false, cond, not, _&&_, and-eq-true-iff, true≢false}
 use mathlib.Core.List.{List}
@@ -111,7 +111,14 @@ kept Float32Sparse s names row = sparse-kept s names row
 kept Float1Bit s names row = one-bit-kept s names row
 kept Float8 s names row = float8-kept s names row
 
--- ---- a view's body can be written, and its blob is no longer than the one that was read
+-- ---- the blob of a view: it can be written, is no longer than the one that was read, reads as that one, and stays
+pub rewritten-as : (s : List ℕ) (r : ReadAnswer) → readOf s ≡ r → rewritten s ≡ rewrittenAs r s
+unfolding rewritten
+rewritten-as s r e = ap (λ (r : ReadAnswer). rewrittenAs r s) e
+
+abbrev pub blobFor : View → List ℕ → List ℕ
+blobFor v s = blobOf (v .kind) (v .dims .0) (bodyOf s)
+
 module _ (s : List ℕ) (v : View) (e : readOf s ≡ Seen v) where
   pub body-is : bodyOf s ≡ take (v .length) s
   body-is = body-seen s (v .kind) (v .dims .0) (v .length) e
@@ -122,7 +129,7 @@ module _ (s : List ℕ) (v : View) (e : readOf s ≡ Seen v) where
   here : Kept (v .kind) s
   here = let t = told s v e in kept (v .kind) s (t .names) (t .accepts)
 
-  pub blob-no-longer : length (blobOf (v .kind) (v .dims .0) (bodyOf s)) ≤ length s
+  pub blob-no-longer : length (blobFor v s) ≤ length s
   unfolding blobOf
   blob-no-longer = let t = told s v e in rw (length-append, body-long, t .sized, t .long) (here .room)
 
@@ -138,12 +145,14 @@ module _ (s : List ℕ) (v : View) (e : readOf s ≡ Seen v) where
         filled = rw (t .sized) (here .filled);
       })
 
--- ---- reading it again
-pub rewritten-as : (s : List ℕ) (r : ReadAnswer) → readOf s ≡ r → rewritten s ≡ rewrittenAs r s
-unfolding rewritten
-rewritten-as s r e = ap (λ (r : ReadAnswer). rewrittenAs r s) e
+  pub blob-same : (readOf (blobFor v s) ≡ Seen v) × (bodyOf (blobFor v s) ≡ bodyOf s)
+  blob-same = let (view, body) = reads-back (v .kind) (v .dims .0) (bodyOf s) rewritable in (rw body-long at view, body)
 
-pub rewritten-by : (s : List ℕ) (P : List ℕ → Type 0) → ((v : View) → readOf s ≡ Seen v → P (blobOf (v .kind) (v .dims .0) (bodyOf s)))
+  blob-once : rewritten (blobFor v s) ≡ blobFor v s
+  blob-once = rewritten-as (blobFor v s) (Seen v) (blob-same .0) ∙ rw (blob-same .1)
+
+-- ---- the same of any blob: one that is refused is not rewritten
+pub rewritten-by : (s : List ℕ) (P : List ℕ → Type 0) → ((v : View) → readOf s ≡ Seen v → P (blobFor v s))
     → ((r : Refusal) → readOf s ≡ ReadRefused r → P s) → P (rewritten s)
 rewritten-by s P view refusal = by (readOf s) refl
   where
@@ -156,17 +165,11 @@ rewritten-no-longer s = rewritten-by s (λ w. length w ≤ length s) (blob-no-lo
 
 pub rewritten-same : (s : List ℕ) → (readOf (rewritten s) ≡ readOf s) × (bodyOf (rewritten s) ≡ bodyOf s)
 rewritten-same s =
-    rewritten-by s (λ w. (readOf w ≡ readOf s) × (bodyOf w ≡ bodyOf s))
-    (λ v e.
-    let (view, body) = reads-back (v .kind) (v .dims .0) (bodyOf s) (rewritable s v e) in
-    (rw (body-long s v e) at view ∙ sym e, body))
-    (λ r e. (refl, refl))
+    rewritten-by s (λ w. (readOf w ≡ readOf s) × (bodyOf w ≡ bodyOf s)) (λ v e. rw e (blob-same s v e)) (λ r e. (refl, refl))
 
 pub rewritten-once : (s : List ℕ) → rewritten (rewritten s) ≡ rewritten s
-rewritten-once s =
-    let (view, body) = rewritten-same s in
-    rewritten-by s (λ w. readOf w ≡ readOf s → bodyOf w ≡ bodyOf s → rewritten w ≡ w)
-    (λ v e view body.
-    let again = blobOf (v .kind) (v .dims .0) in
-    rewritten-as (again (bodyOf s)) (Seen v) (view ∙ e) ∙ ap (λ (b : List ℕ). again b) body)
-    (λ r e _ _. rewritten-as s (ReadRefused r) e) view body
+rewritten-once s = rewritten-by s (λ w. rewritten w ≡ w) (blob-once s) (λ r. rewritten-as s (ReadRefused r))
+
+-- two blobs of one view and body become one
+pub rewritten-alike : (s t : List ℕ) (v : View) → readOf s ≡ Seen v → readOf t ≡ Seen v → bodyOf s ≡ bodyOf t → rewritten s ≡ rewritten t
+rewritten-alike s t v e f body = rewritten-as s (Seen v) e ∙ rw body (sym (rewritten-as t (Seen v) f))

@@ -21,7 +21,7 @@ use Rattle.vector_types.specs.declared.ReadAnswer.the-variants.{View as 
 use Rattle.vector_types.proofs.Views.{told}
 use Rattle.vector_types.proofs.Clear.{clear, clear-before}
 use Rattle.vector_types.proofs.Appended.{falls-appended, unused-appended}
-use Rattle.vector_types.proofs.Rewritten.{body-is, rewritten-by, rewritten-same}
+use Rattle.vector_types.proofs.Rewritten.{body-is, blob-same, rewritten-by}
 
 -- ---- the strict reader's own tests, by the body alone
 abbrev bodyTests : VectorType → ℕ → List ℕ → List Test
@@ -61,12 +61,15 @@ strict-seen s v e =
     let past = clear-before (refusals (named s) s) own (clear (refusals (named s) s) free) in
     let kind = ap (λ (n : Named). strictRefusals n s) (t .names) in
     let body = by-body (v .kind) s (v .length) (v .dims .0) (t .within) (t .long) (t .sized) in
-    let tests : own ≡ bodyTests (v .kind) (v .dims .0) (bodyOf s) = kind ∙ body ∙ rw (body-is s v e) in
-    ap (λ (g : Given). unless g refused (shown (named s) s)) (past ∙ ap firstOf tests) ∙ ap (λ (r : ReadAnswer). unless (firstOf (bodyTests (v .kind) (v .dims .0) (bodyOf s))) refused r) view
+    let tests = bodyTests (v .kind) (v .dims .0) (bodyOf s) in
+    let same : own ≡ tests = kind ∙ body ∙ rw (body-is s v e) in
+    ap (λ (g : Given). unless g refused (shown (named s) s)) (past ∙ ap firstOf same)
+    ∙ ap (λ (r : ReadAnswer). unless (firstOf tests) refused r) view
+
+blob-strict : (s : List ℕ) (v : View) → readOf s ≡ Seen v → strictOf (blobOf (v .kind) (v .dims .0) (bodyOf s)) ≡ strictOf s
+blob-strict s v e =
+    let (view, body) = blob-same s v e in
+    strict-seen (blobOf (v .kind) (v .dims .0) (bodyOf s)) v view ∙ rw body (sym (strict-seen s v e))
 
 pub rewritten-strict : (s : List ℕ) → strictOf (rewritten s) ≡ strictOf s
-rewritten-strict s =
-    let (view, body) = rewritten-same s in
-    rewritten-by s (λ w. readOf w ≡ readOf s → bodyOf w ≡ bodyOf s → strictOf w ≡ strictOf s)
-    (λ v e view body. strict-seen (blobOf (v .kind) (v .dims .0) (bodyOf s)) v (view ∙ e) ∙ rw body (sym (strict-seen s v e)))
-    (λ r e _ _. refl) view body
+rewritten-strict s = rewritten-by s (λ w. strictOf w ≡ strictOf s) (blob-strict s) (λ r e. refl)

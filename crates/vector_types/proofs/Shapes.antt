@@ -1,4 +1,4 @@
--- Reading a blob by its length and its last bytes, a kind at a time.
+-- Which blobs have a view of d elements, a kind at a time: by how many bytes stand before the type byte, the count and the indices.
 use mathlib.Core.Path.{_≡_, refl, ap, _∙_}
 use mathlib.Core.Bool.{false}
 use mathlib.Core.List.{List}
@@ -37,7 +37,8 @@ module _ (s : List ℕ) (n d : ℕ) (size : before s ≡ n) (few : d ≤ mostDim
       let whole : n / 8 ≡ d = omega arith in
       read-as s (a Float64Dense) names ∙ simp (size, long, whole, eq-eqb n (8 * d) e, many)
 
-  pub reads-one-bit : named s ≡ a Float1Bit → 0 < d → 8 + d ≤ 8 * n → getD s (n - 1) 0 ≡ 8 * n - d → readOf s ≡ seen Float1Bit d (ceil d 8)
+  pub reads-one-bit : named s ≡ a Float1Bit → 0 < d → 8 + d ≤ 8 * n → getD s (n - 1) 0 ≡ 8 * n - d
+      → readOf s ≡ seen Float1Bit d (ceil d 8)
   unfolding refusals shown
   reads-one-bit names some more t =
       let rest : 8 * n - (8 * n - d) ≡ d = omega arith in
@@ -55,7 +56,8 @@ module _ (s : List ℕ) (n d : ℕ) (size : before s ≡ n) (few : d ≤ mostDim
         many,
       )
 
-  pub reads-float8 : named s ≡ a Float8 → 0 < d → n ≡ 4 * ceil d 4 + 10 → getD s (n - 1) 0 ≡ 4 * ceil d 4 - d → readOf s ≡ seen Float8 d (n - 2)
+  pub reads-float8 : named s ≡ a Float8 → 0 < d → n ≡ 4 * ceil d 4 + 10 → getD s (n - 1) 0 ≡ 4 * ceil d 4 - d
+      → readOf s ≡ seen Float8 d (n - 2)
   unfolding refusals shown
   reads-float8 names some e t =
       let c = ceil d 4 in
@@ -74,7 +76,8 @@ module _ (s : List ℕ) (n d : ℕ) (size : before s ≡ n) (few : d ≤ mostDim
         many,
       )
 
-  pub reads-sparse : (k : ℕ) → named s ≡ a Float32Sparse → n ≡ 8 * k + 4 → u32At s (n - 4) ≡ d → some (outside s k d) k ≡ false → readOf s ≡ seen Float32Sparse d (8 * k)
+  pub reads-sparse : (k : ℕ) → named s ≡ a Float32Sparse → n ≡ 8 * k + 4 → u32At s (n - 4) ≡ d → some (outside s k d) k ≡ false
+      → readOf s ≡ seen Float32Sparse d (8 * k)
   unfolding refusals shown
   reads-sparse k names e t none =
       let count : n / 8 ≡ k = omega arith in

@@ -28,7 +28,8 @@ module _ (b : ℕ) (k : VectorType) where
   byteNamed unsupported = 0
   byteNamed unknown = 0
 
-  row : (this : VectorType) (c : Bool) (rest : Named) → eqb b (byteOf this) ≡ c → (rest ≡ a k → b ≡ byteOf k) → cond c (a this) rest ≡ a k → b ≡ byteOf k
+  row : (this : VectorType) (c : Bool) (rest : Named) → eqb b (byteOf this) ≡ c → (rest ≡ a k → b ≡ byteOf k)
+      → cond c (a this) rest ≡ a k → b ≡ byteOf k
   row this true rest e next names = eqb-true b (byteOf this) e ∙ ap byteNamed names
   row this false rest e next names = next names
 

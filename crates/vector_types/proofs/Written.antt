@@ -1,8 +1,8 @@
--- What is written reads back as the same kind, dims and body.
+-- What is written reads back as the same kind, dims and body: a kind at a time, then as the writer's caller has it.
 use mathlib.Core.Path.{_≡_, refl, ap, _∙_}
 use mathlib.Core.Bool.{Bool, true, false, cond, _&&_}
 use mathlib.Core.List.{List, [], _∷_, _++_, append-nil, append-assoc}
-use Prim.Native.Nat.{ℕ, suc, _+_, _-_, _*_, _/_, _%_, _≤_}
+use Prim.Native.Nat.{ℕ, suc, _+_, _-_, _*_, _/_, _%_, _<_, _≤_}
 use native.Mathlib.Omega.{arith}
 use lib.Dec.{ltb, eqb}
 use lib.ListN.{length, take, drop, length-append}
@@ -80,7 +80,9 @@ module _ (d : ℕ) (body : List ℕ) where
       let e = eqb-true (length body) (4 * ceil d 4 + 8) (w .fit) in
       let (names, size) = ended body (0 ∷ t ∷ 4 ∷ []) 2 refl (omega arith) in
       let long : length body + 2 - 2 ≡ length body = omega arith in
-      rw long at (reads-float8 (body ++ (0 ∷ t ∷ 4 ∷ [])) (length body + 2) d size (w .few) (w .short) names (omega (arith, eqb-false d 0 (w .filled))) (omega arith) (count-appended body (0 ∷ t ∷ 4 ∷ []) 1))
+      let some : 0 < d = omega (arith, eqb-false d 0 (w .filled)) in
+      let count = count-appended body (0 ∷ t ∷ 4 ∷ []) 1 in
+      rw long at (reads-float8 (body ++ (0 ∷ t ∷ 4 ∷ [])) (length body + 2) d size (w .few) (w .short) names some (omega arith) count)
 
   one-bit-back : Writable Float1Bit d body → readOf (blobOf Float1Bit d body) ≡ seen Float1Bit d (length body)
   unfolding blobOf fits byByte
@@ -91,7 +93,10 @@ module _ (d : ℕ) (body : List ℕ) where
       let long = length-append body (filler (ceil d 8)) in
       let (names, size) = ended front (t ∷ 3 ∷ []) 1 refl (omega (arith, length-filler (ceil d 8))) in
       let all : t ≡ 8 * (length front + 1) - d = rw (long, e) in
-      rw (e, ← append-assoc) (reads-one-bit (front ++ (t ∷ 3 ∷ [])) (length front + 1) d size (w .few) (rw (← append-assoc) at (w .short)) names (omega (arith, eqb-false d 0 (w .filled))) (omega arith) (count-appended front (t ∷ 3 ∷ []) 0 ∙ all))
+      let some : 0 < d = omega (arith, eqb-false d 0 (w .filled)) in
+      let count = count-appended front (t ∷ 3 ∷ []) 0 ∙ all in
+      let short = rw (← append-assoc) at (w .short) in
+      rw (e, ← append-assoc) (reads-one-bit (front ++ (t ∷ 3 ∷ [])) (length front + 1) d size (w .few) short names some (omega arith) count)
 
   sparse-back : Writable Float32Sparse d body → readOf (blobOf Float32Sparse d body) ≡ seen Float32Sparse d (length body)
   unfolding blobOf fits byByte bytesOf
@@ -101,9 +106,10 @@ module _ (d : ℕ) (body : List ℕ) where
       let e : length body ≡ 8 * k = omega (arith, eqb-true (length body % 8) 0 (w .fit)) in
       let (names, size) = ended body tail 4 refl (omega arith) in
       let place : length body + 4 - 4 ≡ length body + 0 = omega arith in
-      let stored : u32At (body ++ tail) (length body + 4 - 4) ≡ d =
-      rw place (numberAt-right 4 body tail 0 ∙ numberAt-left 4 (bytesOf 4 d) (9 ∷ []) 0 (omega arith) ∙ numberAt-bytesOf 4 d (omega arith)) in
-      rw (← e) at (reads-sparse (body ++ tail) (length body + 4) d size (w .few) (w .short) k names (omega arith) stored (outside-appended body tail k d e ∙ w .inside))
+      let behind = numberAt-right 4 body tail 0 ∙ numberAt-left 4 (bytesOf 4 d) (9 ∷ []) 0 (omega arith) in
+      let stored : u32At (body ++ tail) (length body + 4 - 4) ≡ d = rw place (behind ∙ numberAt-bytesOf 4 d (omega arith)) in
+      let inside = outside-appended body tail k d e ∙ w .inside in
+      rw (← e) at (reads-sparse (body ++ tail) (length body + 4) d size (w .few) (w .short) k names (omega arith) stored inside)
 
 read-back : (k : VectorType) (d : ℕ) (body : List ℕ) → Writable k d body → readOf (blobOf k d body) ≡ seen k d (length body)
 read-back Float32Dense d body w = float32-back d body w
@@ -131,7 +137,8 @@ reach (Written n) = suc n
 reach (WriteRefused r) = 0
 reach (Short need) = 0
 
-taken : (g : Given) (fails : Bool) (need n : ℕ) → unless g unwritten (cond fails (short need) (written need)) ≡ written n → (g ≡ none) × (need ≡ n)
+taken : (g : Given) (fails : Bool) (need n : ℕ) → unless g unwritten (cond fails (short need) (written need)) ≡ written n
+    → (g ≡ none) × (need ≡ n)
 taken none true need n e = let z = ap reach e in absurd (omega arith)
 taken none false need n e = let z = ap reach e in (refl, omega arith)
 taken (given r) fails need n e = let z = ap reach e in absurd (omega arith)
