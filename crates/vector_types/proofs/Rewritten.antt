@@ -8,6 +8,7 @@ use lib.Dec.{leb, eqb}
 use lib.ListN.{length, take, drop, length-append, take-append-drop}
 use lib.Seq.{length-take-le}
 use borrow.Author.Tests.{eqb-true, eqb-false, leb-true, ne-eqb, not-true}
+use Rattle.elements.specs.Bytes.{AreBytes}
 use Rattle.elements.proofs.Numbers.{length-bytesOf}
 use Rattle.vector_types.specs.Answers.{none, firstOf}
 use Rattle.vector_types.specs.Search.{some}
@@ -39,17 +40,18 @@ typed s k names other = by (even s) refl
         let size = oddly s (length s - 1) (omega arith) (omega arith) .1 in
         (omega arith, omega arith)
 
-most : (s : List ℕ) → before s ≤ length s
+most : (s : List ℕ) → (before s ≤ length s) × (length s ≤ before s + 1)
 unfolding before
 most s = by (even s)
   where
-    by : (b : Bool) → cond b (length s) (length s - 1) ≤ length s
+    by : (b : Bool) → (cond b (length s) (length s - 1) ≤ length s) × (length s ≤ cond b (length s) (length s - 1) + 1)
     by true = omega arith
     by false = omega arith
 
 -- ---- what a row that accepts a blob tells of its body and of what follows it
 record Kept (k : VectorType) (s : List ℕ) : Type 0 where
   room : lengthOf k s + length (tailOf k (dimsOf k s)) ≤ length s
+  lost : AreBytes s → length s ≤ lengthOf k s + length (tailOf k (dimsOf k s)) + 30
   filled : (counted k && eqb (dimsOf k s) 0) ≡ false
   inside : (is 9 k && some (outside (take (lengthOf k s) s) (lengthOf k s / 8) (dimsOf k s)) (lengthOf k s / 8)) ≡ false
 
@@ -70,6 +72,7 @@ module _ (s : List ℕ) where
       let d : dimsOf Float1Bit s ≡ 8 * n - t = refl in
       record {
         room = rw length-append (omega (arith, length-filler (ceil (dimsOf Float1Bit s) 8), typed s Float1Bit names refl));
+        lost = λ bytes. rw length-append (omega (arith, bytes (n - 1), length-filler (ceil (dimsOf Float1Bit s) 8), typed s Float1Bit names refl));
         filled = ne-eqb (dimsOf Float1Bit s) 0 (omega arith);
         inside = refl;
       }
@@ -83,7 +86,8 @@ module _ (s : List ℕ) where
       let long = leb-true 14 n (both (leb 14 n) (eqb ((n - 10) % 4) 0) rows .0) in
       let most = leb-true t 3 most in
       let d : dimsOf Float8 s ≡ n - 10 - t = refl in
-      record { room = omega (arith, typed s Float8 names refl); filled = ne-eqb (dimsOf Float8 s) 0 (omega arith); inside = refl }
+      let last = typed s Float8 names refl in
+      record { room = omega arith; lost = λ _. omega arith; filled = ne-eqb (dimsOf Float8 s) 0 (omega arith); inside = refl }
 
   sparse-kept : named s ≡ a Float32Sparse → accepted Float32Sparse s ≡ true → Kept Float32Sparse s
   unfolding lengthOf accepted tailOf
@@ -99,14 +103,17 @@ module _ (s : List ℕ) where
       let same = rw take-append-drop at (outside-appended (take m s) (drop m s) k (sparseDims s) long) in
       record {
         room = rw (length-append, length-bytesOf) (omega arith);
+        lost = λ _. rw (length-append, length-bytesOf) (omega arith);
         filled = refl;
         inside = rw count (sym same ∙ not-true (some (outside s k (sparseDims s)) k) within);
       }
 
 kept : (k : VectorType) (s : List ℕ) → named s ≡ a k → accepted k s ≡ true → Kept k s
 unfolding lengthOf tailOf
-kept Float32Dense s names row = record { room = omega (arith, most s); filled = refl; inside = refl }
-kept Float64Dense s names row = record { room = omega (arith, typed s Float64Dense names refl); filled = refl; inside = refl }
+kept Float32Dense s names row = record { room = omega (arith, most s); lost = λ _. omega (arith, most s); filled = refl; inside = refl }
+kept Float64Dense s names row =
+    let last = typed s Float64Dense names refl in
+    record { room = omega arith; lost = λ _. omega arith; filled = refl; inside = refl }
 kept Float32Sparse s names row = sparse-kept s names row
 kept Float1Bit s names row = one-bit-kept s names row
 kept Float8 s names row = float8-kept s names row
@@ -132,6 +139,10 @@ module _ (s : List ℕ) (v : View) (e : readOf s ≡ Seen v) where
   pub blob-no-longer : length (blobFor v s) ≤ length s
   unfolding blobOf
   blob-no-longer = let t = told s v e in rw (length-append, body-long, t .sized, t .long) (here .room)
+
+  pub blob-little-shorter : AreBytes s → length s ≤ length (blobFor v s) + 30
+  unfolding blobOf
+  blob-little-shorter bytes = let t = told s v e in rw (length-append, body-long, t .sized, t .long) (here .lost bytes)
 
   pub rewritable : firstOf (writeRefusals (v .kind) (v .dims .0) (bodyOf s)) ≡ none
   rewritable =
@@ -162,6 +173,10 @@ rewritten-by s P view refusal = by (readOf s) refl
 
 pub rewritten-no-longer : (s : List ℕ) → length (rewritten s) ≤ length s
 rewritten-no-longer s = rewritten-by s (λ w. length w ≤ length s) (blob-no-longer s) (λ r e. omega arith)
+
+pub rewritten-little-shorter : (s : List ℕ) → AreBytes s → length s ≤ length (rewritten s) + 30
+rewritten-little-shorter s bytes =
+    rewritten-by s (λ w. length s ≤ length w + 30) (λ v e. blob-little-shorter s v e bytes) (λ r e. omega arith)
 
 pub rewritten-same : (s : List ℕ) → (readOf (rewritten s) ≡ readOf s) × (bodyOf (rewritten s) ≡ bodyOf s)
 rewritten-same s =

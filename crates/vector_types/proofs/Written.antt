@@ -58,6 +58,10 @@ length-filler m = by (eqb (m % 2) 0) refl
     by true e = omega (arith, eqb-true (m % 2) 0 e)
     by false e = omega (arith, eqb-false (m % 2) 0 e)
 
+-- the count: 8 to 15 after an odd body, 16 to 23 after an even one
+pub count-range : (d : ℕ) → (8 + 8 * (1 - ceil d 8 % 2) ≤ trailingBits d) × (trailingBits d < 16 + 8 * (1 - ceil d 8 % 2))
+count-range d = rw length-filler (omega arith)
+
 module _ (d : ℕ) (body : List ℕ) where
   float32-back : Writable Float32Dense d body → readOf (blobOf Float32Dense d body) ≡ seen Float32Dense d (length body)
   unfolding blobOf fits
