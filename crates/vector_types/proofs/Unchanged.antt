@@ -22,12 +22,12 @@ use Rattle.vector_types.proofs.Appended.{evenly, oddly}
 use Rattle.vector_types.proofs.Rewritten.{typed, body-is, rewritten-as}
 
 -- ---- a byte that names a kind is that kind's
-module _ (b : ℕ) (k : VectorType) where
-  abbrev byteNamed : Named → ℕ
-  byteNamed (a k) = byteOf k
-  byteNamed unsupported = 0
-  byteNamed unknown = 0
+abbrev byteNamed : Named → ℕ
+byteNamed (a k) = byteOf k
+byteNamed unsupported = 0
+byteNamed unknown = 0
 
+module _ (b : ℕ) (k : VectorType) where
   row : (this : VectorType) (c : Bool) (rest : Named) → eqb b (byteOf this) ≡ c → (rest ≡ a k → b ≡ byteOf k)
       → cond c (a this) rest ≡ a k → b ≡ byteOf k
   row this true rest e next names = eqb-true b (byteOf this) e ∙ ap byteNamed names
