@@ -12,3 +12,10 @@ pub mod Strict
 pub mod Tails
 pub mod Unused
 pub mod Views
+pub mod Clear
+pub mod Appended
+pub mod Shapes
+pub mod Written
+pub mod Rewritten
+pub mod RewrittenStrictly
+pub mod Unchanged

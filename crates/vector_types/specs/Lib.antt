@@ -5,4 +5,6 @@ pub mod Read
 pub mod Strict
 pub mod Parts
 pub mod Write
+pub mod Rewritten
+pub mod WrittenExamples
 pub mod Examples

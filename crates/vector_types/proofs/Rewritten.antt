@@ -1,0 +1,190 @@
+-- A blob that was read and written again is no longer than before, reads as before, and does not change a second time.
+use mathlib.Core.Path.{_≡_, refl, sym, ap, _∙_}
+use mathlib.Core.Bool.{Bool, true, false, cond, not, _&&_, and-eq-true-iff, true≢false}
+use mathlib.Core.List.{List}
+use Prim.Native.Nat.{ℕ, _+_, _-_, _*_, _/_, _%_, _≤_}
+use native.Mathlib.Omega.{arith}
+use lib.Dec.{leb, eqb}
+use lib.ListN.{length, take, drop, length-append, take-append-drop}
+use lib.Seq.{length-take-le}
+use borrow.Author.Tests.{eqb-true, eqb-false, leb-true, ne-eqb, not-true}
+use Rattle.elements.specs.Bytes.{AreBytes}
+use Rattle.elements.proofs.Numbers.{length-bytesOf}
+use Rattle.vector_types.specs.Answers.{none, firstOf}
+use Rattle.vector_types.specs.Search.{some}
+use Rattle.vector_types.specs.Layout.{ceil, Named, a, is, counted, even, named, before, trailing, entries, sparseDims, accepted, dimsOf, lengthOf, outside}
+use Rattle.vector_types.specs.Read.{of, readOf}
+use Rattle.vector_types.specs.Parts.{bodyOf}
+use Rattle.vector_types.specs.Write.{tailOf, blobOf, writeRefusals}
+use Rattle.vector_types.specs.Rewritten.{rewritten, rewrittenAs}
+use Rattle.vector_types.specs.declared.View.{View}
+use Rattle.vector_types.specs.declared.Refusal.{Refusal}
+use Rattle.vector_types.specs.declared.ReadAnswer.{ReadAnswer}
+use Rattle.vector_types.specs.declared.VectorType.{VectorType}
+use Rattle.vector_types.specs.declared.VectorType.the-variants.{Float32Dense, Float64Dense, Float32Sparse, Float1Bit, Float8}
+use Rattle.vector_types.specs.declared.ReadAnswer.the-variants.{View as Seen, Refused as ReadRefused}
+use Rattle.vector_types.proofs.Views.{told}
+use Rattle.vector_types.proofs.Appended.{evenly, oddly, outside-appended}
+use Rattle.vector_types.proofs.Written.{unrefused, length-filler, body-seen, reads-back}
+
+-- ---- a kind that a byte names: there is such a byte, after an even number of others
+pub typed : (s : List ℕ) (k : VectorType) → named s ≡ a k → is 1 k ≡ false → (length s ≡ before s + 1) × (before s % 2 ≡ 0)
+typed s k names other = by (even s) refl
+  where
+    by : (b : Bool) → even s ≡ b → (length s ≡ before s + 1) × (before s % 2 ≡ 0)
+    by true e =
+        let dense = sym (evenly s (eqb-true (length s % 2) 0 e) .0) ∙ names in
+        absurd (true≢false (ap (λ (n : Named). of n (λ k. is 1 k)) dense ∙ other))
+    by false e =
+        let odd = eqb-false (length s % 2) 0 e in
+        let size = oddly s (length s - 1) (omega arith) (omega arith) .1 in
+        (omega arith, omega arith)
+
+most : (s : List ℕ) → (before s ≤ length s) × (length s ≤ before s + 1)
+unfolding before
+most s = by (even s)
+  where
+    by : (b : Bool) → (cond b (length s) (length s - 1) ≤ length s) × (length s ≤ cond b (length s) (length s - 1) + 1)
+    by true = omega arith
+    by false = omega arith
+
+-- ---- what a row that accepts a blob tells of its body and of what follows it
+record Kept (k : VectorType) (s : List ℕ) : Type 0 where
+  room : lengthOf k s + length (tailOf k (dimsOf k s)) ≤ length s
+  lost : AreBytes s → length s ≤ lengthOf k s + length (tailOf k (dimsOf k s)) + 30
+  filled : (counted k && eqb (dimsOf k s) 0) ≡ false
+  inside : (is 9 k && some (outside (take (lengthOf k s) s) (lengthOf k s / 8) (dimsOf k s)) (lengthOf k s / 8)) ≡ false
+
+both : (p q : Bool) → (p && q) ≡ true → (p ≡ true) × (q ≡ true)
+both p q = and-eq-true-iff p q .0
+
+module _ (s : List ℕ) where
+  one-bit-kept : named s ≡ a Float1Bit → accepted Float1Bit s ≡ true → Kept Float1Bit s
+  unfolding lengthOf accepted tailOf
+  one-bit-kept names row =
+      let n = before s in
+      let t = trailing s in
+      let (rows, most) = both (leb 2 n && leb 8 t) (leb t (8 * n - 1)) row in
+      let (two, eight) = both (leb 2 n) (leb 8 t) rows in
+      let two = leb-true 2 n two in
+      let eight = leb-true 8 t eight in
+      let most = leb-true t (8 * n - 1) most in
+      let d : dimsOf Float1Bit s ≡ 8 * n - t = refl in
+      record {
+        room = rw length-append (omega (arith, length-filler (ceil (dimsOf Float1Bit s) 8), typed s Float1Bit names refl));
+        lost = λ bytes. rw length-append (omega (arith, bytes (n - 1), length-filler (ceil (dimsOf Float1Bit s) 8), typed s Float1Bit names refl));
+        filled = ne-eqb (dimsOf Float1Bit s) 0 (omega arith);
+        inside = refl;
+      }
+
+  float8-kept : named s ≡ a Float8 → accepted Float8 s ≡ true → Kept Float8 s
+  unfolding lengthOf accepted tailOf
+  float8-kept names row =
+      let n = before s in
+      let t = trailing s in
+      let (rows, most) = both (leb 14 n && eqb ((n - 10) % 4) 0) (leb t 3) row in
+      let long = leb-true 14 n (both (leb 14 n) (eqb ((n - 10) % 4) 0) rows .0) in
+      let most = leb-true t 3 most in
+      let d : dimsOf Float8 s ≡ n - 10 - t = refl in
+      let last = typed s Float8 names refl in
+      record { room = omega arith; lost = λ _. omega arith; filled = ne-eqb (dimsOf Float8 s) 0 (omega arith); inside = refl }
+
+  sparse-kept : named s ≡ a Float32Sparse → accepted Float32Sparse s ≡ true → Kept Float32Sparse s
+  unfolding lengthOf accepted tailOf
+  sparse-kept names row =
+      let n = before s in
+      let k = entries s in
+      let m = 8 * k in
+      let (size, within) = both (eqb n (4 + 8 * k)) (not (some (outside s k (sparseDims s)) k)) row in
+      let size = eqb-true n (4 + 8 * k) size in
+      let last = typed s Float32Sparse names refl in
+      let count : m / 8 ≡ k = omega arith in
+      let long = length-take-le m s (omega arith) in
+      let same = rw take-append-drop at (outside-appended (take m s) (drop m s) k (sparseDims s) long) in
+      record {
+        room = rw (length-append, length-bytesOf) (omega arith);
+        lost = λ _. rw (length-append, length-bytesOf) (omega arith);
+        filled = refl;
+        inside = rw count (sym same ∙ not-true (some (outside s k (sparseDims s)) k) within);
+      }
+
+kept : (k : VectorType) (s : List ℕ) → named s ≡ a k → accepted k s ≡ true → Kept k s
+unfolding lengthOf tailOf
+kept Float32Dense s names row = record { room = omega (arith, most s); lost = λ _. omega (arith, most s); filled = refl; inside = refl }
+kept Float64Dense s names row =
+    let last = typed s Float64Dense names refl in
+    record { room = omega arith; lost = λ _. omega arith; filled = refl; inside = refl }
+kept Float32Sparse s names row = sparse-kept s names row
+kept Float1Bit s names row = one-bit-kept s names row
+kept Float8 s names row = float8-kept s names row
+
+-- ---- the blob of a view: it can be written, is no longer than the one that was read, reads as that one, and stays
+pub rewritten-as : (s : List ℕ) (r : ReadAnswer) → readOf s ≡ r → rewritten s ≡ rewrittenAs r s
+unfolding rewritten
+rewritten-as s r e = ap (λ (r : ReadAnswer). rewrittenAs r s) e
+
+abbrev pub blobFor : View → List ℕ → List ℕ
+blobFor v s = blobOf (v .kind) (v .dims .0) (bodyOf s)
+
+module _ (s : List ℕ) (v : View) (e : readOf s ≡ Seen v) where
+  pub body-is : bodyOf s ≡ take (v .length) s
+  body-is = body-seen s (v .kind) (v .dims .0) (v .length) e
+
+  body-long : length (bodyOf s) ≡ v .length
+  body-long = rw body-is (length-take-le (v .length) s (told s v e .within))
+
+  here : Kept (v .kind) s
+  here = let t = told s v e in kept (v .kind) s (t .names) (t .accepts)
+
+  pub blob-no-longer : length (blobFor v s) ≤ length s
+  unfolding blobOf
+  blob-no-longer = let t = told s v e in rw (length-append, body-long, t .sized, t .long) (here .room)
+
+  pub blob-little-shorter : AreBytes s → length s ≤ length (blobFor v s) + 30
+  unfolding blobOf
+  blob-little-shorter bytes = let t = told s v e in rw (length-append, body-long, t .sized, t .long) (here .lost bytes)
+
+  pub rewritable : firstOf (writeRefusals (v .kind) (v .dims .0) (bodyOf s)) ≡ none
+  rewritable =
+      let t = told s v e in
+      unrefused (v .kind) (v .dims .0) (bodyOf s)
+      (record {
+        few = t .few;
+        fit = rw body-long (t .fit);
+        short = omega (arith, blob-no-longer, t .short);
+        inside = rw (body-long, body-is, t .sized, t .long) (here .inside);
+        filled = rw (t .sized) (here .filled);
+      })
+
+  pub blob-same : (readOf (blobFor v s) ≡ Seen v) × (bodyOf (blobFor v s) ≡ bodyOf s)
+  blob-same = let (view, body) = reads-back (v .kind) (v .dims .0) (bodyOf s) rewritable in (rw body-long at view, body)
+
+  blob-once : rewritten (blobFor v s) ≡ blobFor v s
+  blob-once = rewritten-as (blobFor v s) (Seen v) (blob-same .0) ∙ rw (blob-same .1)
+
+-- ---- the same of any blob: one that is refused is not rewritten
+pub rewritten-by : (s : List ℕ) (P : List ℕ → Type 0) → ((v : View) → readOf s ≡ Seen v → P (blobFor v s))
+    → ((r : Refusal) → readOf s ≡ ReadRefused r → P s) → P (rewritten s)
+rewritten-by s P view refusal = by (readOf s) refl
+  where
+    by : (r : ReadAnswer) → readOf s ≡ r → P (rewritten s)
+    by (Seen v) e = rw (rewritten-as s (Seen v) e) (view v e)
+    by (ReadRefused r) e = rw (rewritten-as s (ReadRefused r) e) (refusal r e)
+
+pub rewritten-no-longer : (s : List ℕ) → length (rewritten s) ≤ length s
+rewritten-no-longer s = rewritten-by s (λ w. length w ≤ length s) (blob-no-longer s) (λ r e. omega arith)
+
+pub rewritten-little-shorter : (s : List ℕ) → AreBytes s → length s ≤ length (rewritten s) + 30
+rewritten-little-shorter s bytes =
+    rewritten-by s (λ w. length s ≤ length w + 30) (λ v e. blob-little-shorter s v e bytes) (λ r e. omega arith)
+
+pub rewritten-same : (s : List ℕ) → (readOf (rewritten s) ≡ readOf s) × (bodyOf (rewritten s) ≡ bodyOf s)
+rewritten-same s =
+    rewritten-by s (λ w. (readOf w ≡ readOf s) × (bodyOf w ≡ bodyOf s)) (λ v e. rw e (blob-same s v e)) (λ r e. (refl, refl))
+
+pub rewritten-once : (s : List ℕ) → rewritten (rewritten s) ≡ rewritten s
+rewritten-once s = rewritten-by s (λ w. rewritten w ≡ w) (blob-once s) (λ r. rewritten-as s (ReadRefused r))
+
+-- two blobs of one view and body become one
+pub rewritten-alike : (s t : List ℕ) (v : View) → readOf s ≡ Seen v → readOf t ≡ Seen v → bodyOf s ≡ bodyOf t → rewritten s ≡ rewritten t
+rewritten-alike s t v e f body = rewritten-as s (Seen v) e ∙ rw body (sym (rewritten-as t (Seen v) f))

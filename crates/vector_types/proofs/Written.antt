@@ -1,0 +1,160 @@
+-- What is written reads back as the same kind, dims and body: a kind at a time, then as the writer's caller has it.
+use mathlib.Core.Path.{_≡_, refl, ap, _∙_}
+use mathlib.Core.Bool.{Bool, true, false, cond, _&&_}
+use mathlib.Core.List.{List, [], _∷_, _++_, append-nil, append-assoc}
+use Prim.Native.Nat.{ℕ, suc, _+_, _-_, _*_, _/_, _%_, _<_, _≤_}
+use native.Mathlib.Omega.{arith}
+use lib.Dec.{ltb, eqb}
+use lib.ListN.{length, take, drop, length-append}
+use lib.Seq.{take-append-seam, take-at}
+use borrow.Author.Tests.{le-ltb, ltb-false, eqb-true, eqb-false, not-false}
+use Rattle.elements.specs.Bytes.{bytesOf, u32At}
+use Rattle.elements.proofs.Numbers.{numberAt-left, numberAt-right, numberAt-bytesOf}
+use Rattle.vector_types.specs.Answers.{Given, none, given, firstOf, unless, seen, written, unwritten, short}
+use Rattle.vector_types.specs.Search.{some}
+use Rattle.vector_types.specs.Layout.{longest, mostDims, ceil, is, counted, fits, outside, byByte}
+use Rattle.vector_types.specs.Read.{readOf}
+use Rattle.vector_types.specs.Parts.{bodyOf, shownLength}
+use Rattle.vector_types.specs.Write.{filler, trailingBits, trailingBytes, tailOf, blobOf, writeRefusals, writeOf, leftOf}
+use Rattle.vector_types.specs.declared.VectorType.{VectorType}
+use Rattle.vector_types.specs.declared.VectorType.the-variants.{Float32Dense, Float64Dense, Float32Sparse, Float1Bit, Float8}
+use Rattle.vector_types.specs.declared.ReadAnswer.{ReadAnswer}
+use Rattle.vector_types.specs.declared.WriteAnswer.{WriteAnswer}
+use Rattle.vector_types.specs.declared.WriteAnswer.the-variants.{Written, Refused as WriteRefused, Short}
+use Rattle.vector_types.proofs.Clear.{clear}
+use Rattle.vector_types.proofs.Appended.{evenly, ended, count-appended, outside-appended}
+use Rattle.vector_types.proofs.Shapes.{reads-float32, reads-float64, reads-float8, reads-one-bit, reads-sparse}
+
+-- ---- what the writer does not refuse, a short buffer apart
+pub record Writable (k : VectorType) (d : ℕ) (body : List ℕ) : Type 0 where
+  pub few : d ≤ mostDims
+  pub fit : fits k d (length body) ≡ true
+  pub short : length (blobOf k d body) ≤ longest
+  pub inside : (is 9 k && some (outside body (length body / 8) d) (length body / 8)) ≡ false
+  pub filled : (counted k && eqb d 0) ≡ false
+
+pub writable : (k : VectorType) (d : ℕ) (body : List ℕ) → firstOf (writeRefusals k d body) ≡ none → Writable k d body
+unfolding writeRefusals
+writable k d body e =
+    let c = clear (writeRefusals k d body) e in
+    record {
+      few = ltb-false mostDims d (c .0);
+      fit = not-false (fits k d (length body)) (c .1 .0);
+      short = ltb-false longest (length (blobOf k d body)) (c .1 .1 .0);
+      inside = c .1 .1 .1 .0;
+      filled = c .1 .1 .1 .1 .0;
+    }
+
+pub unrefused : (k : VectorType) (d : ℕ) (body : List ℕ) → Writable k d body → firstOf (writeRefusals k d body) ≡ none
+unfolding writeRefusals
+unrefused k d body w =
+    rw (le-ltb mostDims d (w .few), w .fit, le-ltb longest (length (blobOf k d body)) (w .short), w .inside, w .filled)
+
+-- ---- each kind reads back
+pub length-filler : (m : ℕ) → length (filler m) ≡ 1 - m % 2
+length-filler m = by (eqb (m % 2) 0) refl
+  where
+    by : (b : Bool) → eqb (m % 2) 0 ≡ b → length {A = ℕ} (cond b (0 ∷ []) []) ≡ 1 - m % 2
+    by true e = omega (arith, eqb-true (m % 2) 0 e)
+    by false e = omega (arith, eqb-false (m % 2) 0 e)
+
+-- the count: 8 to 15 after an odd body, 16 to 23 after an even one
+pub count-range : (d : ℕ) → (8 + 8 * (1 - ceil d 8 % 2) ≤ trailingBits d) × (trailingBits d < 16 + 8 * (1 - ceil d 8 % 2))
+count-range d = rw length-filler (omega arith)
+
+module _ (d : ℕ) (body : List ℕ) where
+  float32-back : Writable Float32Dense d body → readOf (blobOf Float32Dense d body) ≡ seen Float32Dense d (length body)
+  unfolding blobOf fits
+  float32-back w =
+      let e = eqb-true (length body) (4 * d) (w .fit) in
+      let (names, size) = evenly body (omega arith) in
+      rw append-nil (reads-float32 body (length body) d size (w .few) (rw append-nil at (w .short)) names e)
+
+  float64-back : Writable Float64Dense d body → readOf (blobOf Float64Dense d body) ≡ seen Float64Dense d (length body)
+  unfolding blobOf fits byByte
+  float64-back w =
+      let e = eqb-true (length body) (8 * d) (w .fit) in
+      let (names, size) = ended body (2 ∷ []) 0 refl (omega arith) in
+      reads-float64 (body ++ (2 ∷ [])) (length body) d (size ∙ omega arith) (w .few) (w .short) names e
+
+  float8-back : Writable Float8 d body → readOf (blobOf Float8 d body) ≡ seen Float8 d (length body)
+  unfolding blobOf fits byByte
+  float8-back w =
+      let t = trailingBytes d in
+      let e = eqb-true (length body) (4 * ceil d 4 + 8) (w .fit) in
+      let (names, size) = ended body (0 ∷ t ∷ 4 ∷ []) 2 refl (omega arith) in
+      let long : length body + 2 - 2 ≡ length body = omega arith in
+      let some : 0 < d = omega (arith, eqb-false d 0 (w .filled)) in
+      let count = count-appended body (0 ∷ t ∷ 4 ∷ []) 1 in
+      rw long at (reads-float8 (body ++ (0 ∷ t ∷ 4 ∷ [])) (length body + 2) d size (w .few) (w .short) names some (omega arith) count)
+
+  one-bit-back : Writable Float1Bit d body → readOf (blobOf Float1Bit d body) ≡ seen Float1Bit d (length body)
+  unfolding blobOf fits byByte
+  one-bit-back w =
+      let front = body ++ filler (ceil d 8) in
+      let t = trailingBits d in
+      let e = eqb-true (length body) (ceil d 8) (w .fit) in
+      let long = length-append body (filler (ceil d 8)) in
+      let (names, size) = ended front (t ∷ 3 ∷ []) 1 refl (omega (arith, length-filler (ceil d 8))) in
+      let all : t ≡ 8 * (length front + 1) - d = rw (long, e) in
+      let some : 0 < d = omega (arith, eqb-false d 0 (w .filled)) in
+      let count = count-appended front (t ∷ 3 ∷ []) 0 ∙ all in
+      let short = rw (← append-assoc) at (w .short) in
+      rw (e, ← append-assoc) (reads-one-bit (front ++ (t ∷ 3 ∷ [])) (length front + 1) d size (w .few) short names some (omega arith) count)
+
+  sparse-back : Writable Float32Sparse d body → readOf (blobOf Float32Sparse d body) ≡ seen Float32Sparse d (length body)
+  unfolding blobOf fits byByte bytesOf
+  sparse-back w =
+      let k = length body / 8 in
+      let tail = bytesOf 4 d ++ (9 ∷ []) in
+      let e : length body ≡ 8 * k = omega (arith, eqb-true (length body % 8) 0 (w .fit)) in
+      let (names, size) = ended body tail 4 refl (omega arith) in
+      let place : length body + 4 - 4 ≡ length body + 0 = omega arith in
+      let behind = numberAt-right 4 body tail 0 ∙ numberAt-left 4 (bytesOf 4 d) (9 ∷ []) 0 (omega arith) in
+      let stored : u32At (body ++ tail) (length body + 4 - 4) ≡ d = rw place (behind ∙ numberAt-bytesOf 4 d (omega arith)) in
+      let inside = outside-appended body tail k d e ∙ w .inside in
+      rw (← e) at (reads-sparse (body ++ tail) (length body + 4) d size (w .few) (w .short) k names (omega arith) stored inside)
+
+read-back : (k : VectorType) (d : ℕ) (body : List ℕ) → Writable k d body → readOf (blobOf k d body) ≡ seen k d (length body)
+read-back Float32Dense d body w = float32-back d body w
+read-back Float64Dense d body w = float64-back d body w
+read-back Float32Sparse d body w = sparse-back d body w
+read-back Float1Bit d body w = one-bit-back d body w
+read-back Float8 d body w = float8-back d body w
+
+-- the body that is shown by a view of length m
+pub body-seen : (s : List ℕ) (k : VectorType) (d m : ℕ) → readOf s ≡ seen k d m → bodyOf s ≡ take m s
+unfolding bodyOf
+body-seen s k d m e = ap (λ (r : ReadAnswer). take (shownLength r) s) e
+
+pub reads-back : (k : VectorType) (d : ℕ) (body : List ℕ) → firstOf (writeRefusals k d body) ≡ none
+    → (readOf (blobOf k d body) ≡ seen k d (length body)) × (bodyOf (blobOf k d body) ≡ body)
+unfolding blobOf
+reads-back k d body e =
+    let view = read-back k d body (writable k d body e) in
+    (view, body-seen (blobOf k d body) k d (length body) view ∙ take-append-seam body (tailOf k d))
+
+-- ---- as the writer's caller has it: the first n bytes of the buffer, where n is the answer
+-- one more than the length written
+abbrev reach : WriteAnswer → ℕ
+reach (Written n) = suc n
+reach (WriteRefused r) = 0
+reach (Short need) = 0
+
+taken : (g : Given) (fails : Bool) (need n : ℕ) → unless g unwritten (cond fails (short need) (written need)) ≡ written n
+    → (g ≡ none) × (need ≡ n)
+taken none true need n e = let z = ap reach e in absurd (omega arith)
+taken none false need n e = let z = ap reach e in (refl, omega arith)
+taken (given r) fails need n e = let z = ap reach e in absurd (omega arith)
+
+pub written-blob : (k : VectorType) (d : ℕ) (body out : List ℕ) (n : ℕ) → writeOf k d body (length out) ≡ written n
+    → (firstOf (writeRefusals k d body) ≡ none) × (take n (leftOf k d body out) ≡ blobOf k d body)
+unfolding writeOf leftOf
+written-blob k d body out n e =
+    let blob = blobOf k d body in
+    let (clear, long) = taken (firstOf (writeRefusals k d body)) (ltb (length out) (length blob)) (length blob) n e in
+    (clear, rw e (take-at blob (drop (length blob) out) n long))
+
+pub written-reads-back : (k : VectorType) (d : ℕ) (body out : List ℕ) (n : ℕ) → writeOf k d body (length out) ≡ written n
+    → (readOf (take n (leftOf k d body out)) ≡ seen k d (length body)) × (bodyOf (take n (leftOf k d body out)) ≡ body)
+written-reads-back k d body out n e = let (clear, left) = written-blob k d body out n e in rw left (reads-back k d body clear)
