@@ -1,21 +1,21 @@
 -- Laws of blobs
 pub mod Accepted
+pub mod Appended
 pub mod Bools
 pub mod ByKind
+pub mod Clear
 pub mod Determined
 pub mod Given
 pub mod Measured
+pub mod Rewritten
+pub mod RewrittenStrictly
 pub mod Rows
 pub mod Search
+pub mod Shapes
 pub mod Some
 pub mod Strict
 pub mod Tails
+pub mod Unchanged
 pub mod Unused
 pub mod Views
-pub mod Clear
-pub mod Appended
-pub mod Shapes
 pub mod Written
-pub mod Rewritten
-pub mod RewrittenStrictly
-pub mod Unchanged
