@@ -15,7 +15,8 @@ use Rattle.lines.specs.Parts.{partsOf, fieldsOf}
 use Rattle.lines.proofs.Digits.{pattern-none}
 use Rattle.promises.proofs.Onto.{tail-lent}
 use Rattle.lines.proofs.Parting.{index-le, parts-at, parts-last, parts-some}
-use Rattle.probe_lines.specs.Line.{rowOf, other, computedOf, one, two, ofWidth, verbOf, answerTo, answerBy, answerOf}
+use Rattle.probe_lines.specs.Line.{rowOf, computedOf, one, two, ofWidth, verbOf, answerTo, answerBy, answerOf}
+use Rattle.probe_lines.specs.Blobs.{other}
 use Rattle.probe_lines.specs.declared.Verb.{Verb}
 use Rattle.probe_lines.specs.declared.Verb.the-variants.{Root, Float, Other}
 use Rattle.probe_lines.specs.declared.float.Work.{Work}

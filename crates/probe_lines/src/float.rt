@@ -3,7 +3,8 @@ ghost use mathlib.Core.Path.{_≡_};
 ghost use Prim.Native.Nat.{_≤_, _<_, _^_};
 ghost use lib.ListN.{length};
 ghost use Rattle.promises.specs.Onto.{onto};
-ghost use Rattle.probe_lines.specs.Line.{rowOf, floatOf, computedOf, other};
+ghost use Rattle.probe_lines.specs.Line.{rowOf, floatOf, computedOf};
+ghost use Rattle.probe_lines.specs.Blobs.{other};
 use lines::hex::Found;
 
 // What is asked of a float's pattern.

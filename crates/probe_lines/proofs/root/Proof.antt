@@ -10,7 +10,8 @@ use Rattle.bytes.specs.Bytes.{indexOf}
 use Rattle.lines.specs.Text.{word, same, tab}
 use Rattle.lines.specs.Parts.{fieldsOf}
 use Rattle.lines.proofs.Same.{tested}
-use Rattle.probe_lines.specs.Line.{computedOf, other, two, ofWidth}
+use Rattle.probe_lines.specs.Line.{computedOf, two, ofWidth}
+use Rattle.probe_lines.specs.Blobs.{other}
 use Rattle.probe_lines.specs.declared.float.Work.the-variants.{Root32, Root64}
 use Rattle.probe_lines.proofs.Fields.{root-short, root-fields, answered}
 use borrow.Author.Needs.{needs}
