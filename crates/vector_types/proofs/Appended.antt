@@ -7,12 +7,11 @@ use native.Mathlib.Omega.{arith}
 use lib.Dec.{ltb, leb}
 use lib.ListN.{length, getD, length-append, List·getD-append}
 use lib.Seq.{getD-append-add}
-use borrow.Author.Tests.{eq-eqb, ne-eqb}
 use Rattle.elements.proofs.Numbers.{numberAt-left}
 use Rattle.vector_types.specs.Search.{firstFrom, some}
-use Rattle.vector_types.specs.Layout.{a, named, byByte, before, indexAt, outside}
+use Rattle.vector_types.specs.Layout.{named, byByte, before, indexAt, outside}
 use Rattle.vector_types.specs.Read.{falls, unusedSet}
-use Rattle.vector_types.specs.declared.VectorType.the-variants.{Float32Dense}
+use Rattle.vector_types.proofs.Ends.{oddly}
 
 -- ---- two tests that agree at the places searched find the same
 firstFrom-same : (p q : ℕ → Bool) (i n : ℕ) → ((j : ℕ) → i ≤ j → j < i + n → p j ≡ q j) → firstFrom p i n ≡ firstFrom q i n
@@ -25,19 +24,8 @@ firstFrom-same p q i (suc n) h =
 pub some-same : (p q : ℕ → Bool) (n : ℕ) → ((j : ℕ) → j < n → p j ≡ q j) → some p n ≡ some q n
 some-same p q n h = ap (λ (i : ℕ). ltb i n) (firstFrom-same p q 0 n (λ j l m. h j (omega arith)))
 
--- ---- the kind that a blob names, and how many bytes stand before the type byte
-pub evenly : (s : List ℕ) → length s % 2 ≡ 0 → (named s ≡ a Float32Dense) × (before s ≡ length s)
-unfolding named before
-evenly s h = let e = eq-eqb (length s % 2) 0 h in (rw e, rw e)
-
-pub oddly : (s : List ℕ) (n : ℕ) → length s ≡ n + 1 → n % 2 ≡ 0 → (named s ≡ byByte (getD s n 0)) × (before s ≡ n)
-unfolding named before
-oddly s n long h =
-    let e = ne-eqb (length s % 2) 0 (λ z. omega arith) in
-    let last : length s - 1 ≡ n = omega arith in
-    (rw (e, last), rw (e, last))
-
 module _ (body tail : List ℕ) where
+  -- the kind that is named, and how many bytes stand before the type byte
   pub ended : (i : ℕ) → length tail ≡ i + 1 → (length body + i) % 2 ≡ 0
       → (named (body ++ tail) ≡ byByte (getD tail i 0)) × (before (body ++ tail) ≡ length body + i)
   ended i long h =

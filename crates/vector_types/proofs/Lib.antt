@@ -3,8 +3,8 @@ pub mod Accepted
 pub mod Appended
 pub mod Bools
 pub mod ByKind
-pub mod Clear
 pub mod Determined
+pub mod Ends
 pub mod Given
 pub mod Measured
 pub mod Rewritten

@@ -1,6 +1,6 @@
 -- What the writer's measure tells: a length that is the blob's, or the refusal; and from there the answer and the buffer.
 use mathlib.Core.Path.{_≡_, refl, sym, ap, _∙_}
-use mathlib.Core.Bool.{Bool, true, false, cond}
+use mathlib.Core.Bool.{cond}
 use mathlib.Core.List.{List}
 use Prim.Native.Nat.{ℕ, _<_, _≤_}
 use lib.Dec.{ltb}
@@ -14,6 +14,7 @@ use Rattle.vector_types.specs.declared.VectorType.{VectorType}
 use Rattle.vector_types.specs.declared.WriteAnswer.{WriteAnswer}
 use Rattle.vector_types.specs.declared.writing.Size.{Size}
 use Rattle.vector_types.specs.declared.writing.Size.the-variants.{Bytes, Refused}
+use Rattle.vector_types.proofs.Given.{none-passed}
 
 -- what a size was made of
 abbrev refusalIn : Size → Given
@@ -27,15 +28,6 @@ bytesIn (Refused r) = 0
 back : (g : Given) (need : ℕ) → refusalIn (unless g Refused (Bytes need)) ≡ g
 back none need = refl
 back (given r) need = refl
-
--- where nothing is refused, the first test fails
-abbrev isGiven : Given → Bool
-isGiven none = false
-isGiven (given r) = true
-
-first-fails : (b : Bool) (r : Refusal) (g : Given) → cond b (given r) g ≡ none → b ≡ false
-first-fails true r g e = ap isGiven e
-first-fails false r g e = refl
 
 module _ (k : VectorType) (d : ℕ) (body : List ℕ) where
   abbrev refusals : Given
@@ -61,7 +53,7 @@ module _ (k : VectorType) (d : ℕ) (body : List ℕ) where
 
     pub measured-few : d ≤ mostDims
     unfolding writeRefusals
-    measured-few = ltb-false mostDims d (first-fails _ _ _ unrefused)
+    measured-few = ltb-false mostDims d (none-passed (writeRefusals k d body) unrefused .0)
 
     answer : (room : ℕ) → writeOf k d body room ≡ cond (ltb room n) (short n) (written n)
     unfolding writeOf

@@ -1,19 +1,19 @@
 -- A blob that was read and written again is no longer than before, reads as before, and does not change a second time.
 use mathlib.Core.Path.{_≡_, refl, sym, ap, _∙_}
-use mathlib.Core.Bool.{Bool, true, false, cond, not, _&&_, and-eq-true-iff, true≢false}
+use mathlib.Core.Bool.{true, false, not, _&&_, and-eq-true-iff}
 use mathlib.Core.List.{List}
 use Prim.Native.Nat.{ℕ, _+_, _-_, _*_, _/_, _%_, _≤_}
 use native.Mathlib.Omega.{arith}
 use lib.Dec.{leb, eqb}
 use lib.ListN.{length, take, drop, length-append, take-append-drop}
 use lib.Seq.{length-take-le}
-use borrow.Author.Tests.{eqb-true, eqb-false, leb-true, ne-eqb, not-true}
+use borrow.Author.Tests.{eqb-true, leb-true, ne-eqb, not-true}
 use Rattle.elements.specs.Bytes.{AreBytes}
 use Rattle.elements.proofs.Numbers.{length-bytesOf}
 use Rattle.vector_types.specs.Answers.{none, firstOf}
 use Rattle.vector_types.specs.Search.{some}
-use Rattle.vector_types.specs.Layout.{ceil, Named, a, is, counted, even, named, before, trailing, entries, sparseDims, accepted, dimsOf, lengthOf, outside}
-use Rattle.vector_types.specs.Read.{of, readOf}
+use Rattle.vector_types.specs.Layout.{ceil, a, is, counted, named, before, trailing, entries, sparseDims, accepted, dimsOf, lengthOf, outside}
+use Rattle.vector_types.specs.Read.{readOf}
 use Rattle.vector_types.specs.Parts.{bodyOf}
 use Rattle.vector_types.specs.Write.{tailOf, blobOf, writeRefusals}
 use Rattle.vector_types.specs.Rewritten.{rewritten, rewrittenAs}
@@ -24,29 +24,11 @@ use Rattle.vector_types.specs.declared.VectorType.{VectorType}
 use Rattle.vector_types.specs.declared.VectorType.the-variants.{Float32Dense, Float64Dense, Float32Sparse, Float1Bit, Float8}
 use Rattle.vector_types.specs.declared.ReadAnswer.the-variants.{View as Seen, Refused as ReadRefused}
 use Rattle.vector_types.proofs.Views.{told}
-use Rattle.vector_types.proofs.Appended.{evenly, oddly, outside-appended}
-use Rattle.vector_types.proofs.Written.{unrefused, length-filler, body-seen, reads-back}
-
--- ---- a kind that a byte names: there is such a byte, after an even number of others
-pub typed : (s : List ℕ) (k : VectorType) → named s ≡ a k → is 1 k ≡ false → (length s ≡ before s + 1) × (before s % 2 ≡ 0)
-typed s k names other = by (even s) refl
-  where
-    by : (b : Bool) → even s ≡ b → (length s ≡ before s + 1) × (before s % 2 ≡ 0)
-    by true e =
-        let dense = sym (evenly s (eqb-true (length s % 2) 0 e) .0) ∙ names in
-        absurd (true≢false (ap (λ (n : Named). of n (λ k. is 1 k)) dense ∙ other))
-    by false e =
-        let odd = eqb-false (length s % 2) 0 e in
-        let size = oddly s (length s - 1) (omega arith) (omega arith) .1 in
-        (omega arith, omega arith)
-
-most : (s : List ℕ) → (before s ≤ length s) × (length s ≤ before s + 1)
-unfolding before
-most s = by (even s)
-  where
-    by : (b : Bool) → (cond b (length s) (length s - 1) ≤ length s) × (length s ≤ cond b (length s) (length s - 1) + 1)
-    by true = omega arith
-    by false = omega arith
+use Rattle.vector_types.proofs.Bools.{and-three}
+use Rattle.vector_types.proofs.Ends.{named-odd, before-within}
+use Rattle.vector_types.proofs.Tails.{length-filler}
+use Rattle.vector_types.proofs.Appended.{outside-appended}
+use Rattle.vector_types.proofs.Written.{unrefused, body-seen, reads-back}
 
 -- ---- what a row that accepts a blob tells of its body and of what follows it
 record Kept (k : VectorType) (s : List ℕ) : Type 0 where
@@ -55,25 +37,19 @@ record Kept (k : VectorType) (s : List ℕ) : Type 0 where
   filled : (counted k && eqb (dimsOf k s) 0) ≡ false
   inside : (is 9 k && some (outside (take (lengthOf k s) s) (lengthOf k s / 8) (dimsOf k s)) (lengthOf k s / 8)) ≡ false
 
-both : (p q : Bool) → (p && q) ≡ true → (p ≡ true) × (q ≡ true)
-both p q = and-eq-true-iff p q .0
-
 module _ (s : List ℕ) where
   one-bit-kept : named s ≡ a Float1Bit → accepted Float1Bit s ≡ true → Kept Float1Bit s
   unfolding lengthOf accepted tailOf
   one-bit-kept names row =
       let n = before s in
       let t = trailing s in
-      let (rows, most) = both (leb 2 n && leb 8 t) (leb t (8 * n - 1)) row in
-      let (two, eight) = both (leb 2 n) (leb 8 t) rows in
-      let two = leb-true 2 n two in
-      let eight = leb-true 8 t eight in
-      let most = leb-true t (8 * n - 1) most in
+      let tests = and-three (leb 2 n) (leb 8 t) (leb t (8 * n - 1)) row in
+      let last = named-odd s Float1Bit names refl in
       let d : dimsOf Float1Bit s ≡ 8 * n - t = refl in
       record {
-        room = rw length-append (omega (arith, length-filler (ceil (dimsOf Float1Bit s) 8), typed s Float1Bit names refl));
-        lost = λ bytes. rw length-append (omega (arith, bytes (n - 1), length-filler (ceil (dimsOf Float1Bit s) 8), typed s Float1Bit names refl));
-        filled = ne-eqb (dimsOf Float1Bit s) 0 (omega arith);
+        room = rw length-append (omega (arith, leb-true, length-filler (ceil (dimsOf Float1Bit s) 8)));
+        lost = λ bytes. rw length-append (omega (arith, leb-true, bytes (n - 1), length-filler (ceil (dimsOf Float1Bit s) 8)));
+        filled = ne-eqb (dimsOf Float1Bit s) 0 (omega (arith, leb-true));
         inside = refl;
       }
 
@@ -82,12 +58,15 @@ module _ (s : List ℕ) where
   float8-kept names row =
       let n = before s in
       let t = trailing s in
-      let (rows, most) = both (leb 14 n && eqb ((n - 10) % 4) 0) (leb t 3) row in
-      let long = leb-true 14 n (both (leb 14 n) (eqb ((n - 10) % 4) 0) rows .0) in
-      let most = leb-true t 3 most in
+      let tests = and-three (leb 14 n) (eqb ((n - 10) % 4) 0) (leb t 3) row in
       let d : dimsOf Float8 s ≡ n - 10 - t = refl in
-      let last = typed s Float8 names refl in
-      record { room = omega arith; lost = λ _. omega arith; filled = ne-eqb (dimsOf Float8 s) 0 (omega arith); inside = refl }
+      let last = named-odd s Float8 names refl in
+      record {
+        room = omega (arith, leb-true);
+        lost = λ _. omega (arith, leb-true);
+        filled = ne-eqb (dimsOf Float8 s) 0 (omega (arith, leb-true));
+        inside = refl;
+      }
 
   sparse-kept : named s ≡ a Float32Sparse → accepted Float32Sparse s ≡ true → Kept Float32Sparse s
   unfolding lengthOf accepted tailOf
@@ -95,9 +74,9 @@ module _ (s : List ℕ) where
       let n = before s in
       let k = entries s in
       let m = 8 * k in
-      let (size, within) = both (eqb n (4 + 8 * k)) (not (some (outside s k (sparseDims s)) k)) row in
+      let (size, within) = and-eq-true-iff (eqb n (4 + 8 * k)) (not (some (outside s k (sparseDims s)) k)) .0 row in
       let size = eqb-true n (4 + 8 * k) size in
-      let last = typed s Float32Sparse names refl in
+      let last = named-odd s Float32Sparse names refl in
       let count : m / 8 ≡ k = omega arith in
       let long = length-take-le m s (omega arith) in
       let same = rw take-append-drop at (outside-appended (take m s) (drop m s) k (sparseDims s) long) in
@@ -110,9 +89,9 @@ module _ (s : List ℕ) where
 
 kept : (k : VectorType) (s : List ℕ) → named s ≡ a k → accepted k s ≡ true → Kept k s
 unfolding lengthOf tailOf
-kept Float32Dense s names row = record { room = omega (arith, most s); lost = λ _. omega (arith, most s); filled = refl; inside = refl }
+kept Float32Dense s names row = record { room = omega (arith, before-within s); lost = λ _. omega (arith, before-within s); filled = refl; inside = refl }
 kept Float64Dense s names row =
-    let last = typed s Float64Dense names refl in
+    let last = named-odd s Float64Dense names refl in
     record { room = omega arith; lost = λ _. omega arith; filled = refl; inside = refl }
 kept Float32Sparse s names row = sparse-kept s names row
 kept Float1Bit s names row = one-bit-kept s names row

@@ -1,51 +1,26 @@
 -- The layout table against the refusals, kind by kind: every test fails exactly if the row and the limits accept the blob.
-use mathlib.Core.Path.{_≡_, refl, ap, _∙_}
-use mathlib.Core.Bool.{Bool, true, false, not, true≢false, and-eq-true-iff}
+use mathlib.Core.Path.{_≡_, refl}
+use mathlib.Core.Bool.{Bool, true, false, not, and-eq-true-iff}
 use mathlib.Core.List.{List}
 use Prim.Native.Nat.{ℕ, _+_, _-_, _*_, _/_, _%_, _≤_}
 use native.Mathlib.Omega.{arith}
 use borrow.Author.Tests.{ltb-false, leb-false, eqb-true, eqb-false, leb-true, le-leb, lt-leb, le-ltb, eq-eqb, ne-eqb, not-true, not-false}
 use lib.Dec.{ltb, leb, eqb}
 use lib.ListN.{length}
-use Rattle.vector_types.specs.Layout.{longest, mostDims, a, named, even, is, before, trailing, accepted, entries, sparseDims, outside, ceil, unfit, dimsOf, lengthOf, fits}
+use Rattle.vector_types.specs.Layout.{longest, mostDims, a, named, before, trailing, accepted, entries, sparseDims, outside, ceil, unfit, dimsOf, lengthOf, fits}
 use Rattle.vector_types.specs.Search.{some}
-use Rattle.vector_types.specs.Read.{of, refusals}
+use Rattle.vector_types.specs.Read.{refusals}
 use Rattle.vector_types.specs.declared.VectorType.{VectorType}
 use Rattle.vector_types.specs.declared.VectorType.the-variants.{Float32Dense, Float64Dense, Float32Sparse, Float1Bit, Float8}
 use Rattle.vector_types.proofs.Bools.{or-both, and-three}
+use Rattle.vector_types.proofs.Ends.{named-odd, before-within}
 use Rattle.vector_types.proofs.Given.{Passed}
-
--- of a blob with a type byte: what stands before it
-pub record Ended (s : List ℕ) : Type 0 where
-  pub one-more : length s ≡ before s + 1
-  pub halved : before s % 2 ≡ 0
-
-ended : (s : List ℕ) → even s ≡ false → Ended s
-unfolding before
-ended s e = let odd = eqb-false (length s % 2) 0 e in record { one-more = rw e (omega arith); halved = rw e (omega arith) }
-
--- all but Float32Dense have a type byte
-pub named-odd : (s : List ℕ) (k : VectorType) → named s ≡ a k → is 1 k ≡ false → Ended s
-unfolding named
-named-odd s k e other = at (even s) refl
-  where
-    at : (b : Bool) → even s ≡ b → Ended s
-    at true h = absurd (true≢false (ap (λ n. of n (is 1)) (rw h at e) ∙ other))
-    at false h = ended s h
-
-pub before-within : (s : List ℕ) → before s ≤ length s
-unfolding before
-before-within s = at (even s) refl
-  where
-    at : (b : Bool) → even s ≡ b → before s ≤ length s
-    at true h = rw h (omega arith)
-    at false h = rw h (omega arith)
 
 -- a body is part of its blob
 pub length-within : (s : List ℕ) (k : VectorType) → lengthOf k s ≤ length s
 unfolding lengthOf
-length-within s Float32Dense = before-within s
-length-within s Float64Dense = before-within s
+length-within s Float32Dense = before-within s .0
+length-within s Float64Dense = before-within s .0
 length-within s Float1Bit = omega (arith, before-within s)
 length-within s Float8 = omega (arith, before-within s)
 length-within s Float32Sparse = omega (arith, before-within s)

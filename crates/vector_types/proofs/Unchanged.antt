@@ -18,8 +18,8 @@ use Rattle.vector_types.specs.Rewritten.{rewritten}
 use Rattle.vector_types.specs.declared.VectorType.{VectorType}
 use Rattle.vector_types.specs.declared.VectorType.the-variants.{Float32Dense, Float64Dense, Float32Sparse, Float1Bit, Float8}
 use Rattle.vector_types.proofs.Views.{told}
-use Rattle.vector_types.proofs.Appended.{evenly, oddly}
-use Rattle.vector_types.proofs.Rewritten.{typed, body-is, rewritten-as}
+use Rattle.vector_types.proofs.Ends.{evenly, oddly, named-odd}
+use Rattle.vector_types.proofs.Rewritten.{body-is, rewritten-as}
 
 -- ---- a byte that names a kind is that kind's
 abbrev byteNamed : Named → ℕ
@@ -47,8 +47,8 @@ module _ (b : ℕ) (k : VectorType) where
 -- what stands after the bytes before the type byte: that byte
 type-byte : (s : List ℕ) (k : VectorType) → named s ≡ a k → is 1 k ≡ false → drop (before s) s ≡ byteOf k ∷ []
 type-byte s k names other =
-    let (long, pairs) = typed s k names other in
-    let byte = named-byte (getD s (before s) 0) k (sym (oddly s (before s) long pairs .0) ∙ names) in
+    let last = named-odd s k names other in
+    let byte = named-byte (getD s (before s) 0) k (sym (oddly s (before s) (last .one-more) (last .halved) .0) ∙ names) in
     rw (drop-cons s (before s) 0 (omega arith), byte, drop-of-length-le s {i = suc (before s)} (omega arith))
 
 -- ---- where the same follows the body, all is the same
@@ -75,7 +75,7 @@ module _ (s : List ℕ) (d m : ℕ) where
       let t = told s _ e in
       let n = before s in
       let fours = eqb-true n (4 + 8 * entries s) (and-eq-true-iff (eqb n (4 + 8 * entries s)) _ .0 (t .accepts) .0) in
-      let (last, _) = typed s Float32Sparse (t .names) refl in
+      let last = named-odd s Float32Sparse (t .names) refl in
       let place : n - 4 ≡ m = omega (arith, t .long) in
       let past : m + 4 ≡ n = omega arith in
       let stored : bytesOf 4 d ≡ take 4 (drop m s) = rw (t .sized, place) (bytesOf-numberAt 4 s m bytes (omega arith)) in

@@ -21,8 +21,10 @@ use Rattle.vector_types.specs.declared.VectorType.the-variants.{Float32D
 use Rattle.vector_types.specs.declared.ReadAnswer.{ReadAnswer}
 use Rattle.vector_types.specs.declared.WriteAnswer.{WriteAnswer}
 use Rattle.vector_types.specs.declared.WriteAnswer.the-variants.{Written, Refused as WriteRefused, Short}
-use Rattle.vector_types.proofs.Clear.{clear}
-use Rattle.vector_types.proofs.Appended.{evenly, ended, count-appended, outside-appended}
+use Rattle.vector_types.proofs.Given.{none-passed}
+use Rattle.vector_types.proofs.Ends.{evenly}
+use Rattle.vector_types.proofs.Tails.{length-filler}
+use Rattle.vector_types.proofs.Appended.{ended, count-appended, outside-appended}
 use Rattle.vector_types.proofs.Shapes.{reads-float32, reads-float64, reads-float8, reads-one-bit, reads-sparse}
 
 -- ---- what the writer does not refuse, a short buffer apart
@@ -36,7 +38,7 @@ pub record Writable (k : VectorType) (d : ℕ) (body : List ℕ) : Type 0 where
 pub writable : (k : VectorType) (d : ℕ) (body : List ℕ) → firstOf (writeRefusals k d body) ≡ none → Writable k d body
 unfolding writeRefusals
 writable k d body e =
-    let c = clear (writeRefusals k d body) e in
+    let c = none-passed (writeRefusals k d body) e in
     record {
       few = ltb-false mostDims d (c .0);
       fit = not-false (fits k d (length body)) (c .1 .0);
@@ -51,13 +53,6 @@ unrefused k d body w =
     rw (le-ltb mostDims d (w .few), w .fit, le-ltb longest (length (blobOf k d body)) (w .short), w .inside, w .filled)
 
 -- ---- each kind reads back
-pub length-filler : (m : ℕ) → length (filler m) ≡ 1 - m % 2
-length-filler m = by (eqb (m % 2) 0) refl
-  where
-    by : (b : Bool) → eqb (m % 2) 0 ≡ b → length {A = ℕ} (cond b (0 ∷ []) []) ≡ 1 - m % 2
-    by true e = omega (arith, eqb-true (m % 2) 0 e)
-    by false e = omega (arith, eqb-false (m % 2) 0 e)
-
 -- the count: 8 to 15 after an odd body, 16 to 23 after an even one
 pub count-range : (d : ℕ) → (8 + 8 * (1 - ceil d 8 % 2) ≤ trailingBits d) × (trailingBits d < 16 + 8 * (1 - ceil d 8 % 2))
 count-range d = rw length-filler (omega arith)

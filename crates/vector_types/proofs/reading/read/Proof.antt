@@ -1,6 +1,7 @@
 -- By the length and the type byte to the laws of the kinds.
 use mathlib.Core.Path.{refl, sym, _∙_}
-use Rattle.vector_types.proofs.ByKind.{read-long, read-dense32, read-dense64, read-unsupported, read-unknown, before-even, before-odd, named-even, named-kind, named-5, named-6, named-other}
+use Rattle.vector_types.proofs.ByKind.{read-long, read-dense32, read-dense64, read-unsupported, read-unknown}
+use Rattle.vector_types.proofs.Ends.{evenly, before-odd, named-kind, named-5, named-6, named-other}
 use Rattle.vector_types.specs.declared.VectorType.the-variants.{Float32Dense, Float64Dense, Float32Sparse, Float1Bit, Float8}
 use borrow.Author.Needs.{needs}
 use borrow.Author.Needs.{needs}
@@ -18,7 +19,7 @@ dense-requires c κs = search needs
 
 returns-2 : tie.Need-returns-2
 returns-2 c = let even = c .before .if2 .taken in
-    c .dense .ensures ∙ sym (read-dense32 _ (c .before .before .if1 .left) _ (named-even _ even) (before-even _ even))
+    c .dense .ensures ∙ sym (read-dense32 _ (c .before .before .if1 .left) _ (evenly _ even .0) (evenly _ even .1))
 
 sub-n : tie.Need-sub-n
 sub-n c = search needs

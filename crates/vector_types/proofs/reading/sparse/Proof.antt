@@ -1,7 +1,8 @@
 -- Each path by the law of sparse blobs, with the tests that were made.
 use mathlib.Core.Path.{refl, sym, _∙_}
 use borrow.Author.Tests.{eq-eqb, ne-eqb, lt-ltb, le-ltb}
-use Rattle.vector_types.proofs.ByKind.{typed, read-sparse}
+use Rattle.vector_types.proofs.ByKind.{read-sparse}
+use Rattle.vector_types.proofs.Ends.{named-odd}
 use Rattle.vector_types.specs.declared.VectorType.the-variants.{Float32Sparse}
 use borrow.Author.Needs.{needs}
 use native.Mathlib.Omega.{arith}
@@ -10,7 +11,7 @@ use Rattle.vector_types.proofs.reading.sparse.Statement.{statement}
 use Rattle.vector_types.proofs.reading.sparse.Tie as tie
 
 sub-n : tie.Need-sub-n
-sub-n c = omega (arith, typed _ Float32Sparse (c .before .pre .1) refl)
+sub-n c = omega (arith, named-odd _ Float32Sparse (c .before .pre .1) refl .one-more)
 
 mul-length : tie.Need-mul-length
 mul-length c = search needs
