@@ -10,7 +10,7 @@ use borrow.Author.Tests.{eq-eqb, lt-ltb, le-ltb}
 use Rattle.elements.specs.Bytes.{u32At}
 use Rattle.vector_types.specs.Answers.{Given, given, unless, seen, refused, refusal}
 use Rattle.vector_types.specs.Search.{some}
-use Rattle.vector_types.specs.Layout.{longest, mostDims, ceil, is, a, unsupported, unknown, named, before, outside, dimsOf, lengthOf, fits}
+use Rattle.vector_types.specs.Layout.{longest, mostDims, ceil, is, a, unsupported, unknown, named, before, outside, fits, rowOf}
 use Rattle.vector_types.specs.Read.{readOf, refusals, shown}
 use Rattle.vector_types.specs.declared.Refusal.{Refusal}
 use Rattle.vector_types.specs.declared.ReadAnswer.{ReadAnswer}
@@ -54,25 +54,25 @@ ended s k e other = omega (arith, named-odd s k e other .one-more)
 
 module _ (s : List ℕ) (short : length s ≤ longest) where
   pub read-dense32 : (n : ℕ) → named s ≡ a Float32Dense → before s ≡ n → readOf s ≡ denseBy Float32Dense 4 n
-  unfolding readOf refusals shown dimsOf lengthOf fits
+  unfolding readOf refusals shown fits rowOf
   read-dense32 n e at = rw (e, at) (simp (le-ltb longest (length s) short, unless-cond, or-false))
 
   pub read-dense64 : named s ≡ a Float64Dense → readOf s ≡ denseBy Float64Dense 8 (length s - 1)
-  unfolding readOf refusals shown dimsOf lengthOf fits
+  unfolding readOf refusals shown fits rowOf
   read-dense64 e = rw (e, ended s Float64Dense e refl) (simp (le-ltb longest (length s) short, unless-cond, or-false))
 
   pub read-one-bit : named s ≡ a Float1Bit → readOf s ≡ oneBitBy (length s - 1) (getD s (length s - 1 - 1) 0)
-  unfolding readOf refusals shown dimsOf lengthOf fits
+  unfolding readOf refusals shown fits rowOf
   read-one-bit e =
       let m = ceil (8 * (length s - 1) - getD s (length s - 1 - 1) 0) 8 in
       rw (e, ended s Float1Bit e refl) (simp (le-ltb longest (length s) short, eq-eqb m m refl, unless-cond, or-false))
 
   pub read-float8 : named s ≡ a Float8 → readOf s ≡ float8By (length s - 1) (getD s (length s - 1 - 1) 0)
-  unfolding readOf refusals shown dimsOf lengthOf fits
+  unfolding readOf refusals shown fits rowOf
   read-float8 e = rw (e, ended s Float8 e refl) (simp (le-ltb longest (length s) short, unless-cond, or-false))
 
   pub read-sparse : named s ≡ a Float32Sparse → readOf s ≡ sparseBy s (length s - 1)
-  unfolding readOf refusals shown dimsOf lengthOf fits
+  unfolding readOf refusals shown fits rowOf
   read-sparse e =
       let m = 8 * ((length s - 1) / 8) in
       let whole : m % 8 ≡ 0 = omega arith in

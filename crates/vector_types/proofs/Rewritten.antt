@@ -12,7 +12,7 @@ use Rattle.elements.specs.Bytes.{AreBytes}
 use Rattle.elements.proofs.Numbers.{length-bytesOf}
 use Rattle.vector_types.specs.Answers.{none, firstOf}
 use Rattle.vector_types.specs.Search.{some}
-use Rattle.vector_types.specs.Layout.{ceil, a, is, counted, named, before, trailing, entries, sparseDims, accepted, dimsOf, lengthOf, outside}
+use Rattle.vector_types.specs.Layout.{ceil, a, is, counted, named, before, trailing, entries, sparseDims, accepted, dimsOf, lengthOf, outside, rowOf}
 use Rattle.vector_types.specs.Read.{readOf}
 use Rattle.vector_types.specs.Parts.{bodyOf}
 use Rattle.vector_types.specs.Write.{tailOf, blobOf, writeRefusals}
@@ -39,7 +39,7 @@ record Kept (k : VectorType) (s : List ℕ) : Type 0 where
 
 module _ (s : List ℕ) where
   one-bit-kept : named s ≡ a Float1Bit → accepted Float1Bit s ≡ true → Kept Float1Bit s
-  unfolding lengthOf accepted tailOf
+  unfolding tailOf rowOf
   one-bit-kept names row =
       let n = before s in
       let t = trailing s in
@@ -54,7 +54,7 @@ module _ (s : List ℕ) where
       }
 
   float8-kept : named s ≡ a Float8 → accepted Float8 s ≡ true → Kept Float8 s
-  unfolding lengthOf accepted tailOf
+  unfolding tailOf rowOf
   float8-kept names row =
       let n = before s in
       let t = trailing s in
@@ -69,7 +69,7 @@ module _ (s : List ℕ) where
       }
 
   sparse-kept : named s ≡ a Float32Sparse → accepted Float32Sparse s ≡ true → Kept Float32Sparse s
-  unfolding lengthOf accepted tailOf
+  unfolding tailOf rowOf
   sparse-kept names row =
       let n = before s in
       let k = entries s in
@@ -88,7 +88,7 @@ module _ (s : List ℕ) where
       }
 
 kept : (k : VectorType) (s : List ℕ) → named s ≡ a k → accepted k s ≡ true → Kept k s
-unfolding lengthOf tailOf
+unfolding tailOf rowOf
 kept Float32Dense s names row = record { room = omega (arith, before-within s); lost = λ _. omega (arith, before-within s); filled = refl; inside = refl }
 kept Float64Dense s names row =
     let last = named-odd s Float64Dense names refl in

@@ -7,7 +7,7 @@ use native.Mathlib.Omega.{arith}
 use borrow.Author.Tests.{ltb-false, leb-false, eqb-true, eqb-false, leb-true, le-leb, lt-leb, le-ltb, eq-eqb, ne-eqb, not-true, not-false}
 use lib.Dec.{ltb, leb, eqb}
 use lib.ListN.{length}
-use Rattle.vector_types.specs.Layout.{longest, mostDims, a, named, before, trailing, accepted, entries, sparseDims, outside, ceil, unfit, dimsOf, lengthOf, fits}
+use Rattle.vector_types.specs.Layout.{longest, mostDims, a, named, before, trailing, accepted, entries, sparseDims, outside, ceil, unfit, dimsOf, lengthOf, fits, rowOf}
 use Rattle.vector_types.specs.Search.{some}
 use Rattle.vector_types.specs.Read.{refusals}
 use Rattle.vector_types.specs.declared.VectorType.{VectorType}
@@ -18,7 +18,7 @@ use Rattle.vector_types.proofs.Given.{Passed}
 
 -- a body is part of its blob
 pub length-within : (s : List ℕ) (k : VectorType) → lengthOf k s ≤ length s
-unfolding lengthOf
+unfolding rowOf
 length-within s Float32Dense = before-within s .0
 length-within s Float64Dense = before-within s .0
 length-within s Float1Bit = omega (arith, before-within s)
@@ -41,7 +41,7 @@ module _ (s : List ℕ) (k : VectorType) (p : Passed (refusals (a k) s)) where
 
 module _ (s : List ℕ) where
   pub passed-accepted : (k : VectorType) → named s ≡ a k → Passed (refusals (a k) s) → accepted k s ≡ true
-  unfolding accepted refusals
+  unfolding refusals rowOf
   passed-accepted Float32Dense e p =
       let whole = eqb-true (before s) (4 * (before s / 4)) (passed-fit s Float32Dense p) in
       eq-eqb (before s % 4) 0 (omega arith)
@@ -74,7 +74,7 @@ module _ (s : List ℕ) where
   -- and where the row and the limits accept the blob, every test fails
   pub accepted-passed : (k : VectorType) → accepted k s ≡ true → ltb longest (length s) ≡ false → ltb mostDims (dimsOf k s) ≡ false
       → Passed (refusals (a k) s)
-  unfolding accepted refusals
+  unfolding refusals rowOf
   accepted-passed Float32Dense e short few =
       let whole = eqb-true (before s % 4) 0 e in
       let fit = eq-eqb (before s) (4 * (before s / 4)) (omega arith) in

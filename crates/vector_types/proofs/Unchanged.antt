@@ -11,7 +11,7 @@ use borrow.Author.Tests.{eqb-true}
 use Rattle.elements.specs.Bytes.{bytesOf, AreBytes}
 use Rattle.elements.proofs.Numbers.{bytesOf-numberAt}
 use Rattle.vector_types.specs.Answers.{seen}
-use Rattle.vector_types.specs.Layout.{Named, a, unsupported, unknown, is, byteOf, named, byByte, before, entries, accepted, lengthOf}
+use Rattle.vector_types.specs.Layout.{Named, a, unsupported, unknown, is, byteOf, named, byByte, before, entries, rowOf}
 use Rattle.vector_types.specs.Read.{of, readOf}
 use Rattle.vector_types.specs.Write.{tailOf, blobOf}
 use Rattle.vector_types.specs.Rewritten.{rewritten}
@@ -58,19 +58,19 @@ module _ (s : List ℕ) (d m : ℕ) where
   same-tail k e end = rewritten-as s (seen k d m) e ∙ rw (body-is s _ e, end) (take-append-drop m s)
 
   pub untyped-unchanged : readOf s ≡ seen Float32Dense d m → length s % 2 ≡ 0 → rewritten s ≡ s
-  unfolding lengthOf tailOf
+  unfolding tailOf rowOf
   untyped-unchanged e h =
       let all : m ≡ length s = told s _ e .long ∙ evenly s h .1 in
       same-tail Float32Dense e (sym (rw all (drop-length s)))
 
   pub float64-unchanged : readOf s ≡ seen Float64Dense d m → rewritten s ≡ s
-  unfolding lengthOf tailOf
+  unfolding tailOf rowOf
   float64-unchanged e =
       let t = told s _ e in
       same-tail Float64Dense e (sym (rw (t .long) (type-byte s Float64Dense (t .names) refl)))
 
   pub sparse-unchanged : readOf s ≡ seen Float32Sparse d m → AreBytes s → rewritten s ≡ s
-  unfolding lengthOf accepted tailOf
+  unfolding tailOf rowOf
   sparse-unchanged e bytes =
       let t = told s _ e in
       let n = before s in

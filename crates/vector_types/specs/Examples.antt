@@ -5,7 +5,7 @@ use Prim.Native.Nat.{ℕ}
 use Rattle.elements.specs.Bytes.{numberAt}
 use Rattle.vector_types.specs.Answers.{seen, refused, refusal}
 use Rattle.vector_types.specs.Search.{firstFrom}
-use Rattle.vector_types.specs.Layout.{named, byByte, before, dimsOf, lengthOf, fits}
+use Rattle.vector_types.specs.Layout.{named, byByte, before, fits, rowOf}
 use Rattle.vector_types.specs.Read.{readOf, strictOf, refusals, strictRefusals, shown}
 use Rattle.vector_types.specs.Parts.{bodyOf}
 use Rattle.vector_types.specs.declared.VectorType.the-variants.{Float32Dense, Float32Sparse, Float1Bit, Float8}
@@ -56,7 +56,7 @@ Read [] = Unit
 Read (e ∷ es) = (readOf (e .blob) ≡ e .answer) × (bodyOf (e .blob) ≡ e .body) × Read es
 
 pub reading-holds : Read reading
-unfolding readOf bodyOf named byByte before dimsOf lengthOf fits refusals shown firstFrom numberAt
+unfolding readOf bodyOf named byByte before fits refusals shown firstFrom numberAt rowOf
 reading-holds = (
   refl,
   refl,
@@ -135,5 +135,5 @@ Compare [] = Unit
 Compare (e ∷ es) = (readOf (e .blob) ≡ e .plain) × (strictOf (e .blob) ≡ e .strict) × Compare es
 
 pub comparing-holds : Compare comparing
-unfolding readOf strictOf named byByte before dimsOf lengthOf fits refusals strictRefusals shown firstFrom numberAt
+unfolding readOf strictOf named byByte before fits refusals strictRefusals shown firstFrom numberAt rowOf
 comparing-holds = (refl, refl, (refl, refl, (refl, refl, (refl, refl, (refl, refl, (refl, refl, (refl, refl, tt)))))))

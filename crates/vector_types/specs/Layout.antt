@@ -82,34 +82,36 @@ indexAt s k j = u32At s (4 * k + 4 * j)
 abbrev pub outside : List ℕ → ℕ → ℕ → ℕ → Bool
 outside s k d j = leb d (indexAt s k j)
 
--- the table's columns, the limits apart: when a blob of a kind is accepted, its dims, and how long its body is, the blob's first bytes
-unfoldable pub accepted : VectorType → List ℕ → Bool
-unfolding before
-accepted Float32Dense s = eqb (before s % 4) 0
-accepted Float64Dense s = eqb (before s % 8) 0
-accepted Float1Bit s = leb 2 (before s) && leb 8 (trailing s) && leb (trailing s) (8 * before s - 1)
-accepted Float8 s = leb 14 (before s) && eqb ((before s - 10) % 4) 0 && leb (trailing s) 3
-accepted Float32Sparse s = eqb (before s) (4 + 8 * entries s) && not (some (outside s (entries s) (sparseDims s)) (entries s))
+-- a row of the table, the limits apart: when a blob is accepted, its dims, and how long its body is, which are its first bytes
+pub record Row : Type 0 where
+  pub accepted : Bool
+  pub dims : ℕ
+  pub body : ℕ
 
-unfoldable pub dimsOf : VectorType → List ℕ → ℕ
-unfolding before
-dimsOf Float32Dense s = before s / 4
-dimsOf Float64Dense s = before s / 8
-dimsOf Float1Bit s = 8 * before s - trailing s
-dimsOf Float8 s = before s - 10 - trailing s
-dimsOf Float32Sparse s = sparseDims s
+abbrev pub row : Bool → ℕ → ℕ → Row
+row when d m = record { accepted = when; dims = d; body = m }
 
-unfoldable pub lengthOf : VectorType → List ℕ → ℕ
-unfolding before dimsOf
-lengthOf Float32Dense s = before s
-lengthOf Float64Dense s = before s
-lengthOf Float1Bit s = ceil (dimsOf Float1Bit s) 8
-lengthOf Float8 s = before s - 2
-lengthOf Float32Sparse s = 8 * entries s
+unfoldable pub rowOf : VectorType → List ℕ → Row
+unfolding before
+rowOf Float32Dense s = row (eqb (before s % 4) 0) (before s / 4) (before s)
+rowOf Float64Dense s = row (eqb (before s % 8) 0) (before s / 8) (before s)
+rowOf Float1Bit s =
+    row (leb 2 (before s) && leb 8 (trailing s) && leb (trailing s) (8 * before s - 1)) (8 * before s - trailing s) (ceil (8 * before s - trailing s) 8)
+rowOf Float8 s = row (leb 14 (before s) && eqb ((before s - 10) % 4) 0 && leb (trailing s) 3) (before s - 10 - trailing s) (before s - 2)
+rowOf Float32Sparse s =
+    row (eqb (before s) (4 + 8 * entries s) && not (some (outside s (entries s) (sparseDims s)) (entries s))) (sparseDims s) (8 * entries s)
+
+abbrev pub accepted : VectorType → List ℕ → Bool
+accepted k s = rowOf k s .accepted
+
+abbrev pub dimsOf : VectorType → List ℕ → ℕ
+dimsOf k s = rowOf k s .dims
+
+abbrev pub lengthOf : VectorType → List ℕ → ℕ
+lengthOf k s = rowOf k s .body
 
 -- whether a blob is accepted, by its row and by the limits
 unfoldable pub acceptedIn : Named → List ℕ → Bool
-unfolding accepted dimsOf
 acceptedIn (a k) s = accepted k s && leb (length s) longest && leb (dimsOf k s) mostDims
 acceptedIn unsupported s = false
 acceptedIn unknown s = false
@@ -124,7 +126,7 @@ fits Float8 d m = eqb m (4 * ceil d 4 + 8)
 
 -- whether the length of a blob's body does not fit its kind and dims; after a sparse body the dims need four bytes
 abbrev pub unfit : VectorType → List ℕ → Bool
-unfolding before dimsOf lengthOf fits
+unfolding fits
 unfit k s = not (fits k (dimsOf k s) (lengthOf k s)) || (is 9 k && not (eqb (before s) (4 + lengthOf k s)))
 
 -- bit i of a 1-bit body: byte i / 8, place i mod 8

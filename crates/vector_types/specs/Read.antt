@@ -7,7 +7,7 @@ use lib.Dec.{ltb, leb, eqb}
 use lib.ListN.{length}
 use Rattle.vector_types.specs.Answers.{Test, test, firstOf, unless, seen, refused, refusal}
 use Rattle.vector_types.specs.Search.{some}
-use Rattle.vector_types.specs.Layout.{longest, mostDims, ceil, Named, a, unsupported, unknown, named, before, trailing, counted, entries, indexAt, outside, is, dimsOf, lengthOf, unfit, fits, bitAt}
+use Rattle.vector_types.specs.Layout.{longest, mostDims, ceil, Named, a, unsupported, unknown, named, before, trailing, counted, entries, indexAt, outside, is, dimsOf, lengthOf, unfit, fits, bitAt, rowOf}
 use Rattle.vector_types.specs.declared.VectorType.{VectorType}
 use Rattle.vector_types.specs.declared.ReadAnswer.{ReadAnswer}
 
@@ -29,7 +29,7 @@ of unknown p = false
 
 -- the refusals of the plain reader
 unfoldable pub refusals : Named → List ℕ → List Test
-unfolding before dimsOf lengthOf fits
+unfolding before fits rowOf
 refusals names s =
     let n = before s in
     let t = trailing s in
@@ -55,7 +55,7 @@ unusedSet s d i = eqb (bitAt s (d + i)) 1
 
 -- the further refusals of the strict reader
 unfoldable pub strictRefusals : Named → List ℕ → List Test
-unfolding before dimsOf lengthOf
+unfolding before rowOf
 strictRefusals names s =
     test 10 (of names (λ k. is 9 k && some (falls s (entries s)) (entries s)))
     ∷ test 11 (of names (λ k. is 3 k && some (unusedSet s (dimsOf k s)) (8 * lengthOf k s - dimsOf k s)))
@@ -63,7 +63,7 @@ strictRefusals names s =
 
 -- the view of a kind by its row; a byte that names none has its refusal
 unfoldable pub shown : Named → List ℕ → ReadAnswer
-unfolding dimsOf lengthOf
+unfolding rowOf
 shown (a k) s = seen k (dimsOf k s) (lengthOf k s)
 shown unsupported s = refused (refusal 2)
 shown unknown s = refused (refusal 3)

@@ -7,7 +7,7 @@ use Rattle.promises.specs.Onto.{onto}
 use Rattle.elements.specs.Bytes.{numberAt, bytesOf}
 use Rattle.vector_types.specs.Answers.{refusal, written, unwritten, short}
 use Rattle.vector_types.specs.Search.{firstFrom}
-use Rattle.vector_types.specs.Layout.{named, byByte, before, dimsOf, lengthOf, fits}
+use Rattle.vector_types.specs.Layout.{named, byByte, before, fits, rowOf}
 use Rattle.vector_types.specs.Read.{readOf, refusals, shown}
 use Rattle.vector_types.specs.Parts.{bodyOf}
 use Rattle.vector_types.specs.Write.{tailOf, blobOf, writeRefusals, writeOf, leftOf}
@@ -113,5 +113,5 @@ rewriting =
     ∷ []
 
 pub rewriting-holds : map (λ (c : Change). rewritten (c .old)) rewriting ≡ map (λ (c : Change). c .new) rewriting
-unfolding rewritten readOf bodyOf named byByte before dimsOf lengthOf fits refusals shown firstFrom numberAt tailOf blobOf bytesOf
+unfolding rewritten readOf bodyOf named byByte before fits refusals shown firstFrom numberAt tailOf blobOf bytesOf rowOf
 rewriting-holds = refl

@@ -9,7 +9,7 @@ use lib.ListN.{length}
 use borrow.Author.Tests.{lt-ltb, le-ltb, eqb-true}
 use Rattle.vector_types.specs.Answers.{refused, refusal}
 use Rattle.vector_types.specs.Search.{first, some}
-use Rattle.vector_types.specs.Layout.{ceil, is, entries, lengthOf, fits}
+use Rattle.vector_types.specs.Layout.{ceil, is, entries, lengthOf, fits, rowOf}
 use Rattle.vector_types.specs.Read.{readOf, strictOf, falls, unusedSet}
 use Rattle.vector_types.specs.declared.View.{View}
 use Rattle.vector_types.specs.declared.VectorType.the-variants.{Float32Sparse, Float1Bit}
@@ -23,7 +23,7 @@ use Rattle.vector_types.proofs.strictness.hold.Tie as tie
 -- what the code takes from the view is what the definitions take from the blob
 module _ (s : List ℕ) (v : View) (e : readOf s ≡ Seen v) where
   count-is : v .kind ≡ Float32Sparse → entries s ≡ v .length / 8
-  unfolding lengthOf
+  unfolding rowOf
   count-is h = let long : v .length ≡ lengthOf Float32Sparse s = told s v e .long ∙ rw h in omega arith
 
   length-is : v .kind ≡ Float1Bit → v .length ≡ ceil (v .dims .0) 8
