@@ -93,13 +93,21 @@ row when d m = record { accepted = when; dims = d; body = m }
 
 unfoldable pub rowOf : VectorType → List ℕ → Row
 unfolding before
-rowOf Float32Dense s = row (eqb (before s % 4) 0) (before s / 4) (before s)
-rowOf Float64Dense s = row (eqb (before s % 8) 0) (before s / 8) (before s)
+rowOf Float32Dense s = let n = before s in row (eqb (n % 4) 0) (n / 4) n
+rowOf Float64Dense s = let n = before s in row (eqb (n % 8) 0) (n / 8) n
 rowOf Float1Bit s =
-    row (leb 2 (before s) && leb 8 (trailing s) && leb (trailing s) (8 * before s - 1)) (8 * before s - trailing s) (ceil (8 * before s - trailing s) 8)
-rowOf Float8 s = row (leb 14 (before s) && eqb ((before s - 10) % 4) 0 && leb (trailing s) 3) (before s - 10 - trailing s) (before s - 2)
+    let n = before s in
+    let t = trailing s in
+    row (leb 2 n && leb 8 t && leb t (8 * n - 1)) (8 * n - t) (ceil (8 * n - t) 8)
+rowOf Float8 s =
+    let n = before s in
+    let t = trailing s in
+    row (leb 14 n && eqb ((n - 10) % 4) 0 && leb t 3) (n - 10 - t) (n - 2)
 rowOf Float32Sparse s =
-    row (eqb (before s) (4 + 8 * entries s) && not (some (outside s (entries s) (sparseDims s)) (entries s))) (sparseDims s) (8 * entries s)
+    let n = before s in
+    let k = entries s in
+    let d = sparseDims s in
+    row (eqb n (4 + 8 * k) && not (some (outside s k d) k)) d (8 * k)
 
 abbrev pub accepted : VectorType → List ℕ → Bool
 accepted k s = rowOf k s .accepted
