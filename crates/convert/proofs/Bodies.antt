@@ -1,0 +1,33 @@
+-- A body that fits its kind and dims: how long it is, kind by kind.
+use mathlib.Core.Path.{_≡_, subst}
+use mathlib.Core.Bool.{true}
+use Prim.Native.Nat.{ℕ, _+_, _*_, _%_}
+use borrow.Author.Tests.{eqb-true}
+use Rattle.vector_types.specs.Layout.{ceil, fits}
+use Rattle.vector_types.specs.declared.VectorType.{VectorType}
+use Rattle.vector_types.specs.declared.VectorType.the-variants.{Float32Dense, Float64Dense, Float32Sparse, Float1Bit, Float8}
+
+module _ {k : VectorType} (d m : ℕ) where
+  -- of a kind that is known
+  known : (t : VectorType) → k ≡ t → fits k d m ≡ true → fits t d m ≡ true
+  known t e h = subst (λ (x : VectorType). fits x d m ≡ true) e h
+
+  pub float32-length : k ≡ Float32Dense → fits k d m ≡ true → m ≡ 4 * d
+  unfolding fits
+  float32-length e h = eqb-true m (4 * d) (known Float32Dense e h)
+
+  pub float64-length : k ≡ Float64Dense → fits k d m ≡ true → m ≡ 8 * d
+  unfolding fits
+  float64-length e h = eqb-true m (8 * d) (known Float64Dense e h)
+
+  pub sparse-length : k ≡ Float32Sparse → fits k d m ≡ true → m % 8 ≡ 0
+  unfolding fits
+  sparse-length e h = eqb-true (m % 8) 0 (known Float32Sparse e h)
+
+  pub one-bit-length : k ≡ Float1Bit → fits k d m ≡ true → m ≡ ceil d 8
+  unfolding fits
+  one-bit-length e h = eqb-true m (ceil d 8) (known Float1Bit e h)
+
+  pub float8-length : k ≡ Float8 → fits k d m ≡ true → m ≡ 4 * ceil d 4 + 8
+  unfolding fits
+  float8-length e h = eqb-true m (4 * ceil d 4 + 8) (known Float8 e h)
