@@ -1,9 +1,9 @@
 -- A body that fits its kind and dims: how long it is, kind by kind.
 use mathlib.Core.Path.{_≡_, subst}
-use mathlib.Core.Bool.{true}
+use mathlib.Core.Bool.{true, false, true≢false}
 use Prim.Native.Nat.{ℕ, _+_, _*_, _%_}
 use borrow.Author.Tests.{eqb-true}
-use Rattle.vector_types.specs.Layout.{ceil, fits}
+use Rattle.vector_types.specs.Layout.{ceil, is, fits}
 use Rattle.vector_types.specs.declared.VectorType.{VectorType}
 use Rattle.vector_types.specs.declared.VectorType.the-variants.{Float32Dense, Float64Dense, Float32Sparse, Float1Bit, Float8}
 
@@ -31,3 +31,7 @@ module _ {k : VectorType} (d m : ℕ) where
   pub float8-length : k ≡ Float8 → fits k d m ≡ true → m ≡ 4 * ceil d 4 + 8
   unfolding fits
   float8-length e h = eqb-true m (4 * ceil d 4 + 8) (known Float8 e h)
+
+-- a kind that is not sparse is not Float32Sparse
+pub not-sparse : {k : VectorType} → k ≡ Float32Sparse → is 9 k ≡ false → ⊥
+not-sparse e h = true≢false (subst (λ (x : VectorType). is 9 x ≡ false) e h)

@@ -40,7 +40,7 @@ pub(crate) fn single(kind: VectorType, dims: usize, body: &[u8], i: usize) -> f3
         VectorType::Float64Dense => rounding::narrow(elements::f64_at(body, 8 * i)),
         VectorType::Float1Bit => unit32(body, i),
         VectorType::Float8 => {
-            let end = (dims + 3) / 4 * 4;
+            let end = 4 * ((dims + 3) / 4);
             let alpha = elements::f32_at(body, end);
             let shift = elements::f32_at(body, end + 4);
             alpha * body[i] as f32 + shift
@@ -62,7 +62,7 @@ pub(crate) fn double(kind: VectorType, dims: usize, body: &[u8], i: usize) -> f6
         VectorType::Float64Dense => elements::f64_at(body, 8 * i),
         VectorType::Float1Bit => rounding::widen(unit32(body, i)),
         VectorType::Float8 => {
-            let end = (dims + 3) / 4 * 4;
+            let end = 4 * ((dims + 3) / 4);
             let alpha = rounding::widen(elements::f32_at(body, end));
             let shift = rounding::widen(elements::f32_at(body, end + 4));
             alpha * body[i] as f64 + shift

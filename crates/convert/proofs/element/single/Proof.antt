@@ -8,7 +8,7 @@ use Rattle.rounding.proofs.NarrowLaw.{narrowed-only}
 use Rattle.vector_types.specs.Layout.{is}
 use Rattle.vector_types.specs.declared.VectorType.{VectorType}
 use Rattle.convert.specs.Elements.{element}
-use Rattle.convert.proofs.Bodies.{float32-length, float64-length, one-bit-length, float8-length}
+use Rattle.convert.proofs.Bodies.{not-sparse, float32-length, float64-length, one-bit-length, float8-length}
 use Rattle.convert.proofs.element.single.Statement.{statement}
 use Rattle.convert.proofs.element.single.Tie as tie
 
@@ -31,7 +31,10 @@ mul-f64-at : tie.Need-mul-f64-at
 mul-f64-at c = search needs
 
 f64-at-requires : tie.Need-f64-at-requires
-f64-at-requires c κs = ?
+f64-at-requires c κs =
+    let a = c .before .before .before in
+    let l = float64-length (a .args .dims) _ (c .enum-told2 .given .1) (a .pre .1 .0) in
+    omega (arith, l, a .pre .1 .1 .1)
 
 narrow-requires : tie.Need-narrow-requires
 narrow-requires c κs = search needs
@@ -40,7 +43,10 @@ enum-told-3 : tie.Need-enum-told-3
 enum-told-3 c = search needs
 
 unit32-requires : tie.Need-unit32-requires
-unit32-requires c κs = ?
+unit32-requires c κs =
+    let a = c .before .before .before in
+    let l = one-bit-length (a .args .dims) _ (c .enum-told3 .given .1) (a .pre .1 .0) in
+    omega (arith, l, a .pre .1 .1 .1)
 
 enum-told-4 : tie.Need-enum-told-4
 enum-told-4 c = search needs
@@ -52,16 +58,23 @@ mul-end : tie.Need-mul-end
 mul-end c = search needs
 
 f32-at-requires-2 : tie.Need-f32-at-requires-2
-f32-at-requires-2 c κs = ?
+f32-at-requires-2 c κs =
+    let a = c .before .before .before in
+    omega (arith, float8-length (a .args .dims) _ (c .enum-told4 .given .1) (a .pre .1 .0))
 
 add-f32-at : tie.Need-add-f32-at
 add-f32-at c = search needs
 
 f32-at-requires-3 : tie.Need-f32-at-requires-3
-f32-at-requires-3 c κs = ?
+f32-at-requires-3 c κs =
+    let a = c .before .before .before .before in
+    omega (arith, float8-length (a .args .dims) _ (c .before .enum-told4 .given .1) (a .pre .1 .0))
 
 shared-slice-read-result : tie.Need-shared-slice-read-result
-shared-slice-read-result c = ?
+shared-slice-read-result c =
+    let a = c .before .before .before .before .before .before in
+    let l = float8-length (a .args .dims) _ (c .before .before .before .enum-told4 .given .1) (a .pre .1 .0) in
+    omega (arith, l, a .pre .1 .1 .1)
 
 int-to-float-result : tie.Need-int-to-float-result
 int-to-float-result c = search needs
@@ -70,23 +83,26 @@ enum-told-5 : tie.Need-enum-told-5
 enum-told-5 c = search needs
 
 returns : tie.Need-returns
-returns c =
-    let a = c .before .before .before .before .args in
-    rw (c .before .enum-told .given .1) (c .f32-at .ensures)
+unfolding element
+returns c = rw (c .before .enum-told .given .1) (c .f32-at .ensures)
 
 returns-2 : tie.Need-returns-2
+unfolding element
 returns-2 c =
-    let a = c .before .before .before .before .before .args in
-    rw (c .before .before .enum-told2 .given .1) (narrowed-only _ _ (c .narrow .ensures) ∙ ap narrowed (c .before .f64-at .ensures))
+    let x = c .before .f64-at .result in
+    rw (c .before .before .enum-told2 .given .1) (narrowed-only x (c .narrow .result) (c .narrow .ensures) ∙ ap narrowed (c .before .f64-at .ensures))
 
 returns-3 : tie.Need-returns-3
-returns-3 c = ?
+unfolding element
+returns-3 c = rw (c .before .enum-told3 .given .1) (c .unit32 .ensures)
 
 returns-4 : tie.Need-returns-4
-returns-4 c = ?
+unfolding element
+returns-4 c =
+    rw (c .before .before .before .before .enum-told4 .given .1, c .before .before .before .f32-at2 .ensures, c .before .before .f32-at3 .ensures)
 
 returns-5 : tie.Need-returns-5
-returns-5 c = absurd (true≢false (rw (c .enum-told5 .given .1) (c .before .before .before .pre .1 .1 .0)))
+returns-5 c = absurd (not-sparse (c .enum-told5 .given .1) (c .before .before .before .pre .1 .1 .0))
 
 pub single-spec : {M : Type 1} → statement M
 single-spec =
