@@ -1,7 +1,7 @@
 -- Elements as floats: literals of the code, what a bit tells, and that each element is a value of its width.
 use mathlib.Core.Path.{_≡_, refl, sym, ap, _∙_}
 use mathlib.Core.Bool.{Bool, true, false}
-use mathlib.Core.List.{List}
+use mathlib.Core.List.{List, [], _∷_}
 use Prim.Native.Nat.{ℕ, _*_}
 use native.Mathlib.Omega.{arith}
 use lib.Dec.{T, eqb}
@@ -9,16 +9,19 @@ use lib.IntN.{pos}
 use lib.ListN.{getD}
 use lib.Ieee.{Float, nan, inf, fin, Format, binary32, binary64, fits, mul, ofInt, neg, up, down, round, ofBits}
 use lib.Ieee.Fits.{nan-fits, inf-fits, round-fits, add-fits, fits-widens}
+use denote.Enum.Declared.{tagOf}
+use types.Run.{OneOf, miss}
 use borrow.Author.Tests.{eqb-true, eqb-false, eq-eqb, ne-eqb}
 use Rattle.float_laws.specs.Zero.{plusZero}
 use Rattle.elements.specs.Bytes.{f32At}
 use Rattle.elements.proofs.Floats.{floatAt-fits}
 use Rattle.rounding.specs.Narrow.{narrowed}
 use Rattle.vector_types.specs.Layout.{bitAt}
+use Rattle.vector_types.proofs.VectorType.{the-type}
 use Rattle.vector_types.specs.declared.VectorType.{VectorType}
 use Rattle.vector_types.specs.declared.VectorType.the-variants.{Float32Dense, Float64Dense, Float32Sparse, Float1Bit, Float8}
 use Rattle.convert.specs.Dense.{spreadBody}
-use Rattle.convert.specs.Elements.{unit, element, alphaOf, shiftOf}
+use Rattle.convert.specs.Elements.{unit, element, own, alphaOf, shiftOf}
 
 -- the literals 0.0 and 1.0
 pub zero-is : (f : Format) → ofBits f 0 ≡ plusZero
@@ -38,6 +41,14 @@ module _ (body : List ℕ) (i : ℕ) where
   pub unit-clear : eqb (bitAt body i) 1 ≡ false → neg (ofBits binary32 0x3f80_0000) ≡ unit (eqb (bitAt body i) 0)
   unfolding neg
   unit-clear e = ap neg one-is ∙ ap unit (sym (eq-eqb (bitAt body i) 0 (omega (arith, eqb-false (bitAt body i) 1 e))))
+
+-- the kinds that are tested as f32: all but the second
+pub own-single : (k : VectorType) → OneOf (0 ∷ 2 ∷ 3 ∷ 4 ∷ []) (tagOf the-type k) → own k ≡ binary32
+own-single Float32Dense h = refl
+own-single Float64Dense h = absurd (miss (0 ∷ 2 ∷ 3 ∷ 4 ∷ []) 1 tt h)
+own-single Float32Sparse h = refl
+own-single Float1Bit h = refl
+own-single Float8 h = refl
 
 unit-fits : (f : Format) (s : Bool) → T (fits f (unit s))
 unfolding fits
