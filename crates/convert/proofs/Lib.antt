@@ -1,3 +1,4 @@
 -- Laws of conversions
 pub mod Bodies
+pub mod Fitting
 pub mod Units

@@ -1,5 +1,4 @@
 -- `convert::element::is_positive` meets its contract: an f64 is tested as it stands, every other element as an f32.
-use lib.Ieee.{lt}
 use borrow.Author.Needs.{needs}
 use Rattle.convert.specs.Elements.{element}
 use Rattle.convert.proofs.Bodies.{float64-within}

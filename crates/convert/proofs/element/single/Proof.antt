@@ -1,12 +1,9 @@
 -- `convert::element::single` meets its contract, an arm a kind: each place lies in a body that fits.
-use mathlib.Core.Path.{ap, sym, subst, _∙_}
-use mathlib.Core.Bool.{true≢false}
+use mathlib.Core.Path.{ap, _∙_}
 use native.Mathlib.Omega.{arith}
 use Rattle.rounding.specs.Narrow.{narrowed}
 use borrow.Author.Needs.{needs}
 use Rattle.rounding.proofs.NarrowLaw.{narrowed-only}
-use Rattle.vector_types.specs.Layout.{is}
-use Rattle.vector_types.specs.declared.VectorType.{VectorType}
 use Rattle.convert.specs.Elements.{element}
 use Rattle.convert.proofs.Bodies.{not-sparse, float8-length, float32-within, float64-within, one-bit-within, float8-within}
 use Rattle.convert.proofs.element.single.Statement.{statement}
