@@ -1,0 +1,3 @@
+-- Laws of conversions
+pub mod Bytewise
+pub mod Packed
