@@ -1,2 +1,3 @@
 -- Laws of conversions
 pub mod Pieces
+pub mod Spread
