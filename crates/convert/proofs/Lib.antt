@@ -3,4 +3,6 @@ pub mod Bodies
 pub mod Bytewise
 pub mod Fitting
 pub mod Packed
+pub mod Pieces
+pub mod Spread
 pub mod Units
