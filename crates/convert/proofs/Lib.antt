@@ -1,0 +1,2 @@
+-- Laws of conversions
+pub mod Scaled
