@@ -2,15 +2,21 @@
 use mathlib.Core.Path.{_≡_, refl, sym, _∙_, ap}
 use mathlib.Core.Bool.{Bool, true, false, cond}
 use mathlib.Core.List.{List, [], _∷_, _++_}
-use Prim.Native.Nat.{ℕ, zero, suc, _+_, _-_, _*_, _<_, _≤_}
+use Prim.Native.Nat.{ℕ, zero, suc, _+_, _-_, _*_, _/_, _<_, _≤_}
 use native.Mathlib.Omega.{arith}
+use native.Mathlib.Nat.{min-le-right}
 use native.Mathlib.Numerals.{add-one}
-use lib.ListN.{length, set, length-append}
-use lib.Ieee.{Float, nan, inf, fin, lt, binary32}
+use lib.ListN.{length, set, length-append, length-replicate}
+use lib.Ieee.{Float, nan, inf, fin, up, down, lt, eq, add, sub, div, binary32}
 use Rattle.promises.specs.Onto.{onto}
 use Rattle.promises.proofs.Onto.{onto-put, length-onto}
+use Rattle.float_laws.specs.Zero.{plusZero}
+use Rattle.rounding.specs.Truncate.{truncated}
+use Rattle.elements.proofs.Numbers.{length-bytesOf}
+use Rattle.vector_types.specs.Layout.{ceil}
+use Rattle.vector_types.specs.declared.VectorType.{VectorType}
 use Rattle.convert.specs.Pieces.{pieces}
-use Rattle.convert.specs.Quantized.{least, greatest}
+use Rattle.convert.specs.Quantized.{least, greatest, half, quantum, quantizedBody}
 use Rattle.convert.specs.declared.quantized.Range.{Range}
 
 -- ---- the range
@@ -37,3 +43,24 @@ pub byte-put : (b : ℕ → ℕ) (n x : ℕ) (l o : List ℕ) → o ≡ onto (by
     → set o n x ≡ onto (bytes b (n + 1)) l
 unfolding pieces
 byte-put b n x l o e at room = rw (add-one n, ← at) (onto-put (bytes b n) l o x n (sym (length-bytes b n)) e room .1)
+
+-- ---- the body
+truncated-byte : (x : Float) → truncated x < 256
+unfolding truncated
+truncated-byte nan = omega arith
+truncated-byte (inf true) = omega arith
+truncated-byte (inf false) = omega arith
+truncated-byte (fin true m e) = omega arith
+truncated-byte (fin false m e) = omega (arith, min-le-right (m * up e / down e) 255)
+
+pub quantum-byte : (alpha shift x : Float) → quantum alpha shift x < 256
+quantum-byte alpha shift x = byte (eq alpha plusZero) (truncated-byte (add binary32 (div binary32 (sub binary32 x shift) alpha) half))
+  where
+    byte : (zero : Bool) {n : ℕ} → n < 256 → cond zero 0 n < 256
+    byte true h = omega arith
+    byte false h = h
+
+pub length-quantizedBody : (k : VectorType) (d : ℕ) (body : List ℕ) → length (quantizedBody k d body) ≡ 4 * ceil d 4 + 8
+unfolding quantizedBody
+length-quantizedBody k d body =
+    simp (length-append, length-bytes, length-replicate, length-bytesOf) (omega arith)

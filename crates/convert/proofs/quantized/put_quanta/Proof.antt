@@ -3,7 +3,7 @@ use mathlib.Core.Path.{_≡_, refl, _∙_}
 use Prim.Native.Nat.{_-_, _≤_}
 use native.Mathlib.Omega.{arith}
 use borrow.Author.Needs.{needs}
-use lib.ListN.{length}
+use lib.ListN.{length, length-set}
 use lib.Ieee.{binary32}
 use Rattle.promises.specs.Onto.{onto}
 use Rattle.convert.specs.Pieces.{pieces}
@@ -24,7 +24,7 @@ abbrev μ-loop : tie.MeasureT-loop
 
 loop-holds : tie.Need-loop-holds Inv-loop μ-loop
 unfolding pieces
-loop-holds c = (omega arith, (refl, refl))
+loop-holds c = (omega arith, refl, refl)
 
 single-requires : tie.Need-single-requires Inv-loop μ-loop
 single-requires c κs = search needs
@@ -44,7 +44,8 @@ loop-less c = omega arith
 loop-again : tie.Need-loop-again Inv-loop μ-loop
 loop-again c =
     let l = c .before .before .before .loop in
-    ?
+    let byte = rw (c .before .single .ensures) at (c .quantize .ensures) in
+    (omega arith, byte-put _ (l .i) (c .quantize .result) _ (l .out) (l .inv .1) byte (omega arith), length-set (l .out) (l .i) (c .quantize .result) ∙ l .inv .2)
 
 same-length : tie.Need-same-length Inv-loop μ-loop
 same-length c = search needs
@@ -53,7 +54,7 @@ returns : tie.Need-returns Inv-loop μ-loop
 returns c =
     let l = c .before .loop in
     let all : l .i ≡ c .before .before .before .before .args .dims = omega arith in
-    rw all at (l .inv .1 .0)
+    rw all at (l .inv .1)
 
 pub put-quanta-spec : {M : Type 1} → statement M
 put-quanta-spec =
