@@ -1,2 +1,4 @@
 -- Laws of conversions
+pub mod Pieces
 pub mod Scaled
+pub mod Spread
