@@ -1,23 +1,21 @@
--- Laws of Float8 bodies: the range with one element more, bytes one after another, and how long the body is.
-use mathlib.Core.Path.{_≡_, refl, sym, _∙_, ap}
+-- Laws of Float8 bodies: the range with one element more, bytes, and how long the body is.
+use mathlib.Core.Path.{_≡_}
 use mathlib.Core.Bool.{Bool, true, false, cond}
-use mathlib.Core.List.{List, [], _∷_, _++_}
-use Prim.Native.Nat.{ℕ, zero, suc, _+_, _-_, _*_, _/_, _<_, _≤_}
+use mathlib.Core.List.{List}
+use Prim.Native.Nat.{ℕ, _+_, _*_, _/_, _<_}
 use native.Mathlib.Omega.{arith}
 use native.Mathlib.Nat.{min-le-right}
 use native.Mathlib.Numerals.{add-one}
-use lib.ListN.{length, set, length-append, length-replicate}
+use lib.ListN.{length, length-append, length-replicate}
 use lib.Ieee.{Float, nan, inf, fin, up, down, lt, eq, add, sub, div, binary32}
-use Rattle.promises.specs.Onto.{onto}
-use Rattle.promises.proofs.Onto.{onto-put, length-onto}
 use Rattle.float_laws.specs.Zero.{plusZero}
 use Rattle.rounding.specs.Truncate.{truncated}
 use Rattle.elements.proofs.Numbers.{length-bytesOf}
 use Rattle.vector_types.specs.Layout.{ceil}
 use Rattle.vector_types.specs.declared.VectorType.{VectorType}
-use Rattle.convert.specs.Pieces.{pieces}
 use Rattle.convert.specs.Quantized.{least, greatest, half, quantum, quantizedBody}
 use Rattle.convert.specs.declared.quantized.Range.{Range}
+use Rattle.convert.proofs.Pieces.{length-bytes}
 
 -- ---- the range
 -- r is the range of the first n elements
@@ -29,20 +27,6 @@ pub one-more : (e : ℕ → Float) (n : ℕ) (r w : Range) (x : Float) → Range
     → RangeOf e (n + 1) w
 unfolding least greatest
 one-more e n r w x (low, high) at (l, h) = rw (add-one n, ← low, ← high, ← at) (l, h)
-
--- ---- pieces of one byte each
-abbrev pub bytes : (ℕ → ℕ) → ℕ → List ℕ
-bytes b n = pieces (λ i. b i ∷ []) n
-
-pub length-bytes : (b : ℕ → ℕ) (n : ℕ) → length (bytes b n) ≡ n
-unfolding pieces
-length-bytes b zero = refl
-length-bytes b (suc n) = rw (length-append, length-bytes b n) (omega arith)
-
-pub byte-put : (b : ℕ → ℕ) (n x : ℕ) (l o : List ℕ) → o ≡ onto (bytes b n) l → x ≡ b n → n < length l
-    → set o n x ≡ onto (bytes b (n + 1)) l
-unfolding pieces
-byte-put b n x l o e at room = rw (add-one n, ← at) (onto-put (bytes b n) l o x n (sym (length-bytes b n)) e room .1)
 
 -- ---- the body
 truncated-byte : (x : Float) → truncated x < 256

@@ -1,30 +1,25 @@
 -- `quantized::put_quanta` meets its contract. The loop's invariant: the bytes of the elements passed are written.
-use mathlib.Core.Path.{_≡_, refl, _∙_}
-use Prim.Native.Nat.{_-_, _≤_}
+use mathlib.Core.List.{[], _∷_}
+use Prim.Native.Nat.{_-_}
 use native.Mathlib.Omega.{arith}
 use borrow.Author.Needs.{needs}
-use lib.ListN.{length, length-set}
 use lib.Ieee.{binary32}
-use Rattle.promises.specs.Onto.{onto}
 use Rattle.convert.specs.Pieces.{pieces}
 use Rattle.convert.specs.Elements.{element}
 use Rattle.convert.specs.Quantized.{quantum}
-use Rattle.convert.proofs.Scaled.{bytes, byte-put}
+use Rattle.convert.proofs.Pieces.{Filled, fill-none, fill-byte, fill-all}
 use Rattle.convert.proofs.quantized.put_quanta.Statement.{statement}
 use Rattle.convert.proofs.quantized.put_quanta.Tie as tie
 
 abbrev Inv-loop : tie.InvT-loop
 Inv-loop kind dims body scale out₀ i₀ out i =
-    (i ≤ dims)
-    × (out ≡ onto (bytes (λ k. quantum (scale .alpha) (scale .shift) (element binary32 kind dims body k)) i) out₀)
-    × (length out ≡ length out₀)
+    Filled (pieces (λ k. quantum (scale .alpha) (scale .shift) (element binary32 kind dims body k) ∷ [])) dims out₀ out i
 
 abbrev μ-loop : tie.MeasureT-loop
 μ-loop kind dims body scale out₀ i₀ out i = dims - i
 
 loop-holds : tie.Need-loop-holds Inv-loop μ-loop
-unfolding pieces
-loop-holds c = (omega arith, refl, refl)
+loop-holds c = fill-none _ _ _
 
 single-requires : tie.Need-single-requires Inv-loop μ-loop
 single-requires c κs = search needs
@@ -45,16 +40,13 @@ loop-again : tie.Need-loop-again Inv-loop μ-loop
 loop-again c =
     let l = c .before .before .before .loop in
     let byte = rw (c .before .single .ensures) at (c .quantize .ensures) in
-    (omega arith, byte-put _ (l .i) (c .quantize .result) _ (l .out) (l .inv .1) byte (omega arith), length-set (l .out) (l .i) (c .quantize .result) ∙ l .inv .2)
+    fill-byte _ (l .inv) (omega arith) (omega arith) (c .quantize .result) byte
 
 same-length : tie.Need-same-length Inv-loop μ-loop
 same-length c = search needs
 
 returns : tie.Need-returns Inv-loop μ-loop
-returns c =
-    let l = c .before .loop in
-    let all : l .i ≡ c .before .before .before .before .args .dims = omega arith in
-    rw all at (l .inv .1)
+returns c = fill-all (c .before .loop .inv) (c .loop-test .left)
 
 pub put-quanta-spec : {M : Type 1} → statement M
 put-quanta-spec =
