@@ -4,5 +4,6 @@ pub mod Bytewise
 pub mod Fitting
 pub mod Packed
 pub mod Pieces
+pub mod Scaled
 pub mod Spread
 pub mod Units
