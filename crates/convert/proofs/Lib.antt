@@ -1,3 +1,4 @@
 -- Laws of conversions
+pub mod Lengths
 pub mod Pieces
 pub mod Spread
