@@ -2,6 +2,7 @@
 pub mod Bodies
 pub mod Bytewise
 pub mod Fitting
+pub mod Lengths
 pub mod Packed
 pub mod Pieces
 pub mod Scaled

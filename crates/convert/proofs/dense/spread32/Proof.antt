@@ -39,7 +39,8 @@ loop-again c =
     let at = 4 * t .before .loop .j in
     let room : at + 4 ≤ length body = omega arith in
     let copied = ap (bytesOf 4) (v .u32-at2 .ensures) ∙ bytesOf-numberAt 4 body at (λ i. k .shared-slice-known .given i .fits) room in
-    spread-next binary32 _ body (k .before .pre .1 .1 .0) (t .before .loop .inv) (t .loop-test .taken) _ _ _ (v .before .u32-at .ensures) copied (c .before .before .put-u32 .ensures)
+    spread-next binary32 _ body (k .before .pre .1 .1 .0) (t .before .loop .inv) (t .loop-test .taken)
+    _ _ _ (v .before .u32-at .ensures) copied (c .before .before .put-u32 .ensures)
 
 returns : tie.Need-returns Inv-loop μ-loop
 returns c =
