@@ -1,7 +1,7 @@
 // To Float1Bit.
 ghost use mathlib.Core.Path.{_≡_};
 ghost use mathlib.Core.Bool.{false, true, cond, _&&_};
-ghost use Prim.Native.Nat.{_+_, _*_, _≤_, _<_};
+ghost use Prim.Native.Nat.{_≤_, _<_};
 ghost use lib.Dec.{ltb};
 ghost use lib.ListN.{length};
 ghost use Rattle.promises.specs.Onto.{onto};
@@ -10,7 +10,7 @@ ghost use Rattle.convert.specs.Bits.{positive, packedByte, bitBody};
 use crate::element::is_positive;
 use vector_types::VectorType;
 
-// What bit i counts in its byte: its weight, where there is such an element and it is greater than 0.
+// What bit i adds to its byte: its weight where there is such an element and it is greater than 0, else 0.
 fn bit(kind: VectorType, dims: usize, body: &[u8], i: usize, weight: u32) -> u32
     requires { ⌜ dims ≤ mostDims ⌝ }
     requires { ⌜ fits kind dims (length (now body)) ≡ true ⌝ }
