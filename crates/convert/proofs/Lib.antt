@@ -1,0 +1,3 @@
+-- Laws of conversions
+pub mod Places
+pub mod Regions

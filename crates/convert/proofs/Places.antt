@@ -1,0 +1,88 @@
+-- Places that pass a test, the pieces of these, and how long a sparse body made of them is.
+use mathlib.Core.Path.{_≡_, refl, sym, ap, _∙_}
+use mathlib.Core.Bool.{Bool, true, false, cond}
+use mathlib.Core.List.{List, [], _∷_, _++_, append-assoc, append-nil}
+use Prim.Native.Nat.{ℕ, zero, suc, _+_, _-_, _*_, _<_, _≤_}
+use native.Mathlib.Nat.{add-zero, add-suc}
+use native.Mathlib.Numerals.{add-one}
+use native.Mathlib.Omega.{arith}
+use lib.ListN.{length, take, drop, length-append, length-drop}
+use lib.Seq.{length-take-le}
+use lib.Ieee.{binary32, toBits}
+use borrow.Author.Tests.{eqb-true}
+use Rattle.elements.specs.Bytes.{bytesOf}
+use Rattle.elements.proofs.Numbers.{length-bytesOf}
+use Rattle.vector_types.specs.Layout.{fits}
+use Rattle.vector_types.specs.declared.VectorType.{VectorType}
+use Rattle.vector_types.specs.declared.VectorType.the-variants.{Float32Dense, Float64Dense, Float32Sparse, Float1Bit, Float8}
+use Rattle.convert.specs.Pieces.{placesOf, each}
+use Rattle.convert.specs.Elements.{element}
+use Rattle.convert.specs.Sparse.{stored, valueBytes, sparseBody}
+
+-- ---- how many places there are: one more or none for each step
+module _ (p : ℕ → Bool) where
+  pub places-next : (n : ℕ) → placesOf p (n + 1) ≡ placesOf p n ++ cond (p n) (n ∷ []) []
+  unfolding placesOf
+  places-next n = rw add-one
+
+  pub places-few : (n : ℕ) → length (placesOf p n) ≤ n
+  unfolding placesOf
+  places-few zero = omega arith
+  places-few (suc n) = rw length-append (omega (arith, places-few n, one (p n)))
+    where
+      one : (b : Bool) → length (cond b (n ∷ []) []) ≤ 1
+      one true = omega arith
+      one false = omega arith
+
+  pub places-rise : (n m : ℕ) → n ≤ m → length (placesOf p n) ≤ length (placesOf p m)
+  places-rise n m h = let e : m ≡ n + (m - n) = omega arith in rw e (on (m - n))
+    where
+      on : (k : ℕ) → length (placesOf p n) ≤ length (placesOf p (n + k))
+      on zero = rw add-zero (omega arith)
+      on (suc k) = rw (add-suc, ← add-one (n + k), places-next (n + k), length-append) (omega (arith, on k))
+
+-- ---- the pieces of places, which have w bytes each
+pub each-append : (g : ℕ → List ℕ) (is js : List ℕ) → each g (is ++ js) ≡ each g is ++ each g js
+unfolding each
+each-append g [] js = refl
+each-append g (i ∷ is) js = rw (append-assoc, ← each-append g is js)
+
+pub each-snoc : (g : ℕ → List ℕ) (is : List ℕ) (i : ℕ) → each g (is ++ (i ∷ [])) ≡ each g is ++ g i
+unfolding each
+each-snoc g is i = rw (each-append g is (i ∷ []), append-nil)
+
+pub length-each : (g : ℕ → List ℕ) (w : ℕ) (p : ℕ → Bool) (n : ℕ) → ((i : ℕ) → i < n → length (g i) ≡ w)
+    → length (each g (placesOf p n)) ≡ w * length (placesOf p n)
+unfolding placesOf each
+length-each g w p zero h = omega arith
+length-each g w p (suc n) h =
+    let lower = length-each g w p n (λ i l. h i (omega arith)) in
+    rw (each-append, length-append, length-append, lower) (omega (arith, last (p n)))
+  where
+    last : (b : Bool) → length (each g (cond b (n ∷ []) [])) ≡ w * length (cond b (n ∷ []) [])
+    last true = rw length-append (omega (arith, h n (omega arith)))
+    last false = omega arith
+
+-- ---- the values and the indices that a sparse body is made of
+pub dense-inside : {k : VectorType} (d m i : ℕ) → k ≡ Float32Dense → fits k d m ≡ true → i < d → 4 * i + 4 ≤ m
+unfolding fits
+dense-inside d m i e fit h = omega (arith, eqb-true m (4 * d) (rw e at fit))
+
+pub length-value : (k : VectorType) (d : ℕ) (body : List ℕ) → fits k d (length body) ≡ true → (i : ℕ) → i < d
+    → length (valueBytes k d body i) ≡ 4
+unfolding valueBytes
+length-value Float32Dense d body fit i h =
+    length-take-le 4 (drop (4 * i) body) (rw length-drop (omega (arith, dense-inside d (length body) i refl fit h)))
+length-value Float64Dense d body fit i h = length-bytesOf 4 (toBits binary32 (element binary32 Float64Dense d body i))
+length-value Float32Sparse d body fit i h = length-bytesOf 4 (toBits binary32 (element binary32 Float32Sparse d body i))
+length-value Float1Bit d body fit i h = length-bytesOf 4 (toBits binary32 (element binary32 Float1Bit d body i))
+length-value Float8 d body fit i h = length-bytesOf 4 (toBits binary32 (element binary32 Float8 d body i))
+
+module _ (k : VectorType) (d : ℕ) (body : List ℕ) (fit : fits k d (length body) ≡ true) where
+  pub length-sparse : length (sparseBody k d body) ≡ 8 * length (placesOf (stored k d body) d)
+  unfolding sparseBody
+  length-sparse =
+      let p = stored k d body in
+      let values = length-each (valueBytes k d body) 4 p d (length-value k d body fit) in
+      let indices = length-each (bytesOf 4) 4 p d (λ i _. length-bytesOf 4 i) in
+      rw (length-append, values, indices) (omega arith)

@@ -1,0 +1,88 @@
+-- Two regions of a buffer that grow side by side.
+use mathlib.Core.Path.{_≡_, refl, sym, ap, _∙_}
+use mathlib.Core.Bool.{Bool, true, false, cond}
+use mathlib.Core.List.{List, [], _∷_, _++_, append-assoc, append-nil}
+use Prim.Native.Nat.{ℕ, _+_, _-_, _*_, _<_, _≤_}
+use native.Mathlib.Nat.{zero-add, add-assoc}
+use native.Mathlib.Omega.{arith}
+use lib.ListN.{length, take, drop, length-append}
+use lib.Seq.{length-take-le, take-at, drop-at, take-add, take-take, take-append-le, drop-append-le, drop-drop}
+use Rattle.promises.specs.Onto.{onto}
+use Rattle.elements.specs.Bytes.{put, bytesOf}
+use Rattle.elements.proofs.Put.{length-put, put-nothing, put-put}
+use Rattle.elements.proofs.Numbers.{length-bytesOf}
+use Rattle.convert.specs.Pieces.{placesOf, each}
+use Rattle.convert.proofs.Places.{places-next, each-snoc, length-each}
+
+put-front : (l vs : List ℕ) → put l 0 vs ≡ onto vs l
+unfolding put
+put-front l vs = rw zero-add
+
+-- bytes put at two places, m bytes apart, in either order
+put-swap : (l : List ℕ) (i : ℕ) (us : List ℕ) (m : ℕ) (vs : List ℕ) → i + length us + m + length vs ≤ length l
+    → put (put l i us) (i + length us + m) vs ≡ put (put l (i + length us + m) vs) i us
+unfolding put
+put-swap l i us m vs room =
+    let k = i + length us in
+    let head = take i l ++ us in
+    let rest = vs ++ drop (k + m + length vs) l in
+    let long : length head ≡ k = rw length-append (omega (arith, length-take-le i l (omega arith))) in
+    let left = length-take-le (k + m) l (omega arith) in
+    let e₁ : take (k + m) (head ++ drop k l) ≡ head ++ take m (drop k l) =
+    rw (take-add, take-at head (drop k l) k long, drop-at head (drop k l) k long) in
+    let e₂ : drop (k + m + length vs) (head ++ drop k l) ≡ drop (k + m + length vs) l =
+    rw (add-assoc k m, ← drop-drop (m + length vs) k (head ++ drop k l), drop-at head (drop k l) k long, drop-drop) in
+    let e₃ : take i (take (k + m) l ++ rest) ≡ take i l =
+    take-append-le i (take (k + m) l) rest (omega arith) ∙ take-take i (k + m) l (omega arith) in
+    let e₄ : drop k (take (k + m) l ++ rest) ≡ take m (drop k l) ++ rest =
+    drop-append-le k (take (k + m) l) rest (omega arith)
+    ∙ rw (take-add, drop-at (take k l) (take m (drop k l)) k (length-take-le k l (omega arith))) in
+    rw (e₁, e₂, append-assoc (take (k + m) l), e₃, e₄) (simp append-assoc)
+
+-- ---- two regions, of which the first starts at 0: both grow, and when they meet they are one text
+module _ (l : List ℕ) (at : ℕ) (us vs : List ℕ) where
+  regions-grown : (v w : List ℕ) → length us + length v ≤ at → at + length vs + length w ≤ length l
+      → put (put (put (put l 0 us) at vs) (length us) v) (at + length vs) w ≡ put (put l 0 (us ++ v)) at (vs ++ w)
+  regions-grown v w apart room =
+      let first = length-put l 0 us (omega arith) in
+      let m = at - (length us + length v) in
+      let e : length us + length v + m ≡ at = omega arith in
+      let swap = rw e at (put-swap (put l 0 us) (length us) v m vs (omega arith)) in
+      let low = rw zero-add at (put-put l 0 us (omega arith) v) in
+      let more = length-put l 0 (us ++ v) (rw length-append (omega arith)) in
+      rw (← swap, low) (put-put (put l 0 (us ++ v)) at vs (omega arith) w)
+
+  regions-joined : length us ≡ at → at + length vs ≤ length l → put (put l 0 us) at vs ≡ onto (us ++ vs) l
+  regions-joined e room = rw (zero-add, e) at (put-put l 0 us (omega arith) vs) ∙ put-front l (us ++ vs)
+
+-- ---- the pieces and the indices of places, laid out for count of them
+module _ (p : ℕ → Bool) (g : ℕ → List ℕ) (count : ℕ) (l : List ℕ) where
+  abbrev pub laid : ℕ → List ℕ
+  laid i = put (put l 0 (each g (placesOf p i))) (4 * count) (each (bytesOf 4) (placesOf p i))
+
+  pub laid-none : laid 0 ≡ l
+  unfolding placesOf each
+  laid-none = rw (put-nothing (put l 0 []) (4 * count), put-nothing l 0)
+
+  pub laid-next : (i n : ℕ) → n ≡ length (placesOf p i) → ((j : ℕ) → j ≤ i → length (g j) ≡ 4) → length (placesOf p (i + 1)) ≤ count → 8 * count ≤ length l
+      → cond (p i) (put (put (laid i) (4 * n) (g i)) (4 * count + 4 * n) (bytesOf 4 i)) (laid i) ≡ laid (i + 1)
+  laid-next i n e long few room = rw (places-next p i) (by (p i) (rw (places-next p i, length-append) at few))
+    where
+      by : (b : Bool) → length (placesOf p i) + length (cond b (i ∷ []) []) ≤ count
+          → cond b (put (put (laid i) (4 * n) (g i)) (4 * count + 4 * n) (bytesOf 4 i)) (laid i)
+            ≡ put (put l 0 (each g (placesOf p i ++ cond b (i ∷ []) []))) (4 * count) (each (bytesOf 4) (placesOf p i ++ cond b (i ∷ []) []))
+      by true h =
+          let us = each g (placesOf p i) in
+          let vs = each (bytesOf 4) (placesOf p i) in
+          let values : length us ≡ 4 * n = rw e (length-each g 4 p i (λ j l. long j (omega arith))) in
+          let indices : length vs ≡ 4 * n = rw e (length-each (bytesOf 4) 4 p i (λ j _. length-bytesOf 4 j)) in
+          rw (each-snoc g (placesOf p i) i, each-snoc (bytesOf 4) (placesOf p i) i, ← values)
+          (rw (indices, ← values) at (regions-grown l (4 * count) us vs (g i) (bytesOf 4 i) (omega (arith, long i (omega arith))) (omega (arith, length-bytesOf 4 i))))
+      by false h = rw append-nil
+
+  pub laid-all : (d : ℕ) → count ≡ length (placesOf p d) → ((j : ℕ) → j < d → length (g j) ≡ 4) → 8 * count ≤ length l
+      → laid d ≡ onto (each g (placesOf p d) ++ each (bytesOf 4) (placesOf p d)) l
+  laid-all d e long room =
+      let values = length-each g 4 p d long in
+      let indices = length-each (bytesOf 4) 4 p d (λ j _. length-bytesOf 4 j) in
+      regions-joined l (4 * count) (each g (placesOf p d)) (each (bytesOf 4) (placesOf p d)) (omega arith) (omega arith)
