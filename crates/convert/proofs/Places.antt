@@ -25,6 +25,9 @@ module _ (p : ℕ → Bool) where
   unfolding placesOf
   places-next n = rw add-one
 
+  pub length-next : (n : ℕ) → length (placesOf p (n + 1)) ≡ length (placesOf p n) + length (cond (p n) (n ∷ []) [])
+  length-next n = rw (places-next n) (length-append (placesOf p n) (cond (p n) (n ∷ []) []))
+
   pub places-few : (n : ℕ) → length (placesOf p n) ≤ n
   unfolding placesOf
   places-few zero = omega arith
@@ -39,7 +42,10 @@ module _ (p : ℕ → Bool) where
     where
       on : (k : ℕ) → length (placesOf p n) ≤ length (placesOf p (n + k))
       on zero = rw add-zero (omega arith)
-      on (suc k) = rw (add-suc, ← add-one (n + k), places-next (n + k), length-append) (omega (arith, on k))
+      on (suc k) = rw (add-suc, ← add-one (n + k)) (omega (arith, on k, length-next (n + k)))
+
+  pub places-room : (n m : ℕ) → n < m → length (placesOf p n) + length (cond (p n) (n ∷ []) []) ≤ length (placesOf p m)
+  places-room n m h = rw (← length-next n) (places-rise (n + 1) m (omega arith))
 
 -- ---- the pieces of places, which have w bytes each
 pub each-append : (g : ℕ → List ℕ) (is js : List ℕ) → each g (is ++ js) ≡ each g is ++ each g js
@@ -57,7 +63,7 @@ unfolding placesOf each
 length-each g w p zero h = omega arith
 length-each g w p (suc n) h =
     let lower = length-each g w p n (λ i l. h i (omega arith)) in
-    rw (each-append, length-append, length-append, lower) (omega (arith, last (p n)))
+    simp (each-append, length-append, lower) (omega (arith, last (p n)))
   where
     last : (b : Bool) → length (each g (cond b (n ∷ []) [])) ≡ w * length (cond b (n ∷ []) [])
     last true = rw length-append (omega (arith, h n (omega arith)))

@@ -11,8 +11,11 @@ use Rattle.promises.specs.Onto.{onto}
 use Rattle.elements.specs.Bytes.{put, bytesOf}
 use Rattle.elements.proofs.Put.{length-put, put-nothing, put-put}
 use Rattle.elements.proofs.Numbers.{length-bytesOf}
+use Rattle.vector_types.specs.Layout.{fits}
+use Rattle.vector_types.specs.declared.VectorType.{VectorType}
 use Rattle.convert.specs.Pieces.{placesOf, each}
-use Rattle.convert.proofs.Places.{places-next, each-snoc, length-each}
+use Rattle.convert.specs.Sparse.{stored, valueBytes, sparseBody}
+use Rattle.convert.proofs.Places.{places-next, places-room, each-snoc, length-each, length-value}
 
 put-front : (l vs : List ℕ) → put l 0 vs ≡ onto vs l
 unfolding put
@@ -55,34 +58,41 @@ module _ (l : List ℕ) (at : ℕ) (us vs : List ℕ) where
   regions-joined : length us ≡ at → at + length vs ≤ length l → put (put l 0 us) at vs ≡ onto (us ++ vs) l
   regions-joined e room = rw (zero-add, e) at (put-put l 0 us (omega arith) vs) ∙ put-front l (us ++ vs)
 
--- ---- the pieces and the indices of places, laid out for count of them
-module _ (p : ℕ → Bool) (g : ℕ → List ℕ) (count : ℕ) (l : List ℕ) where
+-- ---- the values and the indices of the elements below i that are stored, laid out for count of these
+module _ (k : VectorType) (d : ℕ) (body : List ℕ) (count : ℕ) (l : List ℕ) where
   abbrev pub laid : ℕ → List ℕ
-  laid i = put (put l 0 (each g (placesOf p i))) (4 * count) (each (bytesOf 4) (placesOf p i))
+  laid i = put (put l 0 (each (valueBytes k d body) (placesOf (stored k d body) i))) (4 * count) (each (bytesOf 4) (placesOf (stored k d body) i))
 
   pub laid-none : laid 0 ≡ l
   unfolding placesOf each
   laid-none = rw (put-nothing (put l 0 []) (4 * count), put-nothing l 0)
 
-  pub laid-next : (i n : ℕ) → n ≡ length (placesOf p i) → ((j : ℕ) → j ≤ i → length (g j) ≡ 4) → length (placesOf p (i + 1)) ≤ count → 8 * count ≤ length l
-      → cond (p i) (put (put (laid i) (4 * n) (g i)) (4 * count + 4 * n) (bytesOf 4 i)) (laid i) ≡ laid (i + 1)
-  laid-next i n e long few room = rw (places-next p i) (by (p i) (rw (places-next p i, length-append) at few))
-    where
-      by : (b : Bool) → length (placesOf p i) + length (cond b (i ∷ []) []) ≤ count
-          → cond b (put (put (laid i) (4 * n) (g i)) (4 * count + 4 * n) (bytesOf 4 i)) (laid i)
-            ≡ put (put l 0 (each g (placesOf p i ++ cond b (i ∷ []) []))) (4 * count) (each (bytesOf 4) (placesOf p i ++ cond b (i ∷ []) []))
-      by true h =
-          let us = each g (placesOf p i) in
-          let vs = each (bytesOf 4) (placesOf p i) in
-          let values : length us ≡ 4 * n = rw e (length-each g 4 p i (λ j l. long j (omega arith))) in
-          let indices : length vs ≡ 4 * n = rw e (length-each (bytesOf 4) 4 p i (λ j _. length-bytesOf 4 j)) in
-          rw (each-snoc g (placesOf p i) i, each-snoc (bytesOf 4) (placesOf p i) i, ← values)
-          (rw (indices, ← values) at (regions-grown l (4 * count) us vs (g i) (bytesOf 4 i) (omega (arith, long i (omega arith))) (omega (arith, length-bytesOf 4 i))))
-      by false h = rw append-nil
+  module _ (fit : fits k d (length body) ≡ true) (all : count ≡ length (placesOf (stored k d body) d)) (room : 8 * count ≤ length l) where
+    pub laid-next : (i n : ℕ) → i < d → n ≡ length (placesOf (stored k d body) i)
+        → cond (stored k d body i) (put (put (laid i) (4 * n) (valueBytes k d body i)) (4 * count + 4 * n) (bytesOf 4 i)) (laid i) ≡ laid (i + 1)
+    laid-next i n h e = rw (places-next p i) (by (p i) (omega (arith, places-room p i d h)))
+      where
+        p : ℕ → Bool
+        p = stored k d body
+        places : List ℕ
+        places = placesOf (stored k d body) i
+        g : ℕ → List ℕ
+        g = valueBytes k d body
+        by : (b : Bool) → length places + length (cond b (i ∷ []) []) ≤ count
+            → cond b (put (put (laid i) (4 * n) (g i)) (4 * count + 4 * n) (bytesOf 4 i)) (laid i)
+              ≡ put (put l 0 (each g (places ++ cond b (i ∷ []) []))) (4 * count) (each (bytesOf 4) (places ++ cond b (i ∷ []) []))
+        by true few =
+            let values : length (each g places) ≡ 4 * n = rw e (length-each g 4 p i (λ j l. length-value k d body fit j (omega arith))) in
+            let indices : length (each (bytesOf 4) places) ≡ 4 * n = rw e (length-each (bytesOf 4) 4 p i (λ j _. length-bytesOf 4 j)) in
+            rw (each-snoc g places i, each-snoc (bytesOf 4) places i, ← values)
+            (rw (indices, ← values) at
+            (regions-grown l (4 * count) (each g places) (each (bytesOf 4) places) (g i) (bytesOf 4 i) (omega (arith, length-value k d body fit i h)) (omega (arith, length-bytesOf 4 i))))
+        by false few = rw append-nil
 
-  pub laid-all : (d : ℕ) → count ≡ length (placesOf p d) → ((j : ℕ) → j < d → length (g j) ≡ 4) → 8 * count ≤ length l
-      → laid d ≡ onto (each g (placesOf p d) ++ each (bytesOf 4) (placesOf p d)) l
-  laid-all d e long room =
-      let values = length-each g 4 p d long in
-      let indices = length-each (bytesOf 4) 4 p d (λ j _. length-bytesOf 4 j) in
-      regions-joined l (4 * count) (each g (placesOf p d)) (each (bytesOf 4) (placesOf p d)) (omega arith) (omega arith)
+    pub laid-all : laid d ≡ onto (sparseBody k d body) l
+    unfolding sparseBody
+    laid-all =
+        let p = stored k d body in
+        let values = length-each (valueBytes k d body) 4 p d (length-value k d body fit) in
+        let indices = length-each (bytesOf 4) 4 p d (λ j _. length-bytesOf 4 j) in
+        regions-joined l (4 * count) (each (valueBytes k d body) (placesOf p d)) (each (bytesOf 4) (placesOf p d)) (omega arith) (omega arith)

@@ -1,12 +1,11 @@
 -- The elements below i that are stored have been counted.
 use mathlib.Core.Path.{_≡_, ap, _∙_}
 use Prim.Native.Nat.{ℕ, _-_, _≤_}
-use native.Mathlib.Omega.{arith}
-use lib.ListN.{length, length-append}
+use lib.ListN.{length}
 use borrow.Author.Needs.{needs}
 use Rattle.convert.specs.Pieces.{placesOf}
 use Rattle.convert.specs.Sparse.{stored}
-use Rattle.convert.proofs.Places.{places-next, places-few}
+use Rattle.convert.proofs.Places.{length-next, places-few}
 use Rattle.convert.proofs.sparse.count_stored.Statement.{statement}
 use Rattle.convert.proofs.sparse.count_stored.Tie as tie
 
@@ -31,7 +30,7 @@ loop-again : tie.Need-loop-again Inv-loop μ-loop
 loop-again c =
     let a = c .before .before .before .before .args in
     let p = stored (a .kind) (a .dims) (a .body .now) in
-    (search needs, rw (places-next p (c .before .before .loop .i), length-append) (search needs))
+    (search needs, rw (length-next p (c .before .before .loop .i)) (search needs))
 
 returns : tie.Need-returns Inv-loop μ-loop
 returns c =
