@@ -1,13 +1,14 @@
 -- Places that pass a test, the pieces of these, and how long a sparse body made of them is.
-use mathlib.Core.Path.{_≡_, refl, sym, ap, _∙_}
+use mathlib.Core.Path.{_≡_, refl}
+use mathlib.Core.Logic.{_⊎_, inl, inr}
 use mathlib.Core.Bool.{Bool, true, false, cond}
 use mathlib.Core.List.{List, [], _∷_, _++_, append-assoc, append-nil}
 use Prim.Native.Nat.{ℕ, zero, suc, _+_, _-_, _*_, _<_, _≤_}
-use native.Mathlib.Nat.{add-zero, add-suc}
+use native.Mathlib.Nat.{add-zero, add-suc, eq-or-lt-of-le}
 use native.Mathlib.Numerals.{add-one}
 use native.Mathlib.Omega.{arith}
-use lib.ListN.{length, take, drop, length-append, length-drop}
-use lib.Seq.{length-take-le}
+use lib.ListN.{length, getD, drop, length-append, length-drop, List·getD-append}
+use lib.Seq.{length-take-le, getD-append-seam}
 use lib.Ieee.{binary32, toBits}
 use borrow.Author.Tests.{eqb-true}
 use Rattle.elements.specs.Bytes.{bytesOf}
@@ -19,7 +20,17 @@ use Rattle.convert.specs.Pieces.{placesOf, each}
 use Rattle.convert.specs.Elements.{element}
 use Rattle.convert.specs.Sparse.{stored, valueBytes, sparseBody}
 
--- ---- how many places there are: one more or none for each step
+-- a place after others that are below it
+one-below : (is : List ℕ) (n j : ℕ) (b : Bool) → (j < length is → getD is j 0 < n) → j < length (is ++ cond b (n ∷ []) [])
+    → getD (is ++ cond b (n ∷ []) []) j 0 < suc n
+one-below is n j false lower h = rw append-nil (omega (arith, lower (rw append-nil at h)))
+one-below is n j true lower h = by (eq-or-lt-of-le (omega (arith, rw length-append at h)))
+  where
+    by : (j ≡ length is) ⊎ (j < length is) → getD (is ++ (n ∷ [])) j 0 < suc n
+    by (inl e) = rw (e, getD-append-seam) (omega arith)
+    by (inr l) = rw (List·getD-append is (n ∷ []) 0 j l) (omega (arith, lower l))
+
+-- ---- places: one more or none for each step
 module _ (p : ℕ → Bool) where
   pub places-next : (n : ℕ) → placesOf p (n + 1) ≡ placesOf p n ++ cond (p n) (n ∷ []) []
   unfolding placesOf
@@ -46,6 +57,10 @@ module _ (p : ℕ → Bool) where
 
   pub places-room : (n m : ℕ) → n < m → length (placesOf p n) + length (cond (p n) (n ∷ []) []) ≤ length (placesOf p m)
   places-room n m h = rw (← length-next n) (places-rise (n + 1) m (omega arith))
+
+  pub places-below : (n j : ℕ) → j < length (placesOf p n) → getD (placesOf p n) j 0 < n
+  unfolding placesOf
+  places-below (suc n) j h = one-below (placesOf p n) n j (p n) (places-below n j) h
 
 -- ---- the pieces of places, which have w bytes each
 pub each-append : (g : ℕ → List ℕ) (is js : List ℕ) → each g (is ++ js) ≡ each g is ++ each g js
@@ -84,11 +99,15 @@ length-value Float32Sparse d body fit i h = length-bytesOf 4 (toBits binary32 (e
 length-value Float1Bit d body fit i h = length-bytesOf 4 (toBits binary32 (element binary32 Float1Bit d body i))
 length-value Float8 d body fit i h = length-bytesOf 4 (toBits binary32 (element binary32 Float8 d body i))
 
+pub length-indices : (p : ℕ → Bool) (n : ℕ) → length (each (bytesOf 4) (placesOf p n)) ≡ 4 * length (placesOf p n)
+length-indices p n = length-each (bytesOf 4) 4 p n (λ i _. length-bytesOf 4 i)
+
 module _ (k : VectorType) (d : ℕ) (body : List ℕ) (fit : fits k d (length body) ≡ true) where
+  pub length-values : (p : ℕ → Bool) (n : ℕ) → n ≤ d → length (each (valueBytes k d body) (placesOf p n)) ≡ 4 * length (placesOf p n)
+  length-values p n h = length-each (valueBytes k d body) 4 p n (λ i l. length-value k d body fit i (omega arith))
+
   pub length-sparse : length (sparseBody k d body) ≡ 8 * length (placesOf (stored k d body) d)
   unfolding sparseBody
   length-sparse =
       let p = stored k d body in
-      let values = length-each (valueBytes k d body) 4 p d (length-value k d body fit) in
-      let indices = length-each (bytesOf 4) 4 p d (λ i _. length-bytesOf 4 i) in
-      rw (length-append, values, indices) (omega arith)
+      rw (length-append, length-values p d (omega arith), length-indices p d) (omega arith)

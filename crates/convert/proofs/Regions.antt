@@ -1,5 +1,5 @@
--- Two regions of a buffer that grow side by side.
-use mathlib.Core.Path.{_≡_, refl, sym, ap, _∙_}
+-- Two regions of a buffer that grow side by side: the values and the indices of a sparse body.
+use mathlib.Core.Path.{_≡_, _∙_}
 use mathlib.Core.Bool.{Bool, true, false, cond}
 use mathlib.Core.List.{List, [], _∷_, _++_, append-assoc, append-nil}
 use Prim.Native.Nat.{ℕ, _+_, _-_, _*_, _<_, _≤_}
@@ -15,13 +15,13 @@ use Rattle.vector_types.specs.Layout.{fits}
 use Rattle.vector_types.specs.declared.VectorType.{VectorType}
 use Rattle.convert.specs.Pieces.{placesOf, each}
 use Rattle.convert.specs.Sparse.{stored, valueBytes, sparseBody}
-use Rattle.convert.proofs.Places.{places-next, places-room, each-snoc, length-each, length-value}
+use Rattle.convert.proofs.Places.{places-next, places-room, each-snoc, length-value, length-values, length-indices}
 
+-- ---- bytes put at the front, and at two places that are m bytes apart, in either order
 put-front : (l vs : List ℕ) → put l 0 vs ≡ onto vs l
 unfolding put
 put-front l vs = rw zero-add
 
--- bytes put at two places, m bytes apart, in either order
 put-swap : (l : List ℕ) (i : ℕ) (us : List ℕ) (m : ℕ) (vs : List ℕ) → i + length us + m + length vs ≤ length l
     → put (put l i us) (i + length us + m) vs ≡ put (put l (i + length us + m) vs) i us
 unfolding put
@@ -74,16 +74,19 @@ module _ (k : VectorType) (d : ℕ) (body : List ℕ) (count : ℕ) (l : List �
       where
         p : ℕ → Bool
         p = stored k d body
+
         places : List ℕ
-        places = placesOf (stored k d body) i
+        places = placesOf p i
+
         g : ℕ → List ℕ
         g = valueBytes k d body
+
         by : (b : Bool) → length places + length (cond b (i ∷ []) []) ≤ count
             → cond b (put (put (laid i) (4 * n) (g i)) (4 * count + 4 * n) (bytesOf 4 i)) (laid i)
-              ≡ put (put l 0 (each g (places ++ cond b (i ∷ []) []))) (4 * count) (each (bytesOf 4) (places ++ cond b (i ∷ []) []))
+            ≡ put (put l 0 (each g (places ++ cond b (i ∷ []) []))) (4 * count) (each (bytesOf 4) (places ++ cond b (i ∷ []) []))
         by true few =
-            let values : length (each g places) ≡ 4 * n = rw e (length-each g 4 p i (λ j l. length-value k d body fit j (omega arith))) in
-            let indices : length (each (bytesOf 4) places) ≡ 4 * n = rw e (length-each (bytesOf 4) 4 p i (λ j _. length-bytesOf 4 j)) in
+            let values : length (each g places) ≡ 4 * n = rw e (length-values k d body fit p i (omega arith)) in
+            let indices : length (each (bytesOf 4) places) ≡ 4 * n = rw e (length-indices p i) in
             rw (each-snoc g places i, each-snoc (bytesOf 4) places i, ← values)
             (rw (indices, ← values) at
             (regions-grown l (4 * count) (each g places) (each (bytesOf 4) places) (g i) (bytesOf 4 i) (omega (arith, length-value k d body fit i h)) (omega (arith, length-bytesOf 4 i))))
@@ -93,6 +96,6 @@ module _ (k : VectorType) (d : ℕ) (body : List ℕ) (count : ℕ) (l : List �
     unfolding sparseBody
     laid-all =
         let p = stored k d body in
-        let values = length-each (valueBytes k d body) 4 p d (length-value k d body fit) in
-        let indices = length-each (bytesOf 4) 4 p d (λ j _. length-bytesOf 4 j) in
+        let values = length-values k d body fit p d (omega arith) in
+        let indices = length-indices p d in
         regions-joined l (4 * count) (each (valueBytes k d body) (placesOf p d)) (each (bytesOf 4) (placesOf p d)) (omega arith) (omega arith)

@@ -1,6 +1,6 @@
 -- The entries of the elements below i are laid out: both regions grow to their full length, and meet.
 use mathlib.Core.Path.{_≡_, sym, ap, _∙_}
-use Prim.Native.Nat.{ℕ, _+_, _-_, _<_, _≤_}
+use Prim.Native.Nat.{_-_, _<_, _≤_}
 use lib.ListN.{length}
 use borrow.Author.Needs.{needs}
 use Rattle.convert.specs.Pieces.{placesOf}
