@@ -5,6 +5,8 @@ pub mod Fitting
 pub mod Lengths
 pub mod Packed
 pub mod Pieces
+pub mod Places
+pub mod Regions
 pub mod Scaled
 pub mod Spread
 pub mod Units
