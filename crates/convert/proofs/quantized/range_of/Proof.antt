@@ -20,18 +20,6 @@ loop-holds : tie.Need-loop-holds Inv-loop μ-loop
 unfolding least greatest div ofBits neg
 loop-holds c = (omega arith, (refl, refl))
 
-single-requires : tie.Need-single-requires Inv-loop μ-loop
-single-requires c κs = search needs
-
-wider-requires : tie.Need-wider-requires Inv-loop μ-loop
-wider-requires c κs = tt
-
-add-i : tie.Need-add-i Inv-loop μ-loop
-add-i c = omega arith
-
-loop-less : tie.Need-loop-less Inv-loop μ-loop
-loop-less c = omega arith
-
 loop-again : tie.Need-loop-again Inv-loop μ-loop
 loop-again c =
     let l = c .before .before .before .loop in
@@ -47,12 +35,6 @@ pub range-of-spec : {M : Type 1} → statement M
 range-of-spec =
     tie.close
     (tie.spec
-    Inv-loop
-    μ-loop
-    loop-holds
-    single-requires
-    wider-requires
-    add-i
-    loop-less
-    loop-again
-    returns)
+    Inv-loop μ-loop loop-holds
+    (λ c κs. search needs) (λ c κs. tt) (λ c. omega arith) (λ c. omega arith)
+    loop-again returns)
