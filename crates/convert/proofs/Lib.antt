@@ -1,6 +1,5 @@
 -- Laws of conversions
 pub mod Bodies
-pub mod Bytewise
 pub mod Fitting
 pub mod Lengths
 pub mod Packed

@@ -13,7 +13,7 @@ use borrow.Author.Tests.{lt-ltb, le-ltb}
 use Rattle.vector_types.specs.Layout.{ceil, bitAt}
 use Rattle.vector_types.specs.declared.VectorType.{VectorType}
 use Rattle.convert.specs.Bits.{packedByte, packed, positive, bitBody}
-use Rattle.convert.proofs.Bytewise.{length-bytewise, getD-bytewise}
+use Rattle.convert.proofs.Pieces.{length-bytes, getD-bytes}
 
 cond-le : (t : Bool) (w : ℕ) → cond t w 0 ≤ w
 cond-le true w = omega arith
@@ -57,13 +57,13 @@ module _ (p : ℕ → Bool) (d : ℕ) where
 
   pub length-packed : length (packed p d) ≡ ceil d 8
   unfolding packed
-  length-packed = length-bytewise (λ m. packedByte p d m 8) (ceil d 8)
+  length-packed = length-bytes (λ m. packedByte p d m 8) (ceil d 8)
 
   packed-at : (i : ℕ) → i < 8 * ceil d 8 → bitAt (packed p d) i ≡ cond (at i) 1 0
   unfolding packed
   packed-at i h =
       let place : 8 * (i / 8) + i % 8 ≡ i = omega arith in
-      rw (getD-bytewise (λ m. packedByte p d m 8) (ceil d 8) (i / 8) (omega arith)) (rw place at (packed-digit (i / 8) (i % 8) 8 (omega arith)))
+      rw (getD-bytes (λ m. packedByte p d m 8) (ceil d 8) (i / 8) (omega arith)) (rw place at (packed-digit (i / 8) (i % 8) 8 (omega arith)))
 
   -- a bit is 1 exactly if p holds there, and each bit that is not used is 0
   pub packed-bit : (i : ℕ) → i < d → bitAt (packed p d) i ≡ cond (p i) 1 0

@@ -1,12 +1,12 @@
 -- Laws of pieces: how long they are together, and a loop that writes them one after another from the front.
 use mathlib.Core.Path.{_≡_, refl, sym, ap, _∙_}
 use mathlib.Core.List.{List, [], _∷_, _++_}
-use Prim.Native.Nat.{ℕ, zero, suc, _+_, _*_, _<_, _≤_}
-use native.Mathlib.Nat.{one-mul, mul-le-mul-left}
+use Prim.Native.Nat.{ℕ, zero, suc, _+_, _-_, _*_, _<_, _≤_}
+use native.Mathlib.Nat.{add-zero, one-mul, mul-le-mul-left}
 use native.Mathlib.Numerals.{add-one}
 use native.Mathlib.Omega.{arith}
-use lib.ListN.{length, set, drop, replicate, length-append, replicate-append-replicate}
-use lib.Seq.{take-at, drop-at, drop-drop}
+use lib.ListN.{length, getD, List·getD-append, set, drop, replicate, length-append, replicate-append-replicate}
+use lib.Seq.{getD-at, take-at, drop-at, drop-drop}
 use lib.Ieee.{Float, Format, toBits}
 use Rattle.elements.specs.Bytes.{put, width, floatBytes}
 use Rattle.elements.proofs.Numbers.{length-bytesOf}
@@ -45,6 +45,17 @@ module _ (b : ℕ → ℕ) where
   pub set-byte : (l o : List ℕ) (i : ℕ) → o ≡ onto (pieces (λ j. b j ∷ []) i) l → i < length l
       → set o i (b i) ≡ onto (pieces (λ j. b j ∷ []) (i + 1)) l
   set-byte l o i e room = rw pieces-next (onto-put (pieces (λ j. b j ∷ []) i) l o (b i) i (sym (length-bytes i)) e room .1)
+
+  getD-with : (i k : ℕ) → getD (pieces (λ j. b j ∷ []) (i + k + 1)) i 0 ≡ b i
+  getD-with i zero = rw (add-zero, pieces-next) (getD-at (pieces (λ j. b j ∷ []) i) (b i) [] 0 i (length-bytes i))
+  getD-with i (suc k) =
+      let less : i < length (pieces (λ j. b j ∷ []) (i + suc k)) = rw length-bytes (omega arith) in
+      let same : i + suc k ≡ i + k + 1 = omega arith in
+      rw pieces-next (List·getD-append (pieces (λ j. b j ∷ []) (i + suc k)) (b (i + suc k) ∷ []) 0 i less ∙ rw same (getD-with i k))
+
+  -- which byte stands where
+  pub getD-bytes : (n i : ℕ) → i < n → getD (pieces (λ j. b j ∷ []) n) i 0 ≡ b i
+  getD-bytes n i h = let e : i + (n - i - 1) + 1 ≡ n = omega arith in rw e at (getD-with i (n - i - 1))
 
 pub pieces-zeros : (n : ℕ) → pieces (λ _. 0 ∷ []) n ≡ replicate n 0
 unfolding pieces
