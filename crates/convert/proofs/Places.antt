@@ -10,7 +10,6 @@ use native.Mathlib.Omega.{arith}
 use lib.ListN.{length, getD, drop, length-append, length-drop, List·getD-append}
 use lib.Seq.{length-take-le, getD-append-seam}
 use lib.Ieee.{binary32, toBits}
-use borrow.Author.Tests.{eqb-true}
 use Rattle.elements.specs.Bytes.{bytesOf}
 use Rattle.elements.proofs.Numbers.{length-bytesOf}
 use Rattle.vector_types.specs.Layout.{fits}
@@ -19,6 +18,7 @@ use Rattle.vector_types.specs.declared.VectorType.the-variants.{Float32Dense, F
 use Rattle.convert.specs.Pieces.{placesOf, each}
 use Rattle.convert.specs.Elements.{element}
 use Rattle.convert.specs.Sparse.{stored, valueBytes, sparseBody}
+use Rattle.convert.proofs.Bodies.{float32-within}
 
 -- a place after others that are below it
 one-below : (is : List ℕ) (n j : ℕ) (b : Bool) → (j < length is → getD is j 0 < n) → j < length (is ++ cond b (n ∷ []) [])
@@ -85,15 +85,11 @@ length-each g w p (suc n) h =
     last false = omega arith
 
 -- ---- the values and the indices that a sparse body is made of
-pub dense-inside : {k : VectorType} (d m i : ℕ) → k ≡ Float32Dense → fits k d m ≡ true → i < d → 4 * i + 4 ≤ m
-unfolding fits
-dense-inside d m i e fit h = omega (arith, eqb-true m (4 * d) (rw e at fit))
-
 pub length-value : (k : VectorType) (d : ℕ) (body : List ℕ) → fits k d (length body) ≡ true → (i : ℕ) → i < d
     → length (valueBytes k d body i) ≡ 4
 unfolding valueBytes
 length-value Float32Dense d body fit i h =
-    length-take-le 4 (drop (4 * i) body) (rw length-drop (omega (arith, dense-inside d (length body) i refl fit h)))
+    length-take-le 4 (drop (4 * i) body) (rw length-drop (omega (arith, float32-within d (length body) i refl fit h)))
 length-value Float64Dense d body fit i h = length-bytesOf 4 (toBits binary32 (element binary32 Float64Dense d body i))
 length-value Float32Sparse d body fit i h = length-bytesOf 4 (toBits binary32 (element binary32 Float32Sparse d body i))
 length-value Float1Bit d body fit i h = length-bytesOf 4 (toBits binary32 (element binary32 Float1Bit d body i))

@@ -4,7 +4,7 @@ use lib.ListN.{length}
 use borrow.Author.Needs.{needs}
 use Rattle.elements.proofs.Numbers.{bytesOf-numberAt}
 use Rattle.convert.specs.Sparse.{valueBytes}
-use Rattle.convert.proofs.Places.{dense-inside}
+use Rattle.convert.proofs.Bodies.{float32-within}
 use Rattle.convert.proofs.sparse.value_bits.Statement.{statement}
 use Rattle.convert.proofs.sparse.value_bits.Tie as tie
 
@@ -12,7 +12,7 @@ u32-at-requires : tie.Need-u32-at-requires
 u32-at-requires c κs =
     let start = c .before .before .before in
     let a = start .args in
-    dense-inside (a .dims) (length (a .body .now)) (a .i) (c .enum-told .given .1) (start .pre .1 .0) (start .pre .1 .1 .1)
+    float32-within (a .dims) (length (a .body .now)) (a .i) (c .enum-told .given .1) (start .pre .1 .0) (start .pre .1 .1 .1)
 
 returns : tie.Need-returns
 unfolding valueBytes
@@ -22,7 +22,7 @@ returns c =
     let e = c .before .enum-told .given .1 in
     rw (c .u32-at .ensures, e)
     (bytesOf-numberAt 4 (a .body .now) (4 * a .i) (λ k. c .before .before .before .shared-slice-known .given k .fits)
-    (dense-inside (a .dims) (length (a .body .now)) (a .i) e (start .pre .1 .0) (start .pre .1 .1 .1)))
+    (float32-within (a .dims) (length (a .body .now)) (a .i) e (start .pre .1 .0) (start .pre .1 .1 .1)))
 
 returns-2 : tie.Need-returns-2
 unfolding valueBytes
