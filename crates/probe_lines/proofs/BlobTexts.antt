@@ -14,14 +14,13 @@ use Rattle.promises.proofs.Onto.{onto-then, tail-lent}
 use Rattle.lines.specs.Text.{tab}
 use Rattle.lines.specs.Hex.{digitOf, hexBytes}
 use Rattle.lines.specs.Decimal.{numeralOf}
-use Rattle.lines.specs.Parts.{partsOf, fieldsOf}
+use Rattle.lines.specs.Parts.{fieldsOf}
 use Rattle.lines.specs.declared.hex.Found.{Found}
 use Rattle.lines.specs.declared.hex.Found.the-variants.{Number, Nothing}
 use Rattle.lines.proofs.Pairs.{blob-none}
 use Rattle.lines.proofs.Parting.{parts-at, parts-last}
-use Rattle.vector_types.specs.Answers.{firstOf, none}
 use Rattle.vector_types.specs.Layout.{longest}
-use Rattle.vector_types.specs.Write.{blobOf, writeRefusals, sizeOf, writeOf, leftOf}
+use Rattle.vector_types.specs.Write.{blobOf, sizeOf, writeOf, leftOf}
 use Rattle.vector_types.specs.declared.VectorType.{VectorType}
 use Rattle.vector_types.specs.declared.View.{View}
 use Rattle.vector_types.specs.declared.ReadAnswer.the-variants.{View as Seen}

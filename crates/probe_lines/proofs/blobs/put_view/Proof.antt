@@ -1,7 +1,7 @@
 -- `blobs::put_view` meets its contract: kind, dims and body are written one after another.
-use mathlib.Core.Path.{_≡_, sym, ap, _∙_}
-use mathlib.Core.List.{List, _++_, append-assoc}
-use Prim.Native.Nat.{ℕ, _+_}
+use mathlib.Core.Path.{_≡_, sym}
+use mathlib.Core.List.{_++_, append-assoc}
+use Prim.Native.Nat.{_+_}
 use lib.ListN.{length, take}
 use lib.Seq.{length-take-le}
 use Rattle.vector_types.specs.Layout.{byteOf}
@@ -11,7 +11,7 @@ use Rattle.lines.specs.Hex.{hexOf}
 use Rattle.lines.specs.Printed.{headOf}
 use Rattle.probe_lines.specs.Blobs.{viewText}
 use Rattle.probe_lines.proofs.Fields.{answered}
-use Rattle.probe_lines.proofs.BlobTexts.{Puts, puts-then}
+use Rattle.probe_lines.proofs.BlobTexts.{puts-then}
 use borrow.Author.Needs.{needs}
 use native.Mathlib.Omega.{arith}
 use Rattle.probe_lines.proofs.blobs.put_view.Statement.{statement}
@@ -45,7 +45,7 @@ returns c =
     let q = puts-then (word "V\t" ++ kind) dims (a .out .now) _ _ (h .result + k .result) _ p (n .ensures .0, n .ensures .1 .0) in
     let r = puts-then ((word "V\t" ++ kind) ++ dims) body (a .out .now) _ _ (h .result + k .result + n .result) _ q (d .ensures .0, d .ensures .1 .0) in
     let text : ((word "V\t" ++ kind) ++ dims) ++ body ≡ viewText (View (a .view)) (a .blob .now) =
-        rw (c .before .before .before .before .before .before .before .before .before .before .before .before .before .type-byte .ensures, append-assoc (headOf (byteOf (a .view .kind))) dims body) in
+    rw (c .before .before .before .before .before .before .before .before .before .before .before .before .before .type-byte .ensures, append-assoc (headOf (byteOf (a .view .kind))) dims body) in
     answered _ _ (a .out .now) _ _ text r
 
 pub put-view-spec : {M : Type 1} → statement M

@@ -7,9 +7,8 @@ use lib.Seq.{length-take-le}
 use Rattle.lines.specs.Text.{word}
 use Rattle.lines.specs.Hex.{hexOf}
 use Rattle.vector_types.specs.Layout.{longest}
-use Rattle.vector_types.specs.Write.{blobOf, writeOf, leftOf}
+use Rattle.vector_types.specs.Write.{blobOf, writeOf}
 use Rattle.vector_types.specs.declared.WriteAnswer.{WriteAnswer}
-use Rattle.vector_types.specs.declared.WriteAnswer.the-variants.{Written}
 use Rattle.probe_lines.specs.Blobs.{blobText, madeText}
 use Rattle.probe_lines.proofs.Fields.{answered}
 use Rattle.probe_lines.proofs.BlobTexts.{puts-then, written-room}
@@ -18,12 +17,15 @@ use native.Mathlib.Omega.{arith}
 use Rattle.probe_lines.proofs.blobs.put_written.Statement.{statement}
 use Rattle.probe_lines.proofs.blobs.put_written.Tie as tie
 
--- the blob, and what is put of it for the answer w
+-- the blob, what the writer answers, and what is put for an answer w
 abbrev blob : tie.After-write → List ℕ
 blob c = let a = c .before .before .before .before .before .args in blobOf (a .kind) (a .dims) (a .body .now)
 
+answer : (c : tie.After-write) → let a = c .before .before .before .before .before .args in c .write .result ≡ writeOf (a .kind) (a .dims) (a .body .now) (length (a .made .now))
+answer c = c .write .ensures .0
+
 made : (c : tie.After-write) (w : WriteAnswer) → c .write .result ≡ w → let a = c .before .before .before .before .before .args in blobText w (blob c) ≡ madeText (a .kind) (a .dims) (a .body .now)
-made c w e = ap (λ (x : WriteAnswer). blobText x (blob c)) (sym e ∙ rw (← c .before .before .before .before .before .pre .0) (c .write .ensures .0))
+made c w e = ap (λ (x : WriteAnswer). blobText x (blob c)) (sym e ∙ rw (← c .before .before .before .before .before .pre .0) (answer c))
 
 -- the first n bytes of the room are the blob
 abbrev left : tie.After-length → List ℕ
@@ -33,7 +35,7 @@ room : (c : tie.After-length) → (c .length .given .0 .0 ≤ longest) × (left 
 room c =
     let a = c .before .before .before .before .before .before .before .before .before .args in
     let w = c .before .before .before .before .write in
-    rw (w .ensures .1) (written-room (a .kind) (a .dims) (a .body .now) (a .made .now) _ (c .before .before .before .before .before .before .before .before .before .pre .0) (sym (w .ensures .0) ∙ c .length .given .1))
+    rw (w .ensures .1) (written-room (a .kind) (a .dims) (a .body .now) (a .made .now) _ (c .before .before .before .before .before .before .before .before .before .pre .0) (sym (answer (c .before .before .before .before)) ∙ c .length .given .1))
 
 within : (c : tie.After-length) → length (left c) ≡ c .length .given .0 .0
 within c = length-take-le _ _ (omega (arith, room c .0, c .before .before .before .before .write .kept .1 .1 .1 .0, c .before .before .before .before .before .before .before .before .before .pre .0))

@@ -1,5 +1,5 @@
 -- `blobs::read_line` meets its contract: X, or what the reader shows of the bytes that the field spells.
-use mathlib.Core.Path.{_≡_, sym}
+use mathlib.Core.Path.{sym}
 use lib.Seq.{length-take-le}
 use Rattle.probe_lines.specs.Blobs.{shownText, readText}
 use Rattle.probe_lines.proofs.Fields.{answered}

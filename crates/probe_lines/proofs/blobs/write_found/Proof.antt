@@ -1,8 +1,6 @@
 -- `blobs::write_found` meets its contract: X, or what is written of the bytes that the field spells.
 use mathlib.Core.Path.{_≡_, sym, _∙_}
 use lib.Seq.{length-take-le}
-use Rattle.lines.specs.declared.hex.Found.the-variants.{Number}
-use Rattle.probe_lines.specs.declared.blobs.Kind.the-variants.{Known}
 use Rattle.probe_lines.specs.Blobs.{spelled, madeText, writtenBy}
 use Rattle.probe_lines.proofs.Fields.{answered}
 use Rattle.probe_lines.proofs.BlobTexts.{spelled-part, spelled-all}
