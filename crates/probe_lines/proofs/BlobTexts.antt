@@ -20,6 +20,7 @@ use Rattle.lines.specs.declared.hex.Found.the-variants.{Number, Nothing}
 use Rattle.lines.proofs.Pairs.{blob-none}
 use Rattle.lines.proofs.Parting.{parts-at, parts-last}
 use Rattle.vector_types.specs.Layout.{longest}
+use Rattle.vector_types.specs.Read.{readOf}
 use Rattle.vector_types.specs.Write.{blobOf, sizeOf, writeOf, leftOf}
 use Rattle.vector_types.specs.declared.VectorType.{VectorType}
 use Rattle.vector_types.specs.declared.View.{View}
@@ -39,7 +40,7 @@ use Rattle.probe_lines.specs.declared.blobs.Kind.{Kind}
 use Rattle.probe_lines.specs.declared.blobs.Kind.the-variants.{Known, Unknown}
 use Rattle.probe_lines.proofs.Fields.{one-field}
 
--- n bytes are written over l, which is o then: they are the text w
+-- the text w, of n bytes, is put at the start of l, which is o then
 abbrev pub Puts : List ℕ → List ℕ → List ℕ → ℕ → Type 0
 Puts w l o n = (n ≡ length w) × (o ≡ onto w l)
 
@@ -49,16 +50,19 @@ pub puts-then : (v w l o ys : List ℕ) (n m : ℕ) → Puts v l o n → Puts w 
 puts-then v w l o ys n m p q = (rw length-append (omega arith), onto-then v w l o ys n (p .1) (sym (p .0)) (q .1))
 
 -- ---- what is shown and what is written
+plain-within : (s : List ℕ) (v : View) → readOf s ≡ Seen v → (v .length ≤ length s) × (v .length ≤ longest)
+plain-within s v e = let t = told s v e in (t .within, omega (arith, t .within, t .short))
+
 pub seen-within : (reader : Reader) (s : List ℕ) (v : View) → readerOf reader s ≡ Seen v → (v .length ≤ length s) × (v .length ≤ longest)
-seen-within Plain s v e = let t = told s v e in (t .within, omega (arith, t .within, t .short))
-seen-within Strict s v e = let t = told s v (strict-plain s v e) in (t .within, omega (arith, t .within, t .short))
+seen-within Plain s v e = plain-within s v e
+seen-within Strict s v e = plain-within s v (strict-plain s v e)
 
 abbrev lengthIn : WriteAnswer → ℕ
 lengthIn (Written n) = n
 lengthIn (Refused r) = 0
 lengthIn (Short need) = 0
 
--- n bytes of the room are the blob
+-- the first n bytes of the room are the blob
 pub written-room : (k : VectorType) (d : ℕ) (body made : List ℕ) (n : ℕ) → length made ≡ longest → writeOf k d body (length made) ≡ Written n
     → (n ≤ longest) × (take n (leftOf k d body made) ≡ blobOf k d body)
 written-room k d body made n room e =
@@ -88,7 +92,7 @@ module _ (answer : List ℕ → List ℕ) (field : List ℕ) where
       let few = blob-none tab field (lit≤ tt) less in
       sym (spelled-part (length (hexBytes field)) refl (λ all. omega (arith, few, all)))
 
--- ---- K|N|H: a text that is one field or two, and a text that has as many as are asked for
+-- ---- fields: a text that has one field only, and one that has more
 pub two-short : (g : List ℕ → List ℕ → List ℕ) (s : List ℕ) → indexOf tab s ≡ length s → two g (fieldsOf s) ≡ other
 unfolding two one
 two-short g s all = rw (parts-last tab s all)
@@ -115,5 +119,6 @@ pub write-fields : (kind s : List ℕ) (stop : ℕ) → stop ≡ indexOf tab s �
     → writeText kind (take stop s) (after stop s) ≡ two (writeText kind) (fieldsOf s)
 unfolding two writeText
 write-fields kind s stop e less =
+    let number = take stop s in
     let rest = drop (stop + 1) s in
-    rw (tail-lent, parts-at tab s stop e less) (sym (one-field (writeText kind (take stop s)) rest (written-tab (kindOf kind) (numeralOf 10 (take stop s)) rest)))
+    rw (tail-lent, parts-at tab s stop e less) (sym (one-field (writeText kind number) rest (written-tab (kindOf kind) (numeralOf 10 number) rest)))

@@ -17,35 +17,37 @@ use native.Mathlib.Omega.{arith}
 use Rattle.probe_lines.proofs.blobs.put_view.Statement.{statement}
 use Rattle.probe_lines.proofs.blobs.put_view.Tie as tie
 
+-- how long the body is
+size : (c : tie.Start) → let a = c .args in length (take (a .view .length) (a .blob .now)) ≡ a .view .length
+size c = length-take-le _ _ (c .pre .0)
+
 slice-aggregate-put-bytes : tie.Need-slice-aggregate-put-bytes
-slice-aggregate-put-bytes c = sym (length-take-le _ _ (omega arith))
+slice-aggregate-put-bytes c = sym (size (c .before .before .before .before .before .before .before .before .before .before .before .before .before .before .before .before .before .before))
 
 put-bytes-requires : tie.Need-put-bytes-requires
-put-bytes-requires c κs =
-    let a = c .before .before .before .before .before .before .before .before .before .before .before .before .before .before .before .before .before .before .before .args in
-    omega (arith, length-take-le (a .view .length) (a .blob .now) (omega arith))
+put-bytes-requires c κs = omega (arith, size (c .before .before .before .before .before .before .before .before .before .before .before .before .before .before .before .before .before .before .before))
 
 add-result : tie.Need-add-result
-add-result c =
-    let a = c .before .before .before .before .before .before .before .before .before .before .before .before .before .before .before .before .before .before .before .before .before .before .args in
-    omega (arith, c .before .before .put-bytes .ensures .1 .1, length-take-le (a .view .length) (a .blob .now) (omega arith))
+add-result c = omega (arith, c .before .before .put-bytes .ensures .1 .1, size (c .before .before .before .before .before .before .before .before .before .before .before .before .before .before .before .before .before .before .before .before .before .before))
 
 returns : tie.Need-returns
 unfolding viewText
 returns c =
-    let h = c .before .before .before .before .before .before .before .before .before .before .before .before .before .before .before .before .copy in
-    let k = c .before .before .before .before .before .before .before .before .before .before .before .put-head in
-    let n = c .before .before .before .before .before .before .before .put-head2 in
     let d = c .before .before .put-bytes in
-    let a = c .before .before .before .before .before .before .before .before .before .before .before .before .before .before .before .before .before .before .before .before .before .before .args in
-    let kind = headOf (c .before .before .before .before .before .before .before .before .before .before .before .before .before .type-byte .result) in
+    let second = c .before .before .before .before .before .before .before in
+    let n = second .put-head2 in
+    let first = second .before .before .before .before in
+    let k = first .put-head in
+    let byte = first .before .before .type-byte in
+    let h = first .before .before .before .before .before .copy in
+    let a = first .before .before .before .before .before .before .before .before .before .before .before .args in
+    let kind = headOf (byte .result) in
     let dims = headOf (a .view .dims .0) in
     let body = hexOf (take (a .view .length) (a .blob .now)) in
     let p = puts-then (word "V\t") kind (a .out .now) _ _ (h .result) _ (h .ensures) (k .ensures .0, k .ensures .1 .0) in
     let q = puts-then (word "V\t" ++ kind) dims (a .out .now) _ _ (h .result + k .result) _ p (n .ensures .0, n .ensures .1 .0) in
     let r = puts-then ((word "V\t" ++ kind) ++ dims) body (a .out .now) _ _ (h .result + k .result + n .result) _ q (d .ensures .0, d .ensures .1 .0) in
-    let text : ((word "V\t" ++ kind) ++ dims) ++ body ≡ viewText (View (a .view)) (a .blob .now) =
-    rw (c .before .before .before .before .before .before .before .before .before .before .before .before .before .type-byte .ensures, append-assoc (headOf (byteOf (a .view .kind))) dims body) in
+    let text : ((word "V\t" ++ kind) ++ dims) ++ body ≡ viewText (View (a .view)) (a .blob .now) = rw (byte .ensures, append-assoc (headOf (byteOf (a .view .kind))) dims body) in
     answered _ _ (a .out .now) _ _ text r
 
 pub put-view-spec : {M : Type 1} → statement M

@@ -33,12 +33,13 @@ left c = take (c .length .given .0 .0) (c .before .before .before .before .write
 
 room : (c : tie.After-length) → (c .length .given .0 .0 ≤ longest) × (left c ≡ blob (c .before .before .before .before))
 room c =
-    let a = c .before .before .before .before .before .before .before .before .before .args in
-    let w = c .before .before .before .before .write in
-    rw (w .ensures .1) (written-room (a .kind) (a .dims) (a .body .now) (a .made .now) _ (c .before .before .before .before .before .before .before .before .before .pre .0) (sym (answer (c .before .before .before .before)) ∙ c .length .given .1))
+    let w = c .before .before .before .before in
+    let start = w .before .before .before .before .before in
+    let a = start .args in
+    rw (w .write .ensures .1) (written-room (a .kind) (a .dims) (a .body .now) (a .made .now) _ (start .pre .0) (sym (answer w) ∙ c .length .given .1))
 
 within : (c : tie.After-length) → length (left c) ≡ c .length .given .0 .0
-within c = length-take-le _ _ (omega (arith, room c .0, c .before .before .before .before .write .kept .1 .1 .1 .0, c .before .before .before .before .before .before .before .before .before .pre .0))
+within c = let w = c .before .before .before .before in length-take-le _ _ (omega (arith, room c .0, w .write .kept .1 .1 .1 .0, w .before .before .before .before .before .pre .0))
 
 slice-reshare-prefix-put-bytes : tie.Need-slice-reshare-prefix-put-bytes
 slice-reshare-prefix-put-bytes c = omega (arith, room (c .before .before .before .before .before .before) .0)
@@ -47,10 +48,10 @@ slice-aggregate-put-bytes : tie.Need-slice-aggregate-put-bytes
 slice-aggregate-put-bytes c = sym (within (c .before .before .before .before .before .before .before))
 
 put-bytes-requires : tie.Need-put-bytes-requires
-put-bytes-requires c κs = omega (arith, within (c .before .before .before .before .before .before .before .before), room (c .before .before .before .before .before .before .before .before) .0)
+put-bytes-requires c κs = let told = c .before .before .before .before .before .before .before .before in omega (arith, within told, room told .0)
 
 add-result : tie.Need-add-result
-add-result c = omega (arith, within (c .before .before .before .before .before .before .before .before .before .before .before), room (c .before .before .before .before .before .before .before .before .before .before .before) .0)
+add-result c = let told = c .before .before .before .before .before .before .before .before .before .before .before in omega (arith, within told, room told .0)
 
 returns : tie.Need-returns
 unfolding blobText
@@ -58,18 +59,22 @@ returns c =
     let told = c .before .before .before .before .before .before .before .before .before .before .before in
     let h = c .before .before .before .before .before .before .before .copy in
     let d = c .before .before .put-bytes in
-    let a = c .before .before .before .before .before .before .before .before .before .before .before .before .before .before .before .before .before .before .before .before .args in
+    let a = told .before .before .before .before .before .before .before .before .before .args in
     let put = puts-then (word "W\t") (hexOf (left told)) (a .out .now) _ _ (h .result) _ (h .ensures) (d .ensures .0, d .ensures .1 .0) in
     let text = ap (λ (s : List ℕ). word "W\t" ++ hexOf s) (room told .1) ∙ made (told .before .before .before .before) _ (told .length .given .1) in
     answered _ _ (a .out .now) _ _ text put
 
 returns-2 : tie.Need-returns-2
 unfolding blobText
-returns-2 c = answered _ _ _ _ _ (made (c .before .before .before .before .before .before .before .before .before) _ (c .before .before .before .before .before .refusal .given .1)) (c .before .before .put-refusal .ensures)
+returns-2 c =
+    let told = c .before .before .before .before .before in
+    answered _ _ _ _ _ (made (told .before .before .before .before) _ (told .refusal .given .1)) (c .before .before .put-refusal .ensures)
 
 returns-3 : tie.Need-returns-3
 unfolding blobText
-returns-3 c = answered _ _ _ _ _ (made (c .before .before .before .before .before .before .before .before) _ (c .before .before .before .before .enum-told .given .1)) (c .before .before .put-refusal2 .ensures)
+returns-3 c =
+    let told = c .before .before .before .before in
+    answered _ _ _ _ _ (made (told .before .before .before .before) _ (told .enum-told .given .1)) (c .before .before .put-refusal2 .ensures)
 
 pub put-written-spec : {M : Type 1} → statement M
 put-written-spec =

@@ -1,5 +1,5 @@
 -- `blobs::write_line` meets its contract: X for fewer than three fields, else what `write_found` answers to them.
-use mathlib.Core.Path.{_≡_, sym, _∙_, ap₂}
+use mathlib.Core.Path.{_≡_, sym, ap₂, _∙_}
 use mathlib.Core.List.{List}
 use Prim.Native.Nat.{ℕ}
 use lib.ListN.{length, take}
@@ -53,11 +53,12 @@ slice-aggregate-numeral c = sym (length-take-le _ _ (omega arith))
 returns-3 : tie.Need-returns-3
 unfolding writeText
 returns-3 c =
-    let here = c .before .before .before .before .before .before .before .before .before .before .before .before .before .before in
+    let n = c .before .before .before .before .before .before .before .before .before .before .before in
+    let here = n .before .before .before in
+    let k = here .before .before in
     let stop = here .field-end2 .result in
     let field = after stop (more here) in
-    let found : writtenBy (c .before .before .before .before .before .before .before .before .before .before .before .before .before .before .before .before .kind-of .result) (c .before .before .before .before .before .before .before .before .before .before .before .numeral .result) field ≡ writeText (kind here) (take stop (more here)) field =
-    ap₂ (λ (k : Kind) (n : Found). writtenBy k n field) (c .before .before .before .before .before .before .before .before .before .before .before .before .before .before .before .before .kind-of .ensures) (c .before .before .before .before .before .before .before .before .before .before .before .numeral .ensures) in
+    let found : writtenBy (k .kind-of .result) (n .numeral .result) field ≡ writeText (kind here) (take stop (more here)) field = ap₂ (λ (x : Kind) (y : Found). writtenBy x y field) (k .kind-of .ensures) (n .numeral .ensures) in
     let fields = write-fields (kind here) (more here) stop (here .field-end2 .ensures .0) (omega arith) in
     answered _ _ _ _ _ (found ∙ fields ∙ by-more here) (c .before .before .before .before .before .before .write-found .ensures)
 
