@@ -41,7 +41,7 @@ one-more g f [] h = absurd (omega arith)
 one-more g f (f′ ∷ fs) h = refl
 
 -- a text as one field, where a tab in it would make X of it anyway
-one-field : (g : List ℕ → List ℕ) (s : List ℕ) → (indexOf tab s < length s → g s ≡ other) → one g (fieldsOf s) ≡ g s
+pub one-field : (g : List ℕ → List ℕ) (s : List ℕ) → (indexOf tab s < length s → g s ≡ other) → one g (fieldsOf s) ≡ g s
 unfolding one
 one-field g s x = elim (decLt (indexOf tab s) (length s)) [ yes less ↦ several less | no all ↦ single (omega (arith, all, index-le tab s)) ]
   where
