@@ -37,9 +37,8 @@ line c = let a = c .before .before .before .before .before .before .before .befo
 
 add-result : tie.Need-add-result
 add-result c =
-    let lined = c .before .before .before .before .before .before in
-    let h = lined .before .before .before .before .before .before .put-head in
-    let l = lined .put-line in
+    let h = c .before .before .before .before .before .before .before .before .before .before .before .before .put-head in
+    let l = c .before .before .before .before .before .before .put-line in
     let fits = tail-within (line c) (h .last .1 .0) (l .last .1 .1 .1 .1 .0) (h .result) (l .ensures .1) (l .kept .1 .1 .1 .1 .0) (omega arith) in
     omega (arith, fits, l .ensures .0, h .kept .1 .0)
 
