@@ -1,5 +1,5 @@
 -- Laws of the answers about blobs: texts put one after another, what a view and a written blob measure, fields that spell bytes, and the three fields of write.
-use mathlib.Core.Path.{_≡_, refl, sym, ap, _∙_}
+use mathlib.Core.Path.{_≡_, refl, sym}
 use mathlib.Core.List.{List, _++_}
 use Prim.Native.Nat.{ℕ, _+_, _-_, _*_, _<_, _≤_}
 use native.Mathlib.Omega.{arith}
@@ -21,18 +21,15 @@ use Rattle.lines.proofs.Pairs.{blob-none}
 use Rattle.lines.proofs.Parting.{parts-at, parts-last}
 use Rattle.vector_types.specs.Layout.{longest}
 use Rattle.vector_types.specs.Read.{readOf}
-use Rattle.vector_types.specs.Write.{blobOf, sizeOf, writeOf, leftOf}
+use Rattle.vector_types.specs.Write.{blobOf, writeOf, leftOf}
 use Rattle.vector_types.specs.declared.VectorType.{VectorType}
 use Rattle.vector_types.specs.declared.View.{View}
 use Rattle.vector_types.specs.declared.ReadAnswer.the-variants.{View as Seen}
-use Rattle.vector_types.specs.declared.WriteAnswer.{WriteAnswer}
-use Rattle.vector_types.specs.declared.WriteAnswer.the-variants.{Written, Refused, Short}
-use Rattle.vector_types.specs.declared.writing.Size.the-variants.{Bytes}
+use Rattle.vector_types.specs.declared.WriteAnswer.the-variants.{Written}
 use Rattle.vector_types.proofs.Views.{told}
 use Rattle.vector_types.proofs.Strict.{strict-plain}
 use Rattle.vector_types.proofs.Written.{writable, written-blob}
-use Rattle.vector_types.proofs.Measured.{measured-whole}
-use Rattle.probe_lines.specs.Line.{one, two, three}
+use Rattle.probe_lines.specs.Line.{two, three}
 use Rattle.probe_lines.specs.Blobs.{other, spelled, readerOf, kindOf, madeText, writtenBy, writeText}
 use Rattle.probe_lines.specs.declared.blobs.Reader.{Reader}
 use Rattle.probe_lines.specs.declared.blobs.Reader.the-variants.{Plain, Strict}
@@ -57,21 +54,12 @@ pub seen-within : (reader : Reader) (s : List ℕ) (v : View) → readerOf reade
 seen-within Plain s v e = plain-within s v e
 seen-within Strict s v e = plain-within s v (strict-plain s v e)
 
-abbrev lengthIn : WriteAnswer → ℕ
-lengthIn (Written n) = n
-lengthIn (Refused r) = 0
-lengthIn (Short need) = 0
-
 -- the first n bytes of the room are the blob
-pub written-room : (k : VectorType) (d : ℕ) (body made : List ℕ) (n : ℕ) → length made ≡ longest → writeOf k d body (length made) ≡ Written n
+pub written-room : (k : VectorType) (d : ℕ) (body made : List ℕ) (n : ℕ) → writeOf k d body (length made) ≡ Written n
     → (n ≤ longest) × (take n (leftOf k d body made) ≡ blobOf k d body)
-written-room k d body made n room e =
-    let (clear, left) = written-blob k d body made n e in
-    let need = length (blobOf k d body) in
-    let fits = writable k d body clear .short in
-    let size : sizeOf k d body ≡ Bytes need = rw clear in
-    let same : need ≡ n = ap lengthIn (measured-whole k d body need size made (omega (arith, fits, room)) .0 ∙ e) in
-    (omega (arith, fits, same), left)
+written-room k d body made n e =
+    let (clear, size, left) = written-blob k d body made n e in
+    (omega (arith, writable k d body clear .short, size), left)
 
 -- ---- a field of which n bytes are spelled
 module _ (answer : List ℕ → List ℕ) (field : List ℕ) where
@@ -93,10 +81,6 @@ module _ (answer : List ℕ → List ℕ) (field : List ℕ) where
       sym (spelled-part (length (hexBytes field)) refl (λ all. omega (arith, few, all)))
 
 -- ---- fields: a text that has one field only, and one that has more
-pub two-short : (g : List ℕ → List ℕ → List ℕ) (s : List ℕ) → indexOf tab s ≡ length s → two g (fieldsOf s) ≡ other
-unfolding two one
-two-short g s all = rw (parts-last tab s all)
-
 pub three-short : (g : List ℕ → List ℕ → List ℕ → List ℕ) (s : List ℕ) → indexOf tab s ≡ length s → three g (fieldsOf s) ≡ other
 unfolding three two
 three-short g s all = rw (parts-last tab s all)

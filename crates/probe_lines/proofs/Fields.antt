@@ -80,9 +80,9 @@ unfolding ofWidth
 last-width width s = one-field (ofWidth width) s (λ less. rw (tab-other Root32 s less, tab-other Root64 s less, either, either))
 
 -- root|W|F after its first tab: the width alone, and both fields
-pub root-short : (s : List ℕ) → indexOf tab s ≡ length s → two ofWidth (fieldsOf s) ≡ other
+pub two-short : (g : List ℕ → List ℕ → List ℕ) (s : List ℕ) → indexOf tab s ≡ length s → two g (fieldsOf s) ≡ other
 unfolding two one
-root-short s all = rw (parts-last tab s all)
+two-short g s all = rw (parts-last tab s all)
 
 pub root-fields : (s : List ℕ) (end : ℕ) → end ≡ indexOf tab s → end < length s
     → ofWidth (take end s) (take (length s - (end + 1)) (drop (end + 1) s)) ≡ two ofWidth (fieldsOf s)

@@ -36,7 +36,7 @@ room c =
     let w = c .before .before .before .before in
     let start = w .before .before .before .before .before in
     let a = start .args in
-    rw (w .write .ensures .1) (written-room (a .kind) (a .dims) (a .body .now) (a .made .now) _ (start .pre .0) (sym (answer w) ∙ c .length .given .1))
+    rw (w .write .ensures .1) (written-room (a .kind) (a .dims) (a .body .now) (a .made .now) _ (sym (answer w) ∙ c .length .given .1))
 
 within : (c : tie.After-length) → length (left c) ≡ c .length .given .0 .0
 within c = let w = c .before .before .before .before in length-take-le _ _ (omega (arith, room c .0, w .write .kept .1 .1 .1 .0, w .before .before .before .before .before .pre .0))

@@ -11,8 +11,8 @@ use Rattle.lines.specs.declared.hex.Found.{Found}
 use Rattle.probe_lines.specs.declared.blobs.Kind.{Kind}
 use Rattle.probe_lines.specs.Line.{two, three}
 use Rattle.probe_lines.specs.Blobs.{writeText, writtenBy}
-use Rattle.probe_lines.proofs.Fields.{answered}
-use Rattle.probe_lines.proofs.BlobTexts.{after, two-short, three-short, three-fields, write-fields}
+use Rattle.probe_lines.proofs.Fields.{answered, two-short}
+use Rattle.probe_lines.proofs.BlobTexts.{after, three-short, three-fields, write-fields}
 use borrow.Author.Needs.{needs}
 use native.Mathlib.Omega.{arith}
 use Rattle.probe_lines.proofs.blobs.write_line.Statement.{statement}
