@@ -10,7 +10,7 @@ use Rattle.vector_types.specs.Search.{firstFrom}
 use Rattle.vector_types.specs.Read.{readOf, strictOf}
 use Rattle.vector_types.specs.Write.{writeOf}
 use Rattle.lines.specs.Text.{word, same}
-use Rattle.lines.specs.Hex.{digitOf, hexFrom, patternOf, pairOf, hexBytes, hexOf}
+use Rattle.lines.specs.Hex.{digitOf, numberFrom, patternOf, pairOf, hexBytes, hexOf}
 use Rattle.lines.specs.Decimal.{decimalOf, numeralOf}
 use Rattle.lines.specs.Parts.{partsOf, lastUnlessEmpty}
 use Rattle.lines.specs.Printed.{replyOf, repliesFrom}
@@ -70,7 +70,7 @@ abbrev pub Printed : String → String → Type 0
 Printed input output = printed (word input) ≡ word output
 
 pub examples-hold : Holds floats × Holds blobs × Printed "trunc\t40400000\n\ntrunc\t40400000" "1\tF\t03\n2\tX\n3\tF\t03\n"
-unfolding repliesFrom replyOf lastUnlessEmpty partsOf same answerOf decimalOf numeralOf patternOf hexFrom digitOf pairOf hexBytes hexOf
+unfolding repliesFrom replyOf lastUnlessEmpty partsOf same answerOf decimalOf numeralOf patternOf numberFrom digitOf pairOf hexBytes hexOf
     root narrowed truncated toBits readOf strictOf writeOf firstFrom
 examples-hold = (
   (refl, (refl, (refl, (refl, (refl, (refl, (refl, (refl, (refl, (refl, (refl, (refl, (refl, tt))))))))))))),
