@@ -11,7 +11,7 @@ use lib.Dec.{ltb, leb, eqb, lit<}
 use lib.ListN.{length, getD, drop, drop-of-length-le}
 use lib.Seq.{drop-cons}
 use Rattle.bytes.specs.Bytes.{indexOf, indexAfter}
-use Rattle.lines.specs.Hex.{digitOf, numberFrom, patternOf, hexFrom}
+use Rattle.lines.specs.Hex.{digitOf, numberFrom, patternOf}
 use Rattle.lines.specs.Decimal.{numeralOf}
 use Rattle.lines.specs.declared.hex.Found.{Found}
 use Rattle.lines.specs.declared.hex.Found.the-variants.{Number, Nothing}
@@ -69,7 +69,7 @@ tested-below true base m s h = (omega (arith, number-below base 0 m s h), refl)
 tested-below false base m s h = nothing-is-none m h
 
 pub pattern-below : (width m : ℕ) (s : List ℕ) → patternOf width s ≡ Number m → m < 16 ^ width
-unfolding patternOf hexFrom
+unfolding patternOf
 pattern-below width m s h =
     let (less, e) = tested-below (eqb (length s) width) 16 m s h in
     rw (← eqb-true (length s) width e) less
@@ -107,7 +107,7 @@ either true = refl
 either false = refl
 
 pub pattern-none : (width b : ℕ) (s : List ℕ) → 16 ≤ digitOf b → indexOf b s < length s → patternOf width s ≡ Nothing
-unfolding patternOf hexFrom
+unfolding patternOf
 pattern-none width b s big h = rw (number-none 16 b 0 s big h) (either (eqb (length s) width))
 
 pub numeral-none : (most b : ℕ) (s : List ℕ) → 10 ≤ digitOf b → indexOf b s < length s → numeralOf most s ≡ Nothing

@@ -25,14 +25,9 @@ unfoldable pub numberFrom : ℕ → ℕ → List ℕ → Found
 numberFrom base n [] = Number n
 numberFrom base n (b ∷ s) = cond (ltb (digitOf b) base) (numberFrom base (n * base + digitOf b) s) Nothing
 
--- the same in hexadecimal
-unfoldable pub hexFrom : ℕ → List ℕ → Found
-unfolding numberFrom
-hexFrom n s = numberFrom 16 n s
-
 -- the number that s is in exactly width digits
 unfoldable pub patternOf : ℕ → List ℕ → Found
-patternOf width s = cond (eqb (length s) width) (hexFrom 0 s) Nothing
+patternOf width s = cond (eqb (length s) width) (numberFrom 16 0 s) Nothing
 
 -- the byte that the digits a and b are; 256 where they are not both digits
 unfoldable pub pairOf : ℕ → ℕ → ℕ

@@ -1,4 +1,5 @@
 -- Laws of the answers
 pub mod Fields
+pub mod BlobTexts
 pub mod Determined
 pub mod Stream

@@ -51,9 +51,13 @@ abbrev pub readerOf : Reader → List ℕ → ReadAnswer
 readerOf Plain s = readOf s
 readerOf Strict s = strictOf s
 
+-- what a reader shows of the blob s
+abbrev pub shownText : Reader → List ℕ → List ℕ
+shownText reader s = viewText (readerOf reader s) s
+
 unfoldable pub readText : Reader → List ℕ → List ℕ
 unfolding viewText spelled
-readText reader field = spelled (λ s. viewText (readerOf reader s) s) field
+readText reader field = spelled (shownText reader) field
 
 -- the kind that K names
 unfoldable pub kindOf : List ℕ → Kind
@@ -65,10 +69,13 @@ kindOf field =
     (cond (same field (word "9")) (Known Float32Sparse)
     Unknown))))
 
--- K, N and H of a blob to be written, in room for the longest
+-- what is written of a kind, dims and body, in room for the longest blob
+abbrev pub madeText : VectorType → ℕ → List ℕ → List ℕ
+madeText k d body = blobText (writeOf k d body longest) (blobOf k d body)
+
+-- the same of K and N, where they are a kind and a number, and H
 abbrev pub writtenBy : Kind → Found → List ℕ → List ℕ
-unfolding blobText spelled
-writtenBy (Known k) (Number d) field = spelled (λ body. blobText (writeOf k d body longest) (blobOf k d body)) field
+writtenBy (Known k) (Number d) field = spelled (madeText k d) field
 writtenBy (Known k) Nothing field = other
 writtenBy Unknown n field = other
 

@@ -1,16 +1,14 @@
 // The lines about one blob: read, strict, write.
 ghost use mathlib.Core.Path.{_≡_};
 ghost use Prim.Native.Nat.{_*_, _≤_};
-ghost use lib.ListN.{length, take};
+ghost use lib.ListN.{length};
 ghost use Rattle.promises.specs.Onto.{onto};
 ghost use Rattle.lines.specs.Parts.{fieldsOf};
 ghost use Rattle.vector_types.specs.Layout.{longest as longestBlob, byteOf};
-ghost use Rattle.vector_types.specs.Parts.{shownLength};
-ghost use Rattle.vector_types.specs.Write.{blobOf, writeOf};
 ghost use Rattle.vector_types.specs.declared.ReadAnswer.the-variants.{View as Seen};
 ghost use Rattle.probe_lines.specs.Limits.{limit, blobRoom};
 ghost use Rattle.probe_lines.specs.Line.{three};
-ghost use Rattle.probe_lines.specs.Blobs.{refusalText, viewText, blobText, readerOf, readText, kindOf, writeText, writtenBy};
+ghost use Rattle.probe_lines.specs.Blobs.{refusalText, viewText, readerOf, shownText, readText, kindOf, madeText, writtenBy, writeText};
 use crate::float::put_other;
 use lines::hex::Found;
 use vector_types::Dims;
@@ -83,8 +81,8 @@ fn read_by(reader: Reader, blob: &[u8]) -> ReadAnswer
 // Puts what a reader answers of a blob at the start of out.
 fn put_read(reader: Reader, blob: &[u8], out: &mut [u8]) -> usize
     requires { ⌜ limit ≤ length (now out) ⌝ }
-    ensures { λ r. ⌜ r ≡ length (viewText (readerOf reader (now (blob .entry))) (now (blob .entry))) ⌝ }
-    ensures { λ _. ⌜ now (out .exit) ≡ onto (viewText (readerOf reader (now (blob .entry))) (now (blob .entry))) (now (out .entry)) ⌝ }
+    ensures { λ r. ⌜ r ≡ length (shownText reader (now (blob .entry))) ⌝ }
+    ensures { λ _. ⌜ now (out .exit) ≡ onto (shownText reader (now (blob .entry))) (now (out .entry)) ⌝ }
 {
     match read_by(reader, blob) {
         ReadAnswer::View(view) => put_view(view, blob, out),
@@ -131,8 +129,8 @@ fn kind_of(field: &[u8]) -> Kind
 fn put_written(kind: VectorType, dims: usize, body: &[u8], made: &mut [u8], out: &mut [u8]) -> usize
     requires { ⌜ length (now made) ≡ blobRoom ⌝ }
     requires { ⌜ limit ≤ length (now out) ⌝ }
-    ensures { λ r. ⌜ r ≡ length (blobText (writeOf kind dims (now (body .entry)) longestBlob) (blobOf kind dims (now (body .entry)))) ⌝ }
-    ensures { λ _. ⌜ now (out .exit) ≡ onto (blobText (writeOf kind dims (now (body .entry)) longestBlob) (blobOf kind dims (now (body .entry)))) (now (out .entry)) ⌝ }
+    ensures { λ r. ⌜ r ≡ length (madeText kind dims (now (body .entry))) ⌝ }
+    ensures { λ _. ⌜ now (out .exit) ≡ onto (madeText kind dims (now (body .entry))) (now (out .entry)) ⌝ }
 {
     match vector_types::write(kind, Dims(dims), body, made) {
         WriteAnswer::Written(length) => {

@@ -143,13 +143,13 @@ taken none false need n e = let z = ap reach e in (refl, omega arith)
 taken (given r) fails need n e = let z = ap reach e in absurd (omega arith)
 
 pub written-blob : (k : VectorType) (d : ℕ) (body out : List ℕ) (n : ℕ) → writeOf k d body (length out) ≡ written n
-    → (firstOf (writeRefusals k d body) ≡ none) × (take n (leftOf k d body out) ≡ blobOf k d body)
+    → (firstOf (writeRefusals k d body) ≡ none) × (length (blobOf k d body) ≡ n) × (take n (leftOf k d body out) ≡ blobOf k d body)
 unfolding writeOf leftOf
 written-blob k d body out n e =
     let blob = blobOf k d body in
     let (clear, long) = taken (firstOf (writeRefusals k d body)) (ltb (length out) (length blob)) (length blob) n e in
-    (clear, rw e (take-at blob (drop (length blob) out) n long))
+    (clear, long, rw e (take-at blob (drop (length blob) out) n long))
 
 pub written-reads-back : (k : VectorType) (d : ℕ) (body out : List ℕ) (n : ℕ) → writeOf k d body (length out) ≡ written n
     → (readOf (take n (leftOf k d body out)) ≡ seen k d (length body)) × (bodyOf (take n (leftOf k d body out)) ≡ body)
-written-reads-back k d body out n e = let (clear, left) = written-blob k d body out n e in rw left (reads-back k d body clear)
+written-reads-back k d body out n e = let (clear, _, left) = written-blob k d body out n e in rw left (reads-back k d body clear)

@@ -10,8 +10,8 @@ use Rattle.lines.specs.Text.{tab}
 use Rattle.lines.specs.Parts.{fieldsOf}
 use Rattle.probe_lines.specs.Line.{answerTo, answerOf}
 use Rattle.probe_lines.specs.declared.Verb.{Verb}
-use Rattle.probe_lines.specs.declared.Verb.the-variants.{Root, Float, Other}
-use Rattle.probe_lines.proofs.Fields.{answer-short, answer-fields, last-computed, answered}
+use Rattle.probe_lines.specs.declared.Verb.the-variants.{Root, Float, Read, Write, Other}
+use Rattle.probe_lines.proofs.Fields.{answer-short, answer-fields, last-computed, last-read, answered}
 use borrow.Author.Needs.{needs}
 use Rattle.probe_lines.proofs.answer.Statement.{statement}
 use Rattle.probe_lines.proofs.answer.Tie as tie
@@ -28,7 +28,7 @@ same-length c = search needs
 returns : tie.Need-returns
 returns c =
     let t = c .before .before .before .before in
-    let line = t .before .before .before .before .args .line .now in
+    let line = t .before .before .before .before .before .before .args .line .now in
     let all : indexOf tab line ≡ length line = sym (t .before .field-end .ensures .0) ∙ t .if1 .taken in
     answered _ _ _ _ _ (sym (answer-short line all)) (c .before .before .put-other .ensures)
 
@@ -62,15 +62,27 @@ enum-known-verb c = search needs
 computed-requires : tie.Need-computed-requires
 computed-requires c κs = search needs
 
+enum-known-verb-2 : tie.Need-enum-known-verb-2
+enum-known-verb-2 c = search needs
+
+read-line-requires : tie.Need-read-line-requires
+read-line-requires c κs = search needs
+
 enum-told-2 : tie.Need-enum-told-2
 enum-told-2 c = search needs
+
+write-line-requires : tie.Need-write-line-requires
+write-line-requires c κs = search needs
+
+enum-told-3 : tie.Need-enum-told-3
+enum-told-3 c = search needs
 
 put-other-requires-2 : tie.Need-put-other-requires-2
 put-other-requires-2 c κs = search needs
 
 -- the line, and what follows its first field
 abbrev line : tie.After-rest → List ℕ
-line c = c .before .before .before .before .before .before .before .args .line .now
+line c = c .before .before .before .before .before .before .before .before .before .args .line .now
 
 abbrev rest : tie.After-rest → List ℕ
 rest c = let from = c .before .before .before .before .field-end .result + 1 in take (length (line c) - from) (drop from (line c))
@@ -106,11 +118,41 @@ returns-3 c =
 same-length-4 : tie.Need-same-length-4
 same-length-4 c = search needs
 
+same-length-5 : tie.Need-same-length-5
+same-length-5 c = search needs
+
 returns-4 : tie.Need-returns-4
 unfolding answerTo
 returns-4 c =
+    let told = c .before .before .before .before .before .before .before .before in
+    let reader = told .verb2 .given .0 .0 in
+    let here = told .before .before in
+    let e = sym (last-read reader (rest here)) ∙ by-verb here (Read reader) (told .verb2 .given .1) in
+    answered _ _ _ _ _ e (c .before .before .before .before .read-line .ensures)
+
+same-length-6 : tie.Need-same-length-6
+same-length-6 c = search needs
+
+same-length-7 : tie.Need-same-length-7
+same-length-7 c = search needs
+
+same-length-8 : tie.Need-same-length-8
+same-length-8 c = search needs
+
+returns-5 : tie.Need-returns-5
+unfolding answerTo
+returns-5 c =
+    let told = c .before .before .before .before .before .before .before .before .before .before in
+    answered _ _ _ _ _ (by-verb (told .before .before) Write (told .enum-told2 .given .1)) (c .before .before .before .before .before .before .write-line .ensures)
+
+same-length-9 : tie.Need-same-length-9
+same-length-9 c = search needs
+
+returns-6 : tie.Need-returns-6
+unfolding answerTo
+returns-6 c =
     let told = c .before .before .before .before in
-    answered _ _ _ _ _ (by-verb (told .before .before) Other (told .enum-told2 .given .1)) (c .before .before .put-other2 .ensures)
+    answered _ _ _ _ _ (by-verb (told .before .before) Other (told .enum-told3 .given .1)) (c .before .before .put-other2 .ensures)
 
 pub answer-spec : {M : Type 1} → statement M
 answer-spec =
@@ -130,11 +172,22 @@ answer-spec =
     root-requires
     enum-known-verb
     computed-requires
+    enum-known-verb-2
+    read-line-requires
     enum-told-2
+    write-line-requires
+    enum-told-3
     put-other-requires-2
     same-length-2
     returns-2
     same-length-3
     returns-3
     same-length-4
-    returns-4)
+    same-length-5
+    returns-4
+    same-length-6
+    same-length-7
+    same-length-8
+    returns-5
+    same-length-9
+    returns-6)

@@ -13,7 +13,7 @@ use Rattle.lines.proofs.Same.{tested}
 use Rattle.probe_lines.specs.Line.{computedOf, two, ofWidth}
 use Rattle.probe_lines.specs.Blobs.{other}
 use Rattle.probe_lines.specs.declared.float.Work.the-variants.{Root32, Root64}
-use Rattle.probe_lines.proofs.Fields.{root-short, root-fields, answered}
+use Rattle.probe_lines.proofs.Fields.{two-short, root-fields, answered}
 use borrow.Author.Needs.{needs}
 use Rattle.probe_lines.proofs.root.Statement.{statement}
 use Rattle.probe_lines.proofs.root.Tie as tie
@@ -32,7 +32,7 @@ returns c =
     let t = c .before .before .before .before in
     let rest = t .before .before .before .before .args .rest .now in
     let all : indexOf tab rest ≡ length rest = sym (t .before .field-end .ensures .0) ∙ t .if1 .taken in
-    answered _ _ _ _ _ (sym (root-short rest all)) (c .before .before .put-other .ensures)
+    answered _ _ _ _ _ (sym (two-short ofWidth rest all)) (c .before .before .put-other .ensures)
 
 slice-aggregate-width : tie.Need-slice-aggregate-width
 slice-aggregate-width c = sym (length-take-le _ _ (omega arith))

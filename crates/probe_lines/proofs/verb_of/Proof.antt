@@ -1,14 +1,72 @@
--- `verb_of` meets its contract: each test that passes is a case of `verbOf`, after those that failed.
-use mathlib.Core.Path.{_≡_, _∙_}
-use mathlib.Core.Bool.{false}
-use mathlib.Core.List.{List}
+-- `verb_of` meets its contract: each test that fails leaves the words after it, and one that passes names the verb.
+use mathlib.Core.Path.{_≡_, sym, _∙_}
+use mathlib.Core.Bool.{true, false}
+use mathlib.Core.List.{List, [], _∷_}
 use Prim.Native.Nat.{ℕ}
-use Rattle.lines.specs.Text.{word, same}
-use Rattle.lines.proofs.Same.{tested}
+use lib.ListN.{drop}
+use Rattle.lines.specs.Text.{word}
 use Rattle.probe_lines.specs.Line.{verbOf}
+use Rattle.probe_lines.specs.declared.Verb.{Verb}
+use Rattle.probe_lines.specs.declared.Verb.the-variants.{Root, Float, Read, Write, Other}
+use Rattle.probe_lines.specs.declared.blobs.Reader.the-variants.{Plain, Strict}
+use Rattle.probe_lines.specs.declared.float.Work.the-variants.{Narrow, Widen, Trunc}
+use Rattle.probe_lines.proofs.Fields.{named, told}
 use borrow.Author.Needs.{needs}
 use Rattle.probe_lines.proofs.verb_of.Statement.{statement}
 use Rattle.probe_lines.proofs.verb_of.Tie as tie
+
+-- the words in turn, and what those from the n-th on say of a word
+abbrev words : List (List ℕ × Verb)
+words =
+    (word "root", Root) ∷ (word "narrow", Float Narrow) ∷ (word "widen", Float Widen) ∷ (word "trunc", Float Trunc)
+    ∷ (word "read", Read Plain) ∷ (word "strict", Read Strict) ∷ (word "write", Write) ∷ []
+
+abbrev from : ℕ → List ℕ → Verb
+from n w = named (drop n words) Other w
+
+-- the word that is asked for, after each test that failed
+abbrev asked1 : tie.Else1 → List ℕ
+asked1 c = c .before .before .before .before .args .word .now
+
+past1 : (c : tie.Else1) → verbOf (asked1 c) ≡ from 1 (asked1 c)
+unfolding verbOf
+past1 c = told false (c .before .same .ensures) (c .if1 .left) _ _
+
+abbrev asked2 : tie.Else2 → List ℕ
+asked2 c = asked1 (c .before .before .before)
+
+past2 : (c : tie.Else2) → verbOf (asked2 c) ≡ from 2 (asked2 c)
+past2 c = past1 (c .before .before .before) ∙ told false (c .before .same2 .ensures) (c .if2 .left) _ _
+
+abbrev asked3 : tie.Else3 → List ℕ
+asked3 c = asked2 (c .before .before .before)
+
+past3 : (c : tie.Else3) → verbOf (asked3 c) ≡ from 3 (asked3 c)
+past3 c = past2 (c .before .before .before) ∙ told false (c .before .same3 .ensures) (c .if3 .left) _ _
+
+abbrev asked4 : tie.Else4 → List ℕ
+asked4 c = asked3 (c .before .before .before)
+
+past4 : (c : tie.Else4) → verbOf (asked4 c) ≡ from 4 (asked4 c)
+past4 c = past3 (c .before .before .before) ∙ told false (c .before .same4 .ensures) (c .if4 .left) _ _
+
+abbrev asked5 : tie.Else5 → List ℕ
+asked5 c = asked4 (c .before .before .before)
+
+past5 : (c : tie.Else5) → verbOf (asked5 c) ≡ from 5 (asked5 c)
+past5 c = past4 (c .before .before .before) ∙ told false (c .before .same5 .ensures) (c .if5 .left) _ _
+
+abbrev asked6 : tie.Else6 → List ℕ
+asked6 c = asked5 (c .before .before .before)
+
+past6 : (c : tie.Else6) → verbOf (asked6 c) ≡ from 6 (asked6 c)
+past6 c = past5 (c .before .before .before) ∙ told false (c .before .same6 .ensures) (c .if6 .left) _ _
+
+abbrev asked7 : tie.Else7 → List ℕ
+asked7 c = asked6 (c .before .before .before)
+
+past7 : (c : tie.Else7) → verbOf (asked7 c) ≡ from 7 (asked7 c)
+past7 c = past6 (c .before .before .before) ∙ told false (c .before .same7 .ensures) (c .if7 .left) _ _
 
 slice-aggregate-same : tie.Need-slice-aggregate-same
 slice-aggregate-same c = search needs
@@ -16,34 +74,9 @@ slice-aggregate-same c = search needs
 same-requires : tie.Need-same-requires
 same-requires c κs = search needs
 
--- the word that is asked for, at each test that failed
-abbrev asked1 : tie.Else1 → List ℕ
-asked1 c = c .before .before .before .before .args .word .now
-
-abbrev asked2 : tie.Else2 → List ℕ
-asked2 c = asked1 (c .before .before .before)
-
-abbrev asked3 : tie.Else3 → List ℕ
-asked3 c = asked2 (c .before .before .before)
-
-abbrev asked4 : tie.Else4 → List ℕ
-asked4 c = asked3 (c .before .before .before)
-
-not-root : (c : tie.Else1) → same (asked1 c) (word "root") ≡ false
-not-root c = tested _ _ _ (c .before .same .ensures) ∙ c .if1 .left
-
-not-narrow : (c : tie.Else2) → same (asked2 c) (word "narrow") ≡ false
-not-narrow c = tested _ _ _ (c .before .same2 .ensures) ∙ c .if2 .left
-
-not-widen : (c : tie.Else3) → same (asked3 c) (word "widen") ≡ false
-not-widen c = tested _ _ _ (c .before .same3 .ensures) ∙ c .if3 .left
-
-not-trunc : (c : tie.Else4) → same (asked4 c) (word "trunc") ≡ false
-not-trunc c = tested _ _ _ (c .before .same4 .ensures) ∙ c .if4 .left
-
 returns : tie.Need-returns
 unfolding verbOf
-returns c = rw (tested _ _ _ (c .before .same .ensures) ∙ c .if1 .taken)
+returns c = sym (told true (c .before .same .ensures) (c .if1 .taken) _ _)
 
 slice-aggregate-same-2 : tie.Need-slice-aggregate-same-2
 slice-aggregate-same-2 c = search needs
@@ -52,8 +85,7 @@ same-requires-2 : tie.Need-same-requires-2
 same-requires-2 c κs = search needs
 
 returns-2 : tie.Need-returns-2
-unfolding verbOf
-returns-2 c = rw (not-root (c .before .before .before), tested _ _ _ (c .before .same2 .ensures) ∙ c .if2 .taken)
+returns-2 c = sym (past1 (c .before .before .before) ∙ told true (c .before .same2 .ensures) (c .if2 .taken) _ _)
 
 slice-aggregate-same-3 : tie.Need-slice-aggregate-same-3
 slice-aggregate-same-3 c = search needs
@@ -62,11 +94,7 @@ same-requires-3 : tie.Need-same-requires-3
 same-requires-3 c κs = search needs
 
 returns-3 : tie.Need-returns-3
-unfolding verbOf
-returns-3 c =
-    let c2 = c .before .before .before in
-    let c1 = c2 .before .before .before in
-    rw (not-root c1, not-narrow c2, tested _ _ _ (c .before .same3 .ensures) ∙ c .if3 .taken)
+returns-3 c = sym (past2 (c .before .before .before) ∙ told true (c .before .same3 .ensures) (c .if3 .taken) _ _)
 
 slice-aggregate-same-4 : tie.Need-slice-aggregate-same-4
 slice-aggregate-same-4 c = search needs
@@ -75,20 +103,37 @@ same-requires-4 : tie.Need-same-requires-4
 same-requires-4 c κs = search needs
 
 returns-4 : tie.Need-returns-4
-unfolding verbOf
-returns-4 c =
-    let c3 = c .before .before .before in
-    let c2 = c3 .before .before .before in
-    let c1 = c2 .before .before .before in
-    rw (not-root c1, not-narrow c2, not-widen c3, tested _ _ _ (c .before .same4 .ensures) ∙ c .if4 .taken)
+returns-4 c = sym (past3 (c .before .before .before) ∙ told true (c .before .same4 .ensures) (c .if4 .taken) _ _)
+
+slice-aggregate-same-5 : tie.Need-slice-aggregate-same-5
+slice-aggregate-same-5 c = search needs
+
+same-requires-5 : tie.Need-same-requires-5
+same-requires-5 c κs = search needs
 
 returns-5 : tie.Need-returns-5
-unfolding verbOf
-returns-5 c =
-    let c3 = c .before .before .before in
-    let c2 = c3 .before .before .before in
-    let c1 = c2 .before .before .before in
-    rw (not-root c1, not-narrow c2, not-widen c3, not-trunc c)
+returns-5 c = sym (past4 (c .before .before .before) ∙ told true (c .before .same5 .ensures) (c .if5 .taken) _ _)
+
+slice-aggregate-same-6 : tie.Need-slice-aggregate-same-6
+slice-aggregate-same-6 c = search needs
+
+same-requires-6 : tie.Need-same-requires-6
+same-requires-6 c κs = search needs
+
+returns-6 : tie.Need-returns-6
+returns-6 c = sym (past5 (c .before .before .before) ∙ told true (c .before .same6 .ensures) (c .if6 .taken) _ _)
+
+slice-aggregate-same-7 : tie.Need-slice-aggregate-same-7
+slice-aggregate-same-7 c = search needs
+
+same-requires-7 : tie.Need-same-requires-7
+same-requires-7 c κs = search needs
+
+returns-7 : tie.Need-returns-7
+returns-7 c = sym (past6 (c .before .before .before) ∙ told true (c .before .same7 .ensures) (c .if7 .taken) _ _)
+
+returns-8 : tie.Need-returns-8
+returns-8 c = sym (past7 c)
 
 pub verb-of-spec : {M : Type 1} → statement M
 verb-of-spec =
@@ -106,4 +151,13 @@ verb-of-spec =
     slice-aggregate-same-4
     same-requires-4
     returns-4
-    returns-5)
+    slice-aggregate-same-5
+    same-requires-5
+    returns-5
+    slice-aggregate-same-6
+    same-requires-6
+    returns-6
+    slice-aggregate-same-7
+    same-requires-7
+    returns-7
+    returns-8)

@@ -1,20 +1,21 @@
--- `serve_chunk` meets its contract. The loop's invariant: what is held keeps to its room, and there are no more lines than bytes served.
+-- `serve_chunk` meets its contract. The loop's invariant: the buffers keep their lengths, what is held keeps to its room, and there are no more lines than bytes served.
 use Prim.Native.Nat.{_+_, _-_, _≤_}
 use mathlib.Core.Path.{_≡_, sym}
 use native.Mathlib.Omega.{arith}
-use borrow.Author.Needs.{needs}
 use lib.ListN.{length}
 use lib.Seq.{length-take-le}
 use Rattle.probe_lines.specs.Limits.{longest}
+use borrow.Author.Needs.{needs}
 use Rattle.vecprobe.proofs.serve_chunk.Statement.{statement}
 use Rattle.vecprobe.proofs.serve_chunk.Tie as tie
 
 abbrev Inv-loop : tie.InvT-loop
-Inv-loop chunk kept₀ out₀ line₀ at₀ filled₀ kept out line at filled =
-    (at ≤ length chunk) × (filled ≤ length out) × (length out ≡ length out₀) × (length kept ≡ length kept₀) × (line .count ≤ length kept) × (line .before ≤ line₀ .before + at)
+Inv-loop chunk kept₀ spelled₀ made₀ out₀ line₀ at₀ filled₀ kept spelled made out line at filled =
+    (at ≤ length chunk) × (filled ≤ length out) × (line .count ≤ length kept) × (line .before ≤ line₀ .before + at)
+    × (length kept ≡ length kept₀) × (length spelled ≡ length spelled₀) × (length made ≡ length made₀) × (length out ≡ length out₀)
 
 abbrev μ-loop : tie.MeasureT-loop
-μ-loop chunk kept₀ out₀ line₀ at₀ filled₀ kept out line at filled = length chunk - at
+μ-loop chunk kept₀ spelled₀ made₀ out₀ line₀ at₀ filled₀ kept spelled made out line at filled = length chunk - at
 
 loop-holds : tie.Need-loop-holds Inv-loop μ-loop
 loop-holds c = search needs
@@ -34,6 +35,12 @@ same-length c = search needs
 same-length-2 : tie.Need-same-length-2 Inv-loop μ-loop
 same-length-2 c = search needs
 
+same-length-3 : tie.Need-same-length-3 Inv-loop μ-loop
+same-length-3 c = search needs
+
+same-length-4 : tie.Need-same-length-4 Inv-loop μ-loop
+same-length-4 c = search needs
+
 returns : tie.Need-returns Inv-loop μ-loop
 returns c = search needs
 
@@ -42,7 +49,7 @@ roomy : (c : tie.After-room Inv-loop μ-loop) → c .room .given .0 .0 + longest
 roomy c = rw (c .room .given .1) at (c .before .before .make-room .ensures)
 
 serve-from-requires : tie.Need-serve-from-requires Inv-loop μ-loop
-serve-from-requires c κs = (omega arith, (omega arith, (omega arith, roomy (c .before .before .before))))
+serve-from-requires c κs = (omega arith, (omega arith, (omega arith, (omega arith, (omega arith, roomy (c .before .before .before .before .before))))))
 
 loop-less : tie.Need-loop-less Inv-loop μ-loop
 loop-less c = search needs
@@ -59,11 +66,17 @@ slice-aggregate-write-all c = sym (length-take-le _ _ (omega arith))
 write-all-requires : tie.Need-write-all-requires Inv-loop μ-loop
 write-all-requires c κs = search needs
 
-same-length-3 : tie.Need-same-length-3 Inv-loop μ-loop
-same-length-3 c = search needs
+same-length-5 : tie.Need-same-length-5 Inv-loop μ-loop
+same-length-5 c = search needs
 
-same-length-4 : tie.Need-same-length-4 Inv-loop μ-loop
-same-length-4 c = search needs
+same-length-6 : tie.Need-same-length-6 Inv-loop μ-loop
+same-length-6 c = search needs
+
+same-length-7 : tie.Need-same-length-7 Inv-loop μ-loop
+same-length-7 c = search needs
+
+same-length-8 : tie.Need-same-length-8 Inv-loop μ-loop
+same-length-8 c = search needs
 
 returns-2 : tie.Need-returns-2 Inv-loop μ-loop
 returns-2 c = search needs
@@ -80,6 +93,8 @@ serve-chunk-spec =
     enum-told
     same-length
     same-length-2
+    same-length-3
+    same-length-4
     returns
     serve-from-requires
     loop-less
@@ -87,6 +102,8 @@ serve-chunk-spec =
     slice-reshare-prefix-write-all
     slice-aggregate-write-all
     write-all-requires
-    same-length-3
-    same-length-4
+    same-length-5
+    same-length-6
+    same-length-7
+    same-length-8
     returns-2)

@@ -5,7 +5,7 @@ use native.Mathlib.Nat.{pow-le-pow-right}
 use borrow.Author.Tests.{eq-eqb, ne-eqb}
 use lib.Dec.{lit<}
 use lib.ListN.{length}
-use Rattle.lines.specs.Hex.{patternOf, hexFrom}
+use Rattle.lines.specs.Hex.{patternOf}
 use Rattle.lines.proofs.hex.pattern.Statement.{statement}
 use Rattle.lines.proofs.hex.pattern.Tie as tie
 
@@ -19,7 +19,7 @@ number-requires c κs =
     pow-le-pow-right {n = 16} (lit< tt) few
 
 returns-2 : tie.Need-returns-2
-unfolding patternOf hexFrom
+unfolding patternOf
 returns-2 c = rw (eq-eqb _ _ (c .before .if1 .left)) (c .number .ensures)
 
 pub pattern-spec : {M : Type 1} → statement M

@@ -1,91 +1,81 @@
+-- `blobs::kind_of` meets its contract: each test that passes is a case of `kindOf`, after those that failed.
+use mathlib.Core.Path.{_≡_, _∙_}
+use mathlib.Core.Bool.{false}
+use mathlib.Core.List.{List}
+use Prim.Native.Nat.{ℕ}
+use Rattle.lines.specs.Text.{word, same}
+use Rattle.lines.proofs.Same.{tested}
+use Rattle.probe_lines.specs.Blobs.{kindOf}
 use borrow.Author.Needs.{needs}
 use Rattle.probe_lines.proofs.blobs.kind_of.Statement.{statement}
 use Rattle.probe_lines.proofs.blobs.kind_of.Tie as tie
-use Rattle.probe_lines.proofs.blobs.kind_of.Reads as reads
-use Rattle.probe_lines.proofs.blobs.kind_of.Lts as lts
-use Rattle.check.proofs.same.Reads as same-reads
 
--- src/blobs.rt:112:27
-slice-aggregate-same : tie.Need-slice-aggregate-same
-slice-aggregate-same c = search needs
+-- the field, at each test that failed
+abbrev field1 : tie.Else1 → List ℕ
+field1 c = c .before .before .before .before .args .field .now
 
--- src/blobs.rt:112:8
-same-requires : tie.Need-same-requires
-same-requires c κs = search needs
+abbrev field2 : tie.Else2 → List ℕ
+field2 c = field1 (c .before .before .before)
 
--- src/blobs.rt:113:9
+abbrev field3 : tie.Else3 → List ℕ
+field3 c = field2 (c .before .before .before)
+
+abbrev field4 : tie.Else4 → List ℕ
+field4 c = field3 (c .before .before .before)
+
+not-1 : (c : tie.Else1) → same (field1 c) (word "1") ≡ false
+not-1 c = tested _ _ _ (c .before .same .ensures) ∙ c .if1 .left
+
+not-2 : (c : tie.Else2) → same (field2 c) (word "2") ≡ false
+not-2 c = tested _ _ _ (c .before .same2 .ensures) ∙ c .if2 .left
+
+not-3 : (c : tie.Else3) → same (field3 c) (word "3") ≡ false
+not-3 c = tested _ _ _ (c .before .same3 .ensures) ∙ c .if3 .left
+
+not-4 : (c : tie.Else4) → same (field4 c) (word "4") ≡ false
+not-4 c = tested _ _ _ (c .before .same4 .ensures) ∙ c .if4 .left
+
 returns : tie.Need-returns
-returns c = ?
+unfolding kindOf
+returns c = rw (tested _ _ _ (c .before .same .ensures) ∙ c .if1 .taken)
 
--- src/blobs.rt:115:27
-slice-aggregate-same-2 : tie.Need-slice-aggregate-same-2
-slice-aggregate-same-2 c = search needs
-
--- src/blobs.rt:115:8
-same-requires-2 : tie.Need-same-requires-2
-same-requires-2 c κs = search needs
-
--- src/blobs.rt:116:9
 returns-2 : tie.Need-returns-2
-returns-2 c = ?
+unfolding kindOf
+returns-2 c = rw (not-1 (c .before .before .before), tested _ _ _ (c .before .same2 .ensures) ∙ c .if2 .taken)
 
--- src/blobs.rt:118:27
-slice-aggregate-same-3 : tie.Need-slice-aggregate-same-3
-slice-aggregate-same-3 c = search needs
-
--- src/blobs.rt:118:8
-same-requires-3 : tie.Need-same-requires-3
-same-requires-3 c κs = search needs
-
--- src/blobs.rt:119:9
 returns-3 : tie.Need-returns-3
-returns-3 c = ?
+unfolding kindOf
+returns-3 c =
+    let c2 = c .before .before .before in
+    rw (not-1 (c2 .before .before .before), not-2 c2, tested _ _ _ (c .before .same3 .ensures) ∙ c .if3 .taken)
 
--- src/blobs.rt:121:27
-slice-aggregate-same-4 : tie.Need-slice-aggregate-same-4
-slice-aggregate-same-4 c = search needs
-
--- src/blobs.rt:121:8
-same-requires-4 : tie.Need-same-requires-4
-same-requires-4 c κs = search needs
-
--- src/blobs.rt:122:9
 returns-4 : tie.Need-returns-4
-returns-4 c = ?
+unfolding kindOf
+returns-4 c =
+    let c3 = c .before .before .before in
+    let c2 = c3 .before .before .before in
+    rw (not-1 (c2 .before .before .before), not-2 c2, not-3 c3, tested _ _ _ (c .before .same4 .ensures) ∙ c .if4 .taken)
 
--- src/blobs.rt:124:27
-slice-aggregate-same-5 : tie.Need-slice-aggregate-same-5
-slice-aggregate-same-5 c = search needs
-
--- src/blobs.rt:124:8
-same-requires-5 : tie.Need-same-requires-5
-same-requires-5 c κs = search needs
-
--- src/blobs.rt:125:9
 returns-5 : tie.Need-returns-5
-returns-5 c = ?
+unfolding kindOf
+returns-5 c =
+    let c4 = c .before .before .before in
+    let c3 = c4 .before .before .before in
+    let c2 = c3 .before .before .before in
+    rw (not-1 (c2 .before .before .before), not-2 c2, not-3 c3, not-4 c4, tested _ _ _ (c .before .same5 .ensures) ∙ c .if5 .taken)
 
--- src/blobs.rt:109:1
 returns-6 : tie.Need-returns-6
-returns-6 c = ?
+unfolding kindOf
+returns-6 c =
+    let c4 = c .before .before .before in
+    let c3 = c4 .before .before .before in
+    let c2 = c3 .before .before .before in
+    rw (not-1 (c2 .before .before .before), not-2 c2, not-3 c3, not-4 c4, tested _ _ _ (c .before .same5 .ensures) ∙ c .if5 .left)
 
 pub kind-of-spec : {M : Type 1} → statement M
 kind-of-spec =
     tie.close
     (tie.spec
-    slice-aggregate-same
-    same-requires
-    returns
-    slice-aggregate-same-2
-    same-requires-2
-    returns-2
-    slice-aggregate-same-3
-    same-requires-3
-    returns-3
-    slice-aggregate-same-4
-    same-requires-4
-    returns-4
-    slice-aggregate-same-5
-    same-requires-5
-    returns-5
-    returns-6)
+    (λ c. search needs) (λ c κs. search needs) returns (λ c. search needs) (λ c κs. search needs) returns-2
+    (λ c. search needs) (λ c κs. search needs) returns-3 (λ c. search needs) (λ c κs. search needs) returns-4
+    (λ c. search needs) (λ c κs. search needs) returns-5 returns-6)

@@ -1,58 +1,42 @@
+-- `blobs::put_read` meets its contract: what the reader shows is put, or the refusal.
+use mathlib.Core.Path.{_≡_, sym, ap, _∙_}
+use Rattle.vector_types.specs.declared.ReadAnswer.{ReadAnswer}
+use Rattle.vector_types.specs.declared.ReadAnswer.the-variants.{View, Refused}
+use Rattle.probe_lines.specs.Blobs.{viewText, readerOf}
+use Rattle.probe_lines.proofs.Fields.{answered}
+use Rattle.probe_lines.proofs.BlobTexts.{seen-within}
 use borrow.Author.Needs.{needs}
+use native.Mathlib.Omega.{arith}
 use Rattle.probe_lines.proofs.blobs.put_read.Statement.{statement}
 use Rattle.probe_lines.proofs.blobs.put_read.Tie as tie
-use Rattle.probe_lines.proofs.blobs.put_read.Reads as reads
-use Rattle.probe_lines.proofs.blobs.put_read.Lts as lts
-use Rattle.probe_lines.proofs.blobs.put_refusal.Reads as put-refusal-reads
-use Rattle.probe_lines.proofs.blobs.put_view.Reads as put-view-reads
-use Rattle.probe_lines.proofs.blobs.read_by.Reads as read-by-reads
 
--- src/blobs.rt:89:11
-read-by-requires : tie.Need-read-by-requires
-read-by-requires c κs = search needs
+-- what the reader answers, in each arm
+shown : (c : tie.After-view) → let a = c .before .before .before .before .before .args in readerOf (a .reader) (a .blob .now) ≡ View (c .view .given .0 .0)
+shown c = sym (c .before .before .read-by .ensures) ∙ c .view .given .1
 
--- src/blobs.rt:90:26
-enum-known-view : tie.Need-enum-known-view
-enum-known-view c = search needs
+refused : (c : tie.After-refusal) → let a = c .before .before .before .before .before .args in readerOf (a .reader) (a .blob .now) ≡ Refused (c .refusal .given .0 .0)
+refused c = sym (c .before .before .read-by .ensures) ∙ c .refusal .given .1
 
--- src/blobs.rt:90:35
 put-view-requires : tie.Need-put-view-requires
-put-view-requires c κs = ?
+put-view-requires c κs =
+    let a = c .before .before .before .before .before .before .before .args in
+    let w = seen-within (a .reader) (a .blob .now) _ (shown (c .before .before)) in
+    (w .0, (w .1, omega arith))
 
--- src/blobs.rt:91:29
-enum-known-refusal : tie.Need-enum-known-refusal
-enum-known-refusal c = search needs
-
--- src/blobs.rt:91:41
-put-refusal-requires : tie.Need-put-refusal-requires
-put-refusal-requires c κs = search needs
-
--- src/blobs.rt:84:1
-same-length : tie.Need-same-length
-same-length c = search needs
-
--- src/blobs.rt:84:1
 returns : tie.Need-returns
-returns c = ?
+returns c =
+    let a = c .before .before .before .before .before .before .before .before .before .before .args in
+    answered _ _ _ _ _ (sym (ap (λ (r : ReadAnswer). viewText r (a .blob .now)) (shown (c .before .before .before .before .before)))) (c .before .before .put-view .ensures)
 
--- src/blobs.rt:84:1
-same-length-2 : tie.Need-same-length-2
-same-length-2 c = search needs
-
--- src/blobs.rt:84:1
 returns-2 : tie.Need-returns-2
-returns-2 c = ?
+unfolding viewText
+returns-2 c =
+    let a = c .before .before .before .before .before .before .before .before .before .before .args in
+    answered _ _ _ _ _ (sym (ap (λ (r : ReadAnswer). viewText r (a .blob .now)) (refused (c .before .before .before .before .before)))) (c .before .before .put-refusal .ensures)
 
 pub put-read-spec : {M : Type 1} → statement M
 put-read-spec =
     tie.close
     (tie.spec
-    read-by-requires
-    enum-known-view
-    put-view-requires
-    enum-known-refusal
-    put-refusal-requires
-    same-length
-    returns
-    same-length-2
-    returns-2)
+    (λ c κs. search needs) (λ c. search needs) put-view-requires (λ c. search needs) (λ c κs. search needs)
+    (λ c. search needs) returns (λ c. search needs) returns-2)

@@ -1,119 +1,60 @@
+-- `blobs::put_view` meets its contract: kind, dims and body are written one after another.
+use mathlib.Core.Path.{_≡_, sym}
+use mathlib.Core.List.{_++_, append-assoc}
+use Prim.Native.Nat.{_+_}
+use lib.ListN.{length, take}
+use lib.Seq.{length-take-le}
+use Rattle.vector_types.specs.Layout.{byteOf}
+use Rattle.vector_types.specs.declared.ReadAnswer.the-variants.{View}
+use Rattle.lines.specs.Text.{word}
+use Rattle.lines.specs.Hex.{hexOf}
+use Rattle.lines.specs.Printed.{headOf}
+use Rattle.probe_lines.specs.Blobs.{viewText}
+use Rattle.probe_lines.proofs.Fields.{answered}
+use Rattle.probe_lines.proofs.BlobTexts.{puts-then}
 use borrow.Author.Needs.{needs}
+use native.Mathlib.Omega.{arith}
 use Rattle.probe_lines.proofs.blobs.put_view.Statement.{statement}
 use Rattle.probe_lines.proofs.blobs.put_view.Tie as tie
-use Rattle.probe_lines.proofs.blobs.put_view.Reads as reads
-use Rattle.probe_lines.proofs.blobs.put_view.Lts as lts
-use Rattle.bytes.proofs.copy.Reads as copy-reads
-use Rattle.lines.proofs.hex.put_bytes.Reads as put-bytes-reads
-use Rattle.lines.proofs.text.put_head.Reads as put-head-reads
-use Rattle.probe_lines.proofs.blobs.type_byte.Reads as type-byte-reads
 
--- src/blobs.rt:68:28
-slice-aggregate-copy : tie.Need-slice-aggregate-copy
-slice-aggregate-copy c = search needs
+-- how long the body is
+size : (c : tie.Start) → let a = c .args in length (take (a .view .length) (a .blob .now)) ≡ a .view .length
+size c = length-take-le _ _ (c .pre .0)
 
--- src/blobs.rt:68:9
-copy-requires : tie.Need-copy-requires
-copy-requires c κs = search needs
-
--- src/blobs.rt:69:46
-type-byte-requires : tie.Need-type-byte-requires
-type-byte-requires c κs = search needs
-
--- src/blobs.rt:69:63
-sub-put-head : tie.Need-sub-put-head
-sub-put-head c = search needs
-
--- src/blobs.rt:69:63
-part-put-head-start : tie.Need-part-put-head-start
-part-put-head-start c = search needs
-
--- src/blobs.rt:69:63
-part-put-head-end : tie.Need-part-put-head-end
-part-put-head-end c = search needs
-
--- src/blobs.rt:69:24
-put-head-requires : tie.Need-put-head-requires
-put-head-requires c κs = search needs
-
--- src/blobs.rt:69:17
-add-named : tie.Need-add-named
-add-named c = search needs
-
--- src/blobs.rt:70:62
-sub-put-head-2 : tie.Need-sub-put-head-2
-sub-put-head-2 c = search needs
-
--- src/blobs.rt:70:62
-part-put-head-start-2 : tie.Need-part-put-head-start-2
-part-put-head-start-2 c = search needs
-
--- src/blobs.rt:70:62
-part-put-head-end-2 : tie.Need-part-put-head-end-2
-part-put-head-end-2 c = search needs
-
--- src/blobs.rt:70:25
-put-head-requires-2 : tie.Need-put-head-requires-2
-put-head-requires-2 c κs = search needs
-
--- src/blobs.rt:70:17
-add-sized : tie.Need-add-sized
-add-sized c = search needs
-
--- src/blobs.rt:71:35
 slice-aggregate-put-bytes : tie.Need-slice-aggregate-put-bytes
-slice-aggregate-put-bytes c = ?
+slice-aggregate-put-bytes c = sym (size (c .before .before .before .before .before .before .before .before .before .before .before .before .before .before .before .before .before .before))
 
--- src/blobs.rt:71:52
-sub-put-bytes : tie.Need-sub-put-bytes
-sub-put-bytes c = search needs
-
--- src/blobs.rt:71:52
-part-put-bytes-start : tie.Need-part-put-bytes-start
-part-put-bytes-start c = search needs
-
--- src/blobs.rt:71:52
-part-put-bytes-end : tie.Need-part-put-bytes-end
-part-put-bytes-end c = search needs
-
--- src/blobs.rt:71:13
 put-bytes-requires : tie.Need-put-bytes-requires
-put-bytes-requires c κs = ?
+put-bytes-requires c κs = omega (arith, size (c .before .before .before .before .before .before .before .before .before .before .before .before .before .before .before .before .before .before .before))
 
--- src/blobs.rt:71:5
 add-result : tie.Need-add-result
-add-result c = ?
+add-result c = omega (arith, c .before .before .put-bytes .ensures .1 .1, size (c .before .before .before .before .before .before .before .before .before .before .before .before .before .before .before .before .before .before .before .before .before .before))
 
--- src/blobs.rt:58:1
-same-length : tie.Need-same-length
-same-length c = search needs
-
--- src/blobs.rt:58:1
 returns : tie.Need-returns
-returns c = ?
+unfolding viewText
+returns c =
+    let d = c .before .before .put-bytes in
+    let second = c .before .before .before .before .before .before .before in
+    let n = second .put-head2 in
+    let first = second .before .before .before .before in
+    let k = first .put-head in
+    let byte = first .before .before .type-byte in
+    let h = first .before .before .before .before .before .copy in
+    let a = first .before .before .before .before .before .before .before .before .before .before .before .args in
+    let kind = headOf (byte .result) in
+    let dims = headOf (a .view .dims .0) in
+    let body = hexOf (take (a .view .length) (a .blob .now)) in
+    let p = puts-then (word "V\t") kind (a .out .now) _ _ (h .result) _ (h .ensures) (k .ensures .0, k .ensures .1 .0) in
+    let q = puts-then (word "V\t" ++ kind) dims (a .out .now) _ _ (h .result + k .result) _ p (n .ensures .0, n .ensures .1 .0) in
+    let r = puts-then ((word "V\t" ++ kind) ++ dims) body (a .out .now) _ _ (h .result + k .result + n .result) _ q (d .ensures .0, d .ensures .1 .0) in
+    let text : ((word "V\t" ++ kind) ++ dims) ++ body ≡ viewText (View (a .view)) (a .blob .now) = rw (byte .ensures, append-assoc (headOf (byteOf (a .view .kind))) dims body) in
+    answered _ _ (a .out .now) _ _ text r
 
 pub put-view-spec : {M : Type 1} → statement M
 put-view-spec =
     tie.close
     (tie.spec
-    slice-aggregate-copy
-    copy-requires
-    type-byte-requires
-    sub-put-head
-    part-put-head-start
-    part-put-head-end
-    put-head-requires
-    add-named
-    sub-put-head-2
-    part-put-head-start-2
-    part-put-head-end-2
-    put-head-requires-2
-    add-sized
-    slice-aggregate-put-bytes
-    sub-put-bytes
-    part-put-bytes-start
-    part-put-bytes-end
-    put-bytes-requires
-    add-result
-    same-length
-    returns)
+    (λ c. search needs) (λ c κs. search needs) (λ c κs. search needs) (λ c. search needs) (λ c. search needs)
+    (λ c. search needs) (λ c κs. search needs) (λ c. search needs) (λ c. search needs) (λ c. search needs)
+    (λ c. search needs) (λ c κs. search needs) (λ c. search needs) slice-aggregate-put-bytes (λ c. search needs)
+    (λ c. search needs) (λ c. search needs) put-bytes-requires add-result (λ c. search needs) returns)

@@ -1,73 +1,35 @@
+-- `blobs::read_line` meets its contract: X, or what the reader shows of the bytes that the field spells.
+use mathlib.Core.Path.{sym}
+use lib.Seq.{length-take-le}
+use Rattle.probe_lines.specs.Blobs.{shownText, readText}
+use Rattle.probe_lines.proofs.Fields.{answered}
+use Rattle.probe_lines.proofs.BlobTexts.{spelled-part, spelled-all}
 use borrow.Author.Needs.{needs}
+use native.Mathlib.Omega.{arith}
 use Rattle.probe_lines.proofs.blobs.read_line.Statement.{statement}
 use Rattle.probe_lines.proofs.blobs.read_line.Tie as tie
-use Rattle.probe_lines.proofs.blobs.read_line.Reads as reads
-use Rattle.probe_lines.proofs.blobs.read_line.Lts as lts
-use Rattle.lines.proofs.hex.bytes.Reads as bytes-reads
-use Rattle.probe_lines.proofs.blobs.put_read.Reads as put-read-reads
-use Rattle.probe_lines.proofs.float.put_other.Reads as put-other-reads
 
--- src/blobs.rt:102:9
-bytes-requires : tie.Need-bytes-requires
-bytes-requires c κs = search needs
-
--- src/blobs.rt:103:8
-mul-if1 : tie.Need-mul-if1
-mul-if1 c = search needs
-
--- src/blobs.rt:104:9
-put-other-requires : tie.Need-put-other-requires
-put-other-requires c κs = search needs
-
--- src/blobs.rt:104:9
-same-length : tie.Need-same-length
-same-length c = search needs
-
--- src/blobs.rt:104:9
-same-length-2 : tie.Need-same-length-2
-same-length-2 c = search needs
-
--- src/blobs.rt:104:9
 returns : tie.Need-returns
-returns c = ?
+unfolding readText
+returns c =
+    let a = c .before .before .before .before .before .before .before .before .before .before .before .before .args in
+    let s = c .before .before .before .before .before .before .before .bytes in
+    answered _ _ _ _ _ (spelled-part (shownText (a .reader)) (a .field .now) (s .result) (s .ensures .0) (c .before .before .before .before .if1 .taken)) (c .before .before .put-other .ensures)
 
--- src/blobs.rt:106:22
-slice-reshare-prefix-put-read : tie.Need-slice-reshare-prefix-put-read
-slice-reshare-prefix-put-read c = search needs
-
--- src/blobs.rt:106:22
 slice-aggregate-put-read : tie.Need-slice-aggregate-put-read
-slice-aggregate-put-read c = ?
+slice-aggregate-put-read c = sym (length-take-le _ _ (omega arith))
 
--- src/blobs.rt:106:5
-put-read-requires : tie.Need-put-read-requires
-put-read-requires c κs = search needs
-
--- src/blobs.rt:96:1
-same-length-3 : tie.Need-same-length-3
-same-length-3 c = search needs
-
--- src/blobs.rt:96:1
-same-length-4 : tie.Need-same-length-4
-same-length-4 c = search needs
-
--- src/blobs.rt:96:1
 returns-2 : tie.Need-returns-2
-returns-2 c = ?
+unfolding readText
+returns-2 c =
+    let a = c .before .before .before .before .before .before .before .before .before .before .before .before .before .args in
+    let s = c .before .before .before .before .before .before .before .before .bytes in
+    let e = spelled-all (shownText (a .reader)) (a .field .now) (s .result) (a .spelled .now) (s .last .1 .0) (s .ensures .0, s .ensures .1 .0) (c .before .before .before .before .before .if1 .left) in
+    answered _ _ _ _ _ e (c .before .before .put-read .ensures)
 
 pub read-line-spec : {M : Type 1} → statement M
 read-line-spec =
     tie.close
     (tie.spec
-    bytes-requires
-    mul-if1
-    put-other-requires
-    same-length
-    same-length-2
-    returns
-    slice-reshare-prefix-put-read
-    slice-aggregate-put-read
-    put-read-requires
-    same-length-3
-    same-length-4
-    returns-2)
+    (λ c κs. search needs) (λ c. search needs) (λ c κs. search needs) (λ c. search needs) (λ c. search needs) returns
+    (λ c. search needs) slice-aggregate-put-read (λ c κs. search needs) (λ c. search needs) (λ c. search needs) returns-2)

@@ -1,140 +1,73 @@
+-- `blobs::write_line` meets its contract: X for fewer than three fields, else what `write_found` answers to them.
+use mathlib.Core.Path.{_≡_, sym, ap₂, _∙_}
+use mathlib.Core.List.{List}
+use Prim.Native.Nat.{ℕ}
+use lib.ListN.{length, take}
+use lib.Seq.{length-take-le}
+use Rattle.bytes.specs.Bytes.{indexOf}
+use Rattle.lines.specs.Text.{tab}
+use Rattle.lines.specs.Parts.{fieldsOf}
+use Rattle.lines.specs.declared.hex.Found.{Found}
+use Rattle.probe_lines.specs.declared.blobs.Kind.{Kind}
+use Rattle.probe_lines.specs.Line.{two, three}
+use Rattle.probe_lines.specs.Blobs.{writeText, writtenBy}
+use Rattle.probe_lines.proofs.Fields.{answered, two-short}
+use Rattle.probe_lines.proofs.BlobTexts.{after, three-short, three-fields, write-fields}
 use borrow.Author.Needs.{needs}
+use native.Mathlib.Omega.{arith}
 use Rattle.probe_lines.proofs.blobs.write_line.Statement.{statement}
 use Rattle.probe_lines.proofs.blobs.write_line.Tie as tie
-use Rattle.probe_lines.proofs.blobs.write_line.Reads as reads
-use Rattle.probe_lines.proofs.blobs.write_line.Lts as lts
-use Rattle.lines.proofs.text.field_end.Reads as field-end-reads
-use Rattle.lines.proofs.text.numeral.Reads as numeral-reads
-use Rattle.probe_lines.proofs.blobs.kind_of.Reads as kind-of-reads
-use Rattle.probe_lines.proofs.blobs.write_found.Reads as write-found-reads
-use Rattle.probe_lines.proofs.float.put_other.Reads as put-other-reads
 
--- src/blobs.rt:184:9
-field-end-requires : tie.Need-field-end-requires
-field-end-requires c κs = search needs
-
--- src/blobs.rt:186:9
-put-other-requires : tie.Need-put-other-requires
-put-other-requires c κs = search needs
-
--- src/blobs.rt:186:9
-same-length : tie.Need-same-length
-same-length c = search needs
-
--- src/blobs.rt:186:9
 returns : tie.Need-returns
-returns c = ?
+returns c =
+    let t = c .before .before .before .before in
+    let rest = t .before .before .before .before .before .before .args .rest .now in
+    let all : indexOf tab rest ≡ length rest = sym (t .before .field-end .ensures .0) ∙ t .if1 .taken in
+    answered _ _ _ _ _ (sym (three-short writeText rest all)) (c .before .before .put-other .ensures)
 
--- src/blobs.rt:188:24
 slice-aggregate-kind-of : tie.Need-slice-aggregate-kind-of
-slice-aggregate-kind-of c = ?
+slice-aggregate-kind-of c = sym (length-take-le _ _ (omega arith))
 
--- src/blobs.rt:188:9
-kind-of-requires : tie.Need-kind-of-requires
-kind-of-requires c κs = search needs
+-- K|N|H, K and N|H
+abbrev rest : tie.After-field-end2 → List ℕ
+rest c = c .before .before .before .before .before .before .before .before .before .before .args .rest .now
 
--- src/blobs.rt:189:22
-add-more : tie.Need-add-more
-add-more c = search needs
+abbrev kind : tie.After-field-end2 → List ℕ
+kind c = take (c .before .before .before .before .before .field-end .result) (rest c)
 
--- src/blobs.rt:189:16
-sub-more : tie.Need-sub-more
-sub-more c = search needs
+abbrev more : tie.After-field-end2 → List ℕ
+more c = after (c .before .before .before .before .before .field-end .result) (rest c)
 
--- src/blobs.rt:189:16
-part-more-start : tie.Need-part-more-start
-part-more-start c = search needs
+by-more : (c : tie.After-field-end2) → two (writeText (kind c)) (fieldsOf (more c)) ≡ three writeText (fieldsOf (rest c))
+by-more c = three-fields writeText (rest c) _ (c .before .before .before .before .before .field-end .ensures .0) (omega arith)
 
--- src/blobs.rt:189:16
-part-more-end : tie.Need-part-more-end
-part-more-end c = search needs
-
--- src/blobs.rt:190:9
-field-end-requires-2 : tie.Need-field-end-requires-2
-field-end-requires-2 c κs = search needs
-
--- src/blobs.rt:192:9
-put-other-requires-2 : tie.Need-put-other-requires-2
-put-other-requires-2 c κs = search needs
-
--- src/blobs.rt:192:9
-same-length-2 : tie.Need-same-length-2
-same-length-2 c = search needs
-
--- src/blobs.rt:192:9
 returns-2 : tie.Need-returns-2
-returns-2 c = ?
+returns-2 c =
+    let here = c .before .before .before .before .before in
+    let all : indexOf tab (more here) ≡ length (more here) = sym (here .field-end2 .ensures .0) ∙ c .before .before .before .before .if2 .taken in
+    answered _ _ _ _ _ (sym (two-short (writeText (kind here)) (more here) all) ∙ by-more here) (c .before .before .put-other2 .ensures)
 
--- src/blobs.rt:194:43
 slice-aggregate-numeral : tie.Need-slice-aggregate-numeral
-slice-aggregate-numeral c = ?
+slice-aggregate-numeral c = sym (length-take-le _ _ (omega arith))
 
--- src/blobs.rt:194:9
-numeral-requires : tie.Need-numeral-requires
-numeral-requires c κs = search needs
-
--- src/blobs.rt:195:23
-add-field : tie.Need-add-field
-add-field c = search needs
-
--- src/blobs.rt:195:17
-sub-field : tie.Need-sub-field
-sub-field c = search needs
-
--- src/blobs.rt:195:17
-part-field-start : tie.Need-part-field-start
-part-field-start c = search needs
-
--- src/blobs.rt:195:17
-part-field-end : tie.Need-part-field-end
-part-field-end c = search needs
-
--- src/blobs.rt:196:5
-write-found-requires : tie.Need-write-found-requires
-write-found-requires c κs = search needs
-
--- src/blobs.rt:177:1
-same-length-3 : tie.Need-same-length-3
-same-length-3 c = search needs
-
--- src/blobs.rt:177:1
-same-length-4 : tie.Need-same-length-4
-same-length-4 c = search needs
-
--- src/blobs.rt:177:1
-same-length-5 : tie.Need-same-length-5
-same-length-5 c = search needs
-
--- src/blobs.rt:177:1
 returns-3 : tie.Need-returns-3
-returns-3 c = ?
+unfolding writeText
+returns-3 c =
+    let n = c .before .before .before .before .before .before .before .before .before .before .before in
+    let here = n .before .before .before in
+    let k = here .before .before in
+    let stop = here .field-end2 .result in
+    let field = after stop (more here) in
+    let found : writtenBy (k .kind-of .result) (n .numeral .result) field ≡ writeText (kind here) (take stop (more here)) field = ap₂ (λ (x : Kind) (y : Found). writtenBy x y field) (k .kind-of .ensures) (n .numeral .ensures) in
+    let fields = write-fields (kind here) (more here) stop (here .field-end2 .ensures .0) (omega arith) in
+    answered _ _ _ _ _ (found ∙ fields ∙ by-more here) (c .before .before .before .before .before .before .write-found .ensures)
 
 pub write-line-spec : {M : Type 1} → statement M
 write-line-spec =
     tie.close
     (tie.spec
-    field-end-requires
-    put-other-requires
-    same-length
-    returns
-    slice-aggregate-kind-of
-    kind-of-requires
-    add-more
-    sub-more
-    part-more-start
-    part-more-end
-    field-end-requires-2
-    put-other-requires-2
-    same-length-2
-    returns-2
-    slice-aggregate-numeral
-    numeral-requires
-    add-field
-    sub-field
-    part-field-start
-    part-field-end
-    write-found-requires
-    same-length-3
-    same-length-4
-    same-length-5
-    returns-3)
+    (λ c κs. search needs) (λ c κs. search needs) (λ c. search needs) returns slice-aggregate-kind-of
+    (λ c κs. search needs) (λ c. search needs) (λ c. search needs) (λ c. search needs) (λ c. search needs)
+    (λ c κs. search needs) (λ c κs. search needs) (λ c. search needs) returns-2 slice-aggregate-numeral
+    (λ c κs. search needs) (λ c. search needs) (λ c. search needs) (λ c. search needs) (λ c. search needs)
+    (λ c κs. search needs) (λ c. search needs) (λ c. search needs) (λ c. search needs) returns-3)

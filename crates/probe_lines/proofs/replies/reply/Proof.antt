@@ -32,27 +32,35 @@ put-line-requires : tie.Need-put-line-requires
 put-line-requires c κs = search needs
 
 -- the answer and its newline
-abbrev line : tie.After-slice-known3 → List ℕ
-line c = let a = c .before .before .before .before .before .before .before .before .before .before .before .args in heldAnswer answerOf (a .kept .now) (a .held) ++ (newline ∷ [])
+abbrev line : tie.After-slice-known7 → List ℕ
+line c = let a = c .before .before .before .before .before .before .before .before .before .before .before .before .before .before .before .before .before .before .before .args in heldAnswer answerOf (a .kept .now) (a .held) ++ (newline ∷ [])
 
 add-result : tie.Need-add-result
 add-result c =
-    let h = c .before .before .before .before .before .before .put-head in
-    let l = c .before .before .put-line in
-    let fits = tail-within (line c) (h .last .1 .0) (l .last .1 .1 .0) (h .result) (l .ensures .1) (l .kept .1 .1 .0) (omega arith) in
+    let h = c .before .before .before .before .before .before .before .before .before .before .before .before .put-head in
+    let l = c .before .before .before .before .before .before .put-line in
+    let fits = tail-within (line c) (h .last .1 .0) (l .last .1 .1 .1 .1 .0) (h .result) (l .ensures .1) (l .kept .1 .1 .1 .1 .0) (omega arith) in
     omega (arith, fits, l .ensures .0, h .kept .1 .0)
 
 same-length : tie.Need-same-length
 same-length c = search needs
 
+same-length-2 : tie.Need-same-length-2
+same-length-2 c = search needs
+
+same-length-3 : tie.Need-same-length-3
+same-length-3 c = search needs
+
 returns : tie.Need-returns
 unfolding replyOf
 returns c =
-    let h = c .before .before .before .before .before .before .put-head in
-    let l = c .before .before .put-line in
-    let a = c .before .before .before .before .before .before .before .before .before .before .before .args in
+    let lined = c .before .before .before .before .before .before in
+    let headed = lined .before .before .before .before .before .before in
+    let h = headed .put-head in
+    let l = lined .put-line in
+    let a = headed .before .before .before .before .before .before .before .args in
     let head = headOf (a .held .before + 1) in
-    let left = onto-then head (line c) (a .out .now) (h .last .1 .0) (l .last .1 .1 .0) (h .result) (h .ensures .1 .0) (sym (h .ensures .0)) (l .ensures .1) in
+    let left = onto-then head (line c) (a .out .now) (h .last .1 .0) (l .last .1 .1 .1 .1 .0) (h .result) (h .ensures .1 .0) (sym (h .ensures .0)) (l .ensures .1) in
     (omega (arith, h .ensures .0, l .ensures .0, length-append head (line c)), left)
 
 pub reply-spec : {M : Type 1} → statement M
@@ -67,4 +75,6 @@ reply-spec =
     put-line-requires
     add-result
     same-length
+    same-length-2
+    same-length-3
     returns)
