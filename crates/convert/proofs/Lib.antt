@@ -5,6 +5,7 @@ pub mod Lengths
 pub mod Packed
 pub mod Pieces
 pub mod Places
+pub mod Ranged
 pub mod Regions
 pub mod Scaled
 pub mod Spread

@@ -1,7 +1,7 @@
 -- `quantized::quantize` meets its contract: the code's test is the definition's.
-use mathlib.Core.Path.{_≡_, _∙_}
+use mathlib.Core.Path.{_≡_}
 use mathlib.Core.Bool.{true, false}
-use lib.Ieee.{eq, ofBits, binary32}
+use lib.Ieee.{eq, ofBits}
 use Rattle.float_laws.specs.Zero.{plusZero}
 use Rattle.convert.proofs.quantized.quantize.Statement.{statement}
 use Rattle.convert.proofs.quantized.quantize.Tie as tie
