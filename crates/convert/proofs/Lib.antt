@@ -1,3 +1,5 @@
 -- Laws of conversions
 pub mod Bodies
+pub mod Pieces
+pub mod Through
 pub mod Units
