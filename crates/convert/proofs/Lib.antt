@@ -1,4 +1,5 @@
 -- Laws of conversions
+pub mod Answered
 pub mod Bodies
 pub mod Pieces
 pub mod Through

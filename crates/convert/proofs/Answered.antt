@@ -1,0 +1,140 @@
+-- What a pair is converted by, how long the new body is, and what the answers leave.
+use mathlib.Core.Path.{_≡_, refl, sym, ap, _∙_}
+use mathlib.Core.Bool.{Bool, true, false, cond, not, _&&_, _||_, and-eq-true-iff, and-false, true≢false, false≢true}
+use mathlib.Core.List.{List}
+use Prim.Native.Nat.{ℕ, _+_, _*_, _/_, _%_, _<_, _≤_}
+use native.Mathlib.Omega.{arith}
+use lib.Dec.{ltb}
+use lib.ListN.{length}
+use lib.Ieee.{Format, binary32, binary64}
+use borrow.Author.Tests.{lt-ltb, le-ltb, not-true}
+use Rattle.promises.specs.Onto.{onto}
+use Rattle.elements.specs.Bytes.{width}
+use Rattle.vector_types.specs.Layout.{ceil, is, counted, fits, outside}
+use Rattle.vector_types.specs.Search.{some}
+use Rattle.vector_types.specs.declared.VectorType.{VectorType}
+use Rattle.vector_types.specs.declared.VectorType.the-variants.{Float32Dense, Float64Dense, Float32Sparse, Float1Bit, Float8}
+use Rattle.convert.specs.Pieces.{placesOf}
+use Rattle.convert.specs.Dense.{spreadBody}
+use Rattle.convert.specs.Elements.{element, floatsOf, denseBody}
+use Rattle.convert.specs.Sparse.{stored, sparseBody}
+use Rattle.convert.specs.Bits.{bitBody}
+use Rattle.convert.specs.Quantized.{quantizedBody}
+use Rattle.convert.specs.Result.{wayOf, made, resultBy, resultOf}
+use Rattle.convert.specs.Convert.{convertedTo, answerWith, outWith, isConverted, scratched, answerOf, scratchBy, outBy}
+use Rattle.convert.specs.declared.result.Way.{Way}
+use Rattle.convert.specs.declared.result.Way.the-variants.{Copied, Straight, Through}
+use Rattle.convert.specs.declared.ConvertAnswer.{ConvertAnswer}
+use Rattle.convert.specs.declared.ConvertAnswer.the-variants.{Converted, Refused, ShortScratch, Short}
+use Rattle.convert.proofs.Through.{through-made}
+
+by-kind : (P : VectorType → Type 0) → P Float32Dense → P Float64Dense → P Float32Sparse → P Float1Bit → P Float8 → (k : VectorType) → P k
+by-kind P a b c d e Float32Dense = a
+by-kind P a b c d e Float64Dense = b
+by-kind P a b c d e Float32Sparse = c
+by-kind P a b c d e Float1Bit = d
+by-kind P a b c d e Float8 = e
+
+-- ---- a claim about each pair, which antt computes
+abbrev all : (VectorType → Bool) → Bool
+all p = p Float32Dense && (p Float64Dense && (p Float32Sparse && (p Float1Bit && p Float8)))
+
+all-of : (p : VectorType → Bool) → all p ≡ true → (k : VectorType) → p k ≡ true
+all-of p e k =
+    let (a, rest) = and-eq-true-iff (p Float32Dense) _ .0 e in
+    let (b, rest) = and-eq-true-iff (p Float64Dense) _ .0 rest in
+    let (c, rest) = and-eq-true-iff (p Float32Sparse) _ .0 rest in
+    let (d, e) = and-eq-true-iff (p Float1Bit) (p Float8) .0 rest in
+    by-kind (λ k. p k ≡ true) a b c d e k
+
+pairs : (p : VectorType → VectorType → Bool) → all (λ k. all (p k)) ≡ true → (k t : VectorType) → p k t ≡ true
+pairs p e k t = all-of (p k) (all-of (λ k. all (p k)) e k) t
+
+-- ---- dense bodies
+pub sparse-kind : (k : VectorType) → is 9 k ≡ true → k ≡ Float32Sparse
+sparse-kind Float32Sparse h = refl
+sparse-kind Float32Dense h = absurd (false≢true h)
+sparse-kind Float64Dense h = absurd (false≢true h)
+sparse-kind Float1Bit h = absurd (false≢true h)
+sparse-kind Float8 h = absurd (false≢true h)
+
+pub dense-sparse : (f : Format) (k : VectorType) (d : ℕ) (body : List ℕ) → is 9 k ≡ true → denseBody f k d body ≡ spreadBody f d body
+unfolding denseBody
+dense-sparse f k d body h = ap (λ (k : VectorType). denseBody f k d body) (sparse-kind k h)
+
+pub dense-other : (f : Format) (k : VectorType) (d : ℕ) (body : List ℕ) → is 9 k ≡ false → denseBody f k d body ≡ floatsOf f (element f k d body) d
+unfolding denseBody
+dense-other f Float32Dense d body h = refl
+dense-other f Float64Dense d body h = refl
+dense-other f Float1Bit d body h = refl
+dense-other f Float8 d body h = refl
+dense-other f Float32Sparse d body h = absurd (true≢false h)
+
+-- ---- how long the body is that one step makes
+abbrev pub sizeOf : VectorType → VectorType → ℕ → List ℕ → ℕ
+sizeOf k Float32Dense d body = 4 * d
+sizeOf k Float64Dense d body = 8 * d
+sizeOf k Float32Sparse d body = 8 * length (placesOf (stored k d body) d)
+sizeOf k Float1Bit d body = ceil d 8
+sizeOf k Float8 d body = 4 * ceil d 4 + 8
+
+module _ (k : VectorType) (d : ℕ) (body : List ℕ) (fit : fits k d (length body) ≡ true) (inside : (is 9 k && some (outside body (length body / 8) d) (length body / 8)) ≡ false) where
+  pub made-size : (t : VectorType) → length (made k t d body) ≡ sizeOf k t d body
+  unfolding made
+  made-size Float32Dense = ?
+  made-size Float64Dense = ?
+  made-size Float32Sparse = ?
+  made-size Float1Bit = ?
+  made-size Float8 = ?
+
+-- ---- the way of a pair
+pub by-way : (k t : VectorType) (d : ℕ) (body : List ℕ) (w : Way) → wayOf k t ≡ w → resultOf k t d body ≡ resultBy w k t d body
+unfolding resultOf
+by-way k t d body w e = ap (λ (w : Way). resultBy w k t d body) e
+
+abbrev isThrough : Way → Bool
+isThrough Copied = false
+isThrough Straight = false
+isThrough Through = true
+
+abbrev isCopied : Way → Bool
+isCopied Copied = true
+isCopied Straight = false
+isCopied Through = false
+
+module _ (k t : VectorType) (plain : scratched k t ≡ false) where
+  -- in two steps only from 1-bit and Float8, where one step makes the same
+  pub through-one : (d : ℕ) (body : List ℕ) → wayOf k t ≡ Through → resultOf k t d body ≡ made k t d body
+  unfolding made
+  through-one d body e =
+      let claim = pairs (λ k t. not (isThrough (wayOf k t)) || (scratched k t || (counted k && (is 9 t || counted t)))) refl k t in
+      let (from, to) = and-eq-true-iff (counted k) (is 9 t || counted t) .0 (rw (e, plain) at claim) in
+      by-way k t d body Through e ∙ through-made k t d body from to
+
+  -- from sparse in one step only to the dense kinds
+  pub made-plainly : isCopied (wayOf k t) ≡ false → (is 9 k && (is 9 t || counted t)) ≡ false
+  made-plainly e =
+      let claim = pairs (λ k t. isCopied (wayOf k t) || (scratched k t || not (is 9 k && (is 9 t || counted t)))) refl k t in
+      not-true (is 9 k && (is 9 t || counted t)) (rw (e, plain) at claim)
+
+-- ---- what an answer leaves
+abbrev Left : VectorType → ℕ → List ℕ → VectorType → (scratch out : List ℕ) → ConvertAnswer → (s o : List ℕ) → Type 0
+Left k d body t scratch out r s o =
+    (r ≡ answerOf k d body t (length scratch) (length out)) × (s ≡ scratchBy k d body t scratch (length out)) × (o ≡ outBy k d body t (length scratch) out)
+
+-- without scratch it is the new body's answer
+module _ (k : VectorType) (d : ℕ) (body : List ℕ) (t : VectorType) (scratch out : List ℕ) where
+  pub answered : (r : ConvertAnswer) → answerOf k d body t (length scratch) (length out) ≡ r
+      → Left k d body t scratch out r (cond (isConverted r && scratched k t) (onto (spreadBody binary32 d body) scratch) scratch) (cond (isConverted r) (onto (resultOf k t d body) out) out)
+  unfolding scratchBy outBy
+  answered r e = (sym e, rw e, rw e)
+
+  pub plainly : scratched k t ≡ false → (r : ConvertAnswer) (o : List ℕ) → r ≡ answerWith t d (resultOf k t d body) (length out) → o ≡ outWith (resultOf k t d body) out
+      → Left k d body t scratch out r scratch o
+  unfolding answerOf scratchBy outBy
+  plainly h r o e p = (e ∙ rw h, rw (h, and-false), p ∙ rw h (left (ltb (length out) (length (resultOf k t d body))) ))
+    where
+      left : (b : Bool) → cond b out (onto (resultOf k t d body) out)
+          ≡ cond (isConverted (cond b (Short (length (resultOf k t d body))) (convertedTo t d (length (resultOf k t d body))))) (onto (resultOf k t d body) out) out
+      left true = refl
+      left false = refl
