@@ -1,6 +1,6 @@
 -- What a pair is converted by, how long the new body is, and what the answers leave.
 use mathlib.Core.Path.{_≡_, refl, sym, ap, _∙_}
-use mathlib.Core.Bool.{Bool, true, false, cond, not, _&&_, _||_, and-eq-true-iff, and-false, true≢false, false≢true}
+use mathlib.Core.Bool.{Bool, true, false, cond, not, _&&_, _||_, and-eq-true-iff, and-false, and-true, true≢false, false≢true}
 use mathlib.Core.List.{List}
 use Prim.Native.Nat.{ℕ, _+_, _*_, _/_, _%_, _<_, _≤_}
 use native.Mathlib.Omega.{arith}
@@ -14,6 +14,7 @@ use Rattle.vector_types.specs.Layout.{ceil, is, counted, fits, outside}
 use Rattle.vector_types.specs.Search.{some}
 use Rattle.vector_types.specs.declared.VectorType.{VectorType}
 use Rattle.vector_types.specs.declared.VectorType.the-variants.{Float32Dense, Float64Dense, Float32Sparse, Float1Bit, Float8}
+use Rattle.vector_types.proofs.Bools.{or-both}
 use Rattle.convert.specs.Pieces.{placesOf}
 use Rattle.convert.specs.Dense.{spreadBody}
 use Rattle.convert.specs.Elements.{element, floatsOf, denseBody}
@@ -87,17 +88,53 @@ module _ (k : VectorType) (d : ℕ) (body : List ℕ) (fit : fits k d (length bo
   made-size Float1Bit = ?
   made-size Float8 = ?
 
+  -- to a kind that is known
+  pub sized : (t u : VectorType) → t ≡ u → length (made k t d body) ≡ sizeOf k u d body
+  sized t u e = made-size t ∙ ap (λ (t : VectorType). sizeOf k t d body) e
+
+-- to 1-bit and Float8 the dims alone tell it
+pub counted-size : (t : VectorType) → counted t ≡ true → (k l : VectorType) (d : ℕ) (body other : List ℕ) → sizeOf k t d body ≡ sizeOf l t d other
+counted-size Float1Bit h k l d body other = refl
+counted-size Float8 h k l d body other = refl
+counted-size Float32Dense h k l d body other = absurd (false≢true h)
+counted-size Float64Dense h k l d body other = absurd (false≢true h)
+counted-size Float32Sparse h k l d body other = absurd (false≢true h)
+
+pub not-counted : (t : VectorType) → counted t ≡ true → is 9 t ≡ false
+not-counted Float1Bit h = refl
+not-counted Float8 h = refl
+not-counted Float32Dense h = refl
+not-counted Float64Dense h = refl
+not-counted Float32Sparse h = absurd (false≢true h)
+
+-- one of two does not hold, and the other does
+pub and-left : (x y : Bool) → (x && y) ≡ false → y ≡ true → x ≡ false
+and-left x y h e = sym (and-true x) ∙ (rw e at h)
+
+pub and-first : (x y z : Bool) → (x && (y || z)) ≡ false → (x && y) ≡ false
+and-first true y z h = or-both y z h .0
+and-first false y z h = refl
+
 -- ---- the way of a pair
-pub by-way : (k t : VectorType) (d : ℕ) (body : List ℕ) (w : Way) → wayOf k t ≡ w → resultOf k t d body ≡ resultBy w k t d body
-unfolding resultOf
-by-way k t d body w e = ap (λ (w : Way). resultBy w k t d body) e
+module _ (k t : VectorType) (d : ℕ) (body : List ℕ) where
+  by-way : (w : Way) → wayOf k t ≡ w → resultOf k t d body ≡ resultBy w k t d body
+  unfolding resultOf
+  by-way w e = ap (λ (w : Way). resultBy w k t d body) e
+
+  pub copies : wayOf k t ≡ Copied → body ≡ resultOf k t d body
+  unfolding resultOf
+  copies e = sym (by-way Copied e)
+
+  pub straight : wayOf k t ≡ Straight → resultOf k t d body ≡ made k t d body
+  unfolding resultOf
+  straight e = by-way Straight e
 
 abbrev isThrough : Way → Bool
 isThrough Copied = false
 isThrough Straight = false
 isThrough Through = true
 
-abbrev isCopied : Way → Bool
+abbrev pub isCopied : Way → Bool
 isCopied Copied = true
 isCopied Straight = false
 isCopied Through = false
@@ -117,24 +154,66 @@ module _ (k t : VectorType) (plain : scratched k t ≡ false) where
       let claim = pairs (λ k t. isCopied (wayOf k t) || (scratched k t || not (is 9 k && (is 9 t || counted t)))) refl k t in
       not-true (is 9 k && (is 9 t || counted t)) (rw (e, plain) at claim)
 
--- ---- what an answer leaves
+-- from sparse to 1-bit and Float8
+pub sparse-through : (t : VectorType) → counted t ≡ true → (d : ℕ) (body : List ℕ) → resultOf Float32Sparse t d body ≡ made Float32Dense t d (spreadBody binary32 d body)
+unfolding resultOf made denseBody
+sparse-through Float1Bit h d body = refl
+sparse-through Float8 h d body = refl
+sparse-through Float32Dense h d body = absurd (false≢true h)
+sparse-through Float64Dense h d body = absurd (false≢true h)
+sparse-through Float32Sparse h d body = absurd (false≢true h)
+
+-- ---- a new body of so many bytes, where the output is too short and where it is not
+abbrev pub Put : VectorType → ℕ → (new out : List ℕ) → ConvertAnswer → List ℕ → Type 0
+Put t d new out r o = (r ≡ answerWith t d new (length out)) × (o ≡ outWith new out)
+
+module _ (t : VectorType) (d : ℕ) (new out : List ℕ) (need : ℕ) (long : need ≡ length new) where
+  pub too-long : length out < need → Put t d new out (Short need) out
+  too-long h =
+      let e = lt-ltb (length out) (length new) (omega arith) in
+      (rw (e, long), rw e)
+
+  pub put-whole : need ≤ length out → (r : ConvertAnswer) (o : List ℕ) → r ≡ convertedTo t d need → o ≡ onto new out → Put t d new out r o
+  put-whole h r o answer left =
+      let e = le-ltb (length out) (length new) (omega arith) in
+      (answer ∙ rw (e, long), left ∙ rw e)
+
+-- ---- what the answers leave
 abbrev Left : VectorType → ℕ → List ℕ → VectorType → (scratch out : List ℕ) → ConvertAnswer → (s o : List ℕ) → Type 0
 Left k d body t scratch out r s o =
-    (r ≡ answerOf k d body t (length scratch) (length out)) × (s ≡ scratchBy k d body t scratch (length out)) × (o ≡ outBy k d body t (length scratch) out)
+    (r ≡ answerOf k d body t (length scratch) (length out))
+    × ((s ≡ scratchBy k d body t scratch (length out)) × (o ≡ outBy k d body t (length scratch) out))
 
--- without scratch it is the new body's answer
-module _ (k : VectorType) (d : ℕ) (body : List ℕ) (t : VectorType) (scratch out : List ℕ) where
-  pub answered : (r : ConvertAnswer) → answerOf k d body t (length scratch) (length out) ≡ r
-      → Left k d body t scratch out r (cond (isConverted r && scratched k t) (onto (spreadBody binary32 d body) scratch) scratch) (cond (isConverted r) (onto (resultOf k t d body) out) out)
-  unfolding scratchBy outBy
-  answered r e = (sym e, rw e, rw e)
+-- a pair that takes no scratch: the answer is that of the new body
+pub plainly : (k : VectorType) (d : ℕ) (body : List ℕ) (t : VectorType) (scratch out : List ℕ) (r : ConvertAnswer) (o : List ℕ) → scratched k t ≡ false
+    → Put t d (resultOf k t d body) out r o → Left k d body t scratch out r scratch o
+unfolding answerOf scratchBy outBy
+plainly k d body t scratch out r o h (e, p) = (e ∙ rw h, (rw (h, and-false), p ∙ rw h (left (ltb (length out) (length (resultOf k t d body))))))
+  where
+    new : List ℕ
+    new = resultOf k t d body
+    left : (b : Bool) → cond b out (onto new out) ≡ cond (isConverted (cond b (Short (length new)) (convertedTo t d (length new)))) (onto new out) out
+    left true = refl
+    left false = refl
 
-  pub plainly : scratched k t ≡ false → (r : ConvertAnswer) (o : List ℕ) → r ≡ answerWith t d (resultOf k t d body) (length out) → o ≡ outWith (resultOf k t d body) out
-      → Left k d body t scratch out r scratch o
+-- a pair that does
+module _ (t : VectorType) (takes : counted t ≡ true) (d : ℕ) (body scratch out : List ℕ) where
+  pub scratch-short : length scratch < 4 * d → Left Float32Sparse d body t scratch out (ShortScratch (4 * d)) scratch out
   unfolding answerOf scratchBy outBy
-  plainly h r o e p = (e ∙ rw h, rw (h, and-false), p ∙ rw h (left (ltb (length out) (length (resultOf k t d body))) ))
-    where
-      left : (b : Bool) → cond b out (onto (resultOf k t d body) out)
-          ≡ cond (isConverted (cond b (Short (length (resultOf k t d body))) (convertedTo t d (length (resultOf k t d body))))) (onto (resultOf k t d body) out) out
-      left true = refl
-      left false = refl
+  scratch-short h = let e = lt-ltb (length scratch) (4 * d) h in (rw (takes, e), (rw (takes, e), rw (takes, e)))
+
+  module _ (enough : 4 * d ≤ length scratch) (need : ℕ) (long : need ≡ length (resultOf Float32Sparse t d body)) where
+    pub out-short : length out < need → Left Float32Sparse d body t scratch out (Short need) scratch out
+    unfolding answerOf scratchBy outBy
+    out-short h =
+        let e = le-ltb (length scratch) (4 * d) enough in
+        let f = lt-ltb (length out) (length (resultOf Float32Sparse t d body)) (omega arith) in
+        (rw (takes, e, f, long), (rw (takes, e, f), rw (takes, e, f)))
+
+    pub both-written : need ≤ length out → (r : ConvertAnswer) (s o : List ℕ) → r ≡ convertedTo t d need → s ≡ onto (spreadBody binary32 d body) scratch
+        → o ≡ onto (resultOf Float32Sparse t d body) out → Left Float32Sparse d body t scratch out r s o
+    unfolding answerOf scratchBy outBy
+    both-written h r s o answer left made =
+        let e = le-ltb (length scratch) (4 * d) enough in
+        let f = le-ltb (length out) (length (resultOf Float32Sparse t d body)) (omega arith) in
+        (answer ∙ rw (takes, e, f, long), (left ∙ rw (takes, e, f), made ∙ rw (takes, e, f)))
