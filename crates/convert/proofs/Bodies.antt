@@ -1,7 +1,8 @@
--- A body that fits its kind and dims: how long it is, kind by kind.
+-- A body that fits its kind and dims: how long it is, kind by kind, and that each element stands within it.
 use mathlib.Core.Path.{_≡_, subst}
 use mathlib.Core.Bool.{true, false, true≢false}
-use Prim.Native.Nat.{ℕ, _+_, _*_, _%_}
+use Prim.Native.Nat.{ℕ, _+_, _*_, _%_, _≤_, _<_}
+use native.Mathlib.Omega.{arith}
 use borrow.Author.Tests.{eqb-true}
 use Rattle.vector_types.specs.Layout.{ceil, is, fits}
 use Rattle.vector_types.specs.declared.VectorType.{VectorType}
@@ -31,6 +32,20 @@ module _ {k : VectorType} (d m : ℕ) where
   pub float8-length : k ≡ Float8 → fits k d m ≡ true → m ≡ 4 * ceil d 4 + 8
   unfolding fits
   float8-length e h = eqb-true m (4 * ceil d 4 + 8) (known Float8 e h)
+
+-- each of its elements stands within it
+module _ {k : VectorType} (d m i : ℕ) where
+  pub float32-within : k ≡ Float32Dense → fits k d m ≡ true → i < d → 4 * i + 4 ≤ m
+  float32-within e h below = omega (arith, float32-length d m e h)
+
+  pub float64-within : k ≡ Float64Dense → fits k d m ≡ true → i < d → 8 * i + 8 ≤ m
+  float64-within e h below = omega (arith, float64-length d m e h)
+
+  pub one-bit-within : k ≡ Float1Bit → fits k d m ≡ true → i < d → i < 8 * m
+  one-bit-within e h below = omega (arith, one-bit-length d m e h)
+
+  pub float8-within : k ≡ Float8 → fits k d m ≡ true → i < d → i < m
+  float8-within e h below = omega (arith, float8-length d m e h)
 
 -- a kind that is not sparse is not Float32Sparse
 pub not-sparse : {k : VectorType} → k ≡ Float32Sparse → is 9 k ≡ false → ⊥

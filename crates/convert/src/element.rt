@@ -82,10 +82,7 @@ pub(crate) fn is_stored(kind: VectorType, dims: usize, body: &[u8], i: usize) ->
 {
     match kind {
         VectorType::Float64Dense => elements::f64_at(body, 8 * i) != 0.0,
-        VectorType::Float32Dense => single(kind, dims, body, i) != 0.0,
-        VectorType::Float32Sparse => single(kind, dims, body, i) != 0.0,
-        VectorType::Float1Bit => single(kind, dims, body, i) != 0.0,
-        VectorType::Float8 => single(kind, dims, body, i) != 0.0,
+        _ => single(kind, dims, body, i) != 0.0,
     }
 }
 
@@ -98,9 +95,6 @@ pub(crate) fn is_positive(kind: VectorType, dims: usize, body: &[u8], i: usize) 
 {
     match kind {
         VectorType::Float64Dense => 0.0 < elements::f64_at(body, 8 * i),
-        VectorType::Float32Dense => 0.0 < single(kind, dims, body, i),
-        VectorType::Float32Sparse => 0.0 < single(kind, dims, body, i),
-        VectorType::Float1Bit => 0.0 < single(kind, dims, body, i),
-        VectorType::Float8 => 0.0 < single(kind, dims, body, i),
+        _ => 0.0 < single(kind, dims, body, i),
     }
 }

@@ -1,14 +1,11 @@
 -- `convert::element::single` meets its contract, an arm a kind: each place lies in a body that fits.
-use mathlib.Core.Path.{ap, sym, subst, _∙_}
-use mathlib.Core.Bool.{true≢false}
+use mathlib.Core.Path.{ap, _∙_}
 use native.Mathlib.Omega.{arith}
 use Rattle.rounding.specs.Narrow.{narrowed}
 use borrow.Author.Needs.{needs}
 use Rattle.rounding.proofs.NarrowLaw.{narrowed-only}
-use Rattle.vector_types.specs.Layout.{is}
-use Rattle.vector_types.specs.declared.VectorType.{VectorType}
 use Rattle.convert.specs.Elements.{element}
-use Rattle.convert.proofs.Bodies.{not-sparse, float32-length, float64-length, one-bit-length, float8-length}
+use Rattle.convert.proofs.Bodies.{not-sparse, float8-length, float32-within, float64-within, one-bit-within, float8-within}
 use Rattle.convert.proofs.element.single.Statement.{statement}
 use Rattle.convert.proofs.element.single.Tie as tie
 
@@ -21,8 +18,7 @@ mul-f32-at c = search needs
 f32-at-requires : tie.Need-f32-at-requires
 f32-at-requires c κs =
     let a = c .before .before .before in
-    let l = float32-length (a .args .dims) _ (c .enum-told .given .1) (a .pre .1 .0) in
-    omega (arith, l, a .pre .1 .1 .1)
+    float32-within (a .args .dims) _ (a .args .i) (c .enum-told .given .1) (a .pre .1 .0) (a .pre .1 .1 .1)
 
 enum-told-2 : tie.Need-enum-told-2
 enum-told-2 c = search needs
@@ -33,8 +29,7 @@ mul-f64-at c = search needs
 f64-at-requires : tie.Need-f64-at-requires
 f64-at-requires c κs =
     let a = c .before .before .before in
-    let l = float64-length (a .args .dims) _ (c .enum-told2 .given .1) (a .pre .1 .0) in
-    omega (arith, l, a .pre .1 .1 .1)
+    float64-within (a .args .dims) _ (a .args .i) (c .enum-told2 .given .1) (a .pre .1 .0) (a .pre .1 .1 .1)
 
 narrow-requires : tie.Need-narrow-requires
 narrow-requires c κs = search needs
@@ -45,8 +40,7 @@ enum-told-3 c = search needs
 unit32-requires : tie.Need-unit32-requires
 unit32-requires c κs =
     let a = c .before .before .before in
-    let l = one-bit-length (a .args .dims) _ (c .enum-told3 .given .1) (a .pre .1 .0) in
-    omega (arith, l, a .pre .1 .1 .1)
+    one-bit-within (a .args .dims) _ (a .args .i) (c .enum-told3 .given .1) (a .pre .1 .0) (a .pre .1 .1 .1)
 
 enum-told-4 : tie.Need-enum-told-4
 enum-told-4 c = search needs
@@ -73,8 +67,7 @@ f32-at-requires-3 c κs =
 shared-slice-read-result : tie.Need-shared-slice-read-result
 shared-slice-read-result c =
     let a = c .before .before .before .before .before .before in
-    let l = float8-length (a .args .dims) _ (c .before .before .before .enum-told4 .given .1) (a .pre .1 .0) in
-    omega (arith, l, a .pre .1 .1 .1)
+    float8-within (a .args .dims) _ (a .args .i) (c .before .before .before .enum-told4 .given .1) (a .pre .1 .0) (a .pre .1 .1 .1)
 
 int-to-float-result : tie.Need-int-to-float-result
 int-to-float-result c = search needs

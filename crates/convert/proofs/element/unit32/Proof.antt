@@ -1,8 +1,6 @@
 -- `convert::element::unit32` meets its contract: a bit that is not 1 is 0.
 use mathlib.Core.Path.{sym, _∙_}
-
 use borrow.Author.Needs.{needs}
-
 use Rattle.convert.proofs.Units.{unit-set, unit-clear}
 use Rattle.convert.proofs.element.unit32.Statement.{statement}
 use Rattle.convert.proofs.element.unit32.Tie as tie
