@@ -2,6 +2,8 @@
 pub mod Answered
 pub mod Bodies
 pub mod Fitting
+pub mod Lengths
 pub mod Pieces
+pub mod Spread
 pub mod Through
 pub mod Units

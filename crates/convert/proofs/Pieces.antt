@@ -1,16 +1,19 @@
--- Laws of pieces: how long they are together, and the step of a loop that writes them one after another from the front.
-use mathlib.Core.Path.{_≡_, refl, sym, _∙_}
+-- Laws of pieces: how long they are together, and a loop that writes them one after another from the front.
+use mathlib.Core.Path.{_≡_, refl, sym, ap, _∙_}
 use mathlib.Core.List.{List, [], _∷_, _++_}
-use Prim.Native.Nat.{ℕ, zero, suc, _+_, _*_, _<_}
-use native.Mathlib.Nat.{one-mul}
+use Prim.Native.Nat.{ℕ, zero, suc, _+_, _*_, _<_, _≤_}
+use native.Mathlib.Nat.{one-mul, mul-le-mul-left}
 use native.Mathlib.Numerals.{add-one}
 use native.Mathlib.Omega.{arith}
-use lib.ListN.{length, set, drop, length-append}
+use lib.ListN.{length, set, drop, replicate, length-append, replicate-append-replicate}
 use lib.Seq.{take-at, drop-at, drop-drop}
-use Rattle.elements.specs.Bytes.{put}
+use lib.Ieee.{Float, Format, toBits}
+use Rattle.elements.specs.Bytes.{put, width, floatBytes}
+use Rattle.elements.proofs.Numbers.{length-bytesOf}
 use Rattle.promises.specs.Onto.{onto}
-use Rattle.promises.proofs.Onto.{onto-put}
+use Rattle.promises.proofs.Onto.{onto-put, length-onto}
 use Rattle.convert.specs.Pieces.{pieces}
+use Rattle.convert.specs.Elements.{floatsOf}
 
 -- bytes put right after what was written
 pub put-after : (v vs l o : List ℕ) (n : ℕ) → length v ≡ n → o ≡ onto v l → put o n vs ≡ onto (v ++ vs) l
@@ -42,3 +45,47 @@ module _ (b : ℕ → ℕ) where
   pub set-byte : (l o : List ℕ) (i : ℕ) → o ≡ onto (pieces (λ j. b j ∷ []) i) l → i < length l
       → set o i (b i) ≡ onto (pieces (λ j. b j ∷ []) (i + 1)) l
   set-byte l o i e room = rw pieces-next (onto-put (pieces (λ j. b j ∷ []) i) l o (b i) i (sym (length-bytes i)) e room .1)
+
+pub pieces-zeros : (n : ℕ) → pieces (λ _. 0 ∷ []) n ≡ replicate n 0
+unfolding pieces
+pieces-zeros zero = refl
+pieces-zeros (suc n) = rw (pieces-zeros n, replicate-append-replicate {A = ℕ} n 1 0, add-one)
+
+-- floats
+pub length-floats : (f : Format) (e : ℕ → Float) (n : ℕ) → length (floatsOf f e n) ≡ width f * n
+length-floats f e n = length-pieces (λ i. floatBytes f (e i)) (width f) (λ i. length-bytesOf (width f) (toBits f (e i))) n
+
+-- ---- a loop of n turns: after i of them new i stands at the front of o, which was l
+pub record Filled (new : ℕ → List ℕ) (n : ℕ) (l o : List ℕ) (i : ℕ) : Type 0 where
+  pub few : i ≤ n
+  pub left : o ≡ onto (new i) l
+  pub long : length o ≡ length l
+
+pub filled : (new : ℕ → List ℕ) (n : ℕ) (l o : List ℕ) (i : ℕ) → i ≤ n → length (new i) ≤ length l → o ≡ onto (new i) l → Filled new n l o i
+filled new n l o i few room e = record { few = few; left = e; long = ap length e ∙ length-onto (new i) l room }
+
+pub fill-all : {new : ℕ → List ℕ} {n : ℕ} {l o : List ℕ} {i : ℕ} → Filled new n l o i → n ≤ i → o ≡ onto (new n) l
+fill-all {new} {n} {l} {o} {i} h ends = let all : n ≡ i = omega (arith, h .few) in rw all (h .left)
+
+pub fill-none : (g : ℕ → List ℕ) (n : ℕ) (l : List ℕ) → Filled (pieces g) n l l 0
+unfolding pieces
+fill-none g n l = record { few = omega arith; left = refl; long = refl }
+
+-- a turn that puts a piece, a byte, a float
+pub fill-piece : (g : ℕ → List ℕ) (w : ℕ) → ((i : ℕ) → length (g i) ≡ w) → {n : ℕ} {l o : List ℕ} {i : ℕ} → Filled (pieces g) n l o i → i < n → w * n ≤ length l
+    → (o′ : List ℕ) → o′ ≡ put o (w * i) (g i) → Filled (pieces g) n l o′ (i + 1)
+fill-piece g w wide {n} {l} {o} {i} h less room o′ e =
+    let size = length-pieces g w wide (i + 1) in
+    let within : w * (i + 1) ≤ w * n = mul-le-mul-left w (omega arith) in
+    filled (pieces g) n l o′ (i + 1) (omega arith) (omega arith) (e ∙ put-piece g w wide l o i (h .left))
+
+pub fill-byte : (b : ℕ → ℕ) {n : ℕ} {l o : List ℕ} {i : ℕ} → Filled (pieces (λ j. b j ∷ [])) n l o i → i < n → n ≤ length l
+    → (v : ℕ) → v ≡ b i → Filled (pieces (λ j. b j ∷ [])) n l (set o i v) (i + 1)
+fill-byte b {n} {l} {o} {i} h less room v e =
+    let size = length-bytes b (i + 1) in
+    filled (pieces (λ j. b j ∷ [])) n l (set o i v) (i + 1) (omega arith) (omega arith) (rw e (set-byte b l o i (h .left) (omega arith)))
+
+pub fill-float : (f : Format) (e : ℕ → Float) {n : ℕ} {l o : List ℕ} {i : ℕ} → Filled (floatsOf f e) n l o i → i < n → width f * n ≤ length l
+    → (o′ : List ℕ) (x : Float) → x ≡ e i → o′ ≡ put o (width f * i) (floatBytes f x) → Filled (floatsOf f e) n l o′ (i + 1)
+fill-float f e {n} {l} {o} {i} h less room o′ x same p =
+    fill-piece (λ j. floatBytes f (e j)) (width f) (λ j. length-bytesOf (width f) (toBits f (e j))) h less room o′ (rw same at p)

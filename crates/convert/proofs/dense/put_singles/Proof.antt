@@ -1,51 +1,29 @@
+-- The loop fills, float by float.
+use Prim.Native.Nat.{_-_}
+use borrow.Author.Needs.{needs}
+use lib.Ieee.{binary32}
+use Rattle.convert.specs.Elements.{element, floatsOf}
+use Rattle.convert.proofs.Pieces.{Filled, fill-none, fill-float, fill-all}
 use Rattle.convert.proofs.dense.put_singles.Statement.{statement}
 use Rattle.convert.proofs.dense.put_singles.Tie as tie
-use Rattle.convert.proofs.dense.put_singles.Reads as reads
-use Rattle.convert.proofs.dense.put_singles.Lts as lts
-use Rattle.convert.proofs.element.single.Reads as single-reads
-use Rattle.elements.proofs.put_f32.Reads as put-f32-reads
 
 abbrev Inv-loop : tie.InvT-loop
-Inv-loop kind dims body out₀ i₀ out i = ?
+Inv-loop kind dims body out₀ i₀ out i = Filled (floatsOf binary32 (element binary32 kind dims body)) dims out₀ out i
 
 abbrev μ-loop : tie.MeasureT-loop
-μ-loop kind dims body out₀ i₀ out i = ?
+μ-loop kind dims body out₀ i₀ out i = dims - i
 
--- src/dense.rt:26:5
 loop-holds : tie.Need-loop-holds Inv-loop μ-loop
-loop-holds c = ?
+loop-holds c = fill-none _ _ _
 
--- src/dense.rt:27:13
-single-requires : tie.Need-single-requires Inv-loop μ-loop
-single-requires c κs = ?
-
--- src/dense.rt:28:32
-mul-put-f32 : tie.Need-mul-put-f32 Inv-loop μ-loop
-mul-put-f32 c = ?
-
--- src/dense.rt:28:9
-put-f32-requires : tie.Need-put-f32-requires Inv-loop μ-loop
-put-f32-requires c κs = ?
-
--- src/dense.rt:29:9
-add-i : tie.Need-add-i Inv-loop μ-loop
-add-i c = ?
-
--- src/dense.rt:26:5
-loop-less : tie.Need-loop-less Inv-loop μ-loop
-loop-less c = ?
-
--- src/dense.rt:26:5
 loop-again : tie.Need-loop-again Inv-loop μ-loop
-loop-again c = ?
+loop-again c =
+    let x = c .before .before .before .before in
+    let p = x .before .before .before .before .before .pre in
+    fill-float binary32 _ (x .before .before .loop .inv) (x .before .loop-test .taken) (p .1 .1 .1) _ _ (x .single .ensures) (c .before .before .put-f32 .ensures)
 
--- src/dense.rt:18:1
-same-length : tie.Need-same-length Inv-loop μ-loop
-same-length c = ?
-
--- src/dense.rt:18:1
 returns : tie.Need-returns Inv-loop μ-loop
-returns c = ?
+returns c = fill-all (c .before .loop .inv) (c .loop-test .left)
 
 pub put-singles-spec : {M : Type 1} → statement M
 put-singles-spec =
@@ -54,11 +32,11 @@ put-singles-spec =
     Inv-loop
     μ-loop
     loop-holds
-    single-requires
-    mul-put-f32
-    put-f32-requires
-    add-i
-    loop-less
+    (λ c κs. search needs)
+    (λ c. search needs)
+    (λ c κs. search needs)
+    (λ c. search needs)
+    (λ c. search needs)
     loop-again
-    same-length
+    (λ c. search needs)
     returns)

@@ -1,41 +1,27 @@
+-- The loop fills, byte by byte.
+use mathlib.Core.Path.{refl}
+use mathlib.Core.List.{[], _∷_}
+use Prim.Native.Nat.{_-_}
+use borrow.Author.Needs.{needs}
+use Rattle.convert.specs.Pieces.{pieces}
+use Rattle.convert.proofs.Pieces.{Filled, fill-none, fill-byte, fill-all, pieces-zeros}
 use Rattle.convert.proofs.dense.put_zeros.Statement.{statement}
 use Rattle.convert.proofs.dense.put_zeros.Tie as tie
-use Rattle.convert.proofs.dense.put_zeros.Reads as reads
-use Rattle.convert.proofs.dense.put_zeros.Lts as lts
 
 abbrev Inv-loop : tie.InvT-loop
-Inv-loop n out₀ i₀ out i = ?
+Inv-loop n out₀ i₀ out i = Filled (pieces (λ _. 0 ∷ [])) n out₀ out i
 
 abbrev μ-loop : tie.MeasureT-loop
-μ-loop n out₀ i₀ out i = ?
+μ-loop n out₀ i₀ out i = n - i
 
--- src/dense.rt:54:5
 loop-holds : tie.Need-loop-holds Inv-loop μ-loop
-loop-holds c = ?
+loop-holds c = fill-none _ _ _
 
--- src/dense.rt:55:9
-slice-write-out : tie.Need-slice-write-out Inv-loop μ-loop
-slice-write-out c = ?
-
--- src/dense.rt:56:9
-add-i : tie.Need-add-i Inv-loop μ-loop
-add-i c = ?
-
--- src/dense.rt:54:5
-loop-less : tie.Need-loop-less Inv-loop μ-loop
-loop-less c = ?
-
--- src/dense.rt:54:5
 loop-again : tie.Need-loop-again Inv-loop μ-loop
-loop-again c = ?
+loop-again c = fill-byte (λ _. 0) (c .before .loop .inv) (c .loop-test .taken) (c .before .before .pre) _ refl
 
--- src/dense.rt:49:1
-same-length : tie.Need-same-length Inv-loop μ-loop
-same-length c = ?
-
--- src/dense.rt:49:1
 returns : tie.Need-returns Inv-loop μ-loop
-returns c = ?
+returns c = rw pieces-zeros at (fill-all (c .before .loop .inv) (c .loop-test .left))
 
 pub put-zeros-spec : {M : Type 1} → statement M
 put-zeros-spec =
@@ -44,9 +30,9 @@ put-zeros-spec =
     Inv-loop
     μ-loop
     loop-holds
-    slice-write-out
-    add-i
-    loop-less
+    (λ c. search needs)
+    (λ c. search needs)
+    (λ c. search needs)
     loop-again
-    same-length
+    (λ c. search needs)
     returns)

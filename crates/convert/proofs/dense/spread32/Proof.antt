@@ -1,84 +1,51 @@
+-- The loop spreads, entry by entry; a value is copied as a number.
+use mathlib.Core.Path.{_∙_, ap}
+use Prim.Native.Nat.{_-_, _*_, _+_, _≤_}
+use borrow.Author.Needs.{needs}
+use native.Mathlib.Omega.{arith}
+use lib.Ieee.{binary32}
+use lib.ListN.{length}
+use Rattle.elements.specs.Bytes.{bytesOf}
+use Rattle.elements.proofs.Numbers.{bytesOf-numberAt}
+use Rattle.convert.specs.Dense.{count as entries, spread}
+use Rattle.convert.proofs.Pieces.{Filled}
+use Rattle.convert.proofs.Spread.{spread-none, spread-room, spread-next, spread-all}
 use Rattle.convert.proofs.dense.spread32.Statement.{statement}
 use Rattle.convert.proofs.dense.spread32.Tie as tie
-use Rattle.convert.proofs.dense.spread32.Reads as reads
-use Rattle.convert.proofs.dense.spread32.Lts as lts
-use Rattle.convert.proofs.dense.put_zeros.Reads as put-zeros-reads
-use Rattle.elements.proofs.put_u32.Reads as put-u32-reads
-use Rattle.elements.proofs.u32_at.Reads as u32-at-reads
 
 abbrev Inv-loop : tie.InvT-loop
-Inv-loop dims body out₀ count j₀ out j = ?
+Inv-loop dims body out₀ count j₀ out j = Filled (spread binary32 dims body) (entries body) out₀ out j
 
 abbrev μ-loop : tie.MeasureT-loop
-μ-loop dims body out₀ count j₀ out j = ?
+μ-loop dims body out₀ count j₀ out j = entries body - j
 
--- src/dense.rt:68:15
-mul-put-zeros : tie.Need-mul-put-zeros Inv-loop μ-loop
-mul-put-zeros c = ?
-
--- src/dense.rt:68:5
-put-zeros-requires : tie.Need-put-zeros-requires Inv-loop μ-loop
-put-zeros-requires c κs = ?
-
--- src/dense.rt:71:5
 loop-holds : tie.Need-loop-holds Inv-loop μ-loop
-loop-holds c = ?
+loop-holds c =
+    let p = c .before .before .before .before .before .before .pre in
+    spread-none binary32 _ _ (p .1 .1 .0) _ _ (c .before .before .put-zeros .ensures)
 
--- src/dense.rt:72:44
-mul-u32-at : tie.Need-mul-u32-at Inv-loop μ-loop
-mul-u32-at c = ?
-
--- src/dense.rt:72:56
-mul-u32-at-2 : tie.Need-mul-u32-at-2 Inv-loop μ-loop
-mul-u32-at-2 c = ?
-
--- src/dense.rt:72:44
-add-u32-at : tie.Need-add-u32-at Inv-loop μ-loop
-add-u32-at c = ?
-
--- src/dense.rt:72:21
-u32-at-requires : tie.Need-u32-at-requires Inv-loop μ-loop
-u32-at-requires c κs = ?
-
--- src/dense.rt:72:21
-cast-index : tie.Need-cast-index Inv-loop μ-loop
-cast-index c = ?
-
--- src/dense.rt:73:44
-mul-u32-at-3 : tie.Need-mul-u32-at-3 Inv-loop μ-loop
-mul-u32-at-3 c = ?
-
--- src/dense.rt:73:13
-u32-at-requires-2 : tie.Need-u32-at-requires-2 Inv-loop μ-loop
-u32-at-requires-2 c κs = ?
-
--- src/dense.rt:74:32
-mul-put-u32 : tie.Need-mul-put-u32 Inv-loop μ-loop
-mul-put-u32 c = ?
-
--- src/dense.rt:74:9
 put-u32-requires : tie.Need-put-u32-requires Inv-loop μ-loop
-put-u32-requires c κs = ?
+put-u32-requires c κs =
+    let t = c .before .before .before in
+    let s = t .before .before .before .before .before .before .before .before in
+    spread-room binary32 _ _ (s .pre .1 .1 .0) (t .before .loop .inv) (t .loop-test .taken) _ (c .before .before .u32-at .ensures)
 
--- src/dense.rt:75:9
-add-j : tie.Need-add-j Inv-loop μ-loop
-add-j c = ?
-
--- src/dense.rt:71:5
-loop-less : tie.Need-loop-less Inv-loop μ-loop
-loop-less c = ?
-
--- src/dense.rt:71:5
 loop-again : tie.Need-loop-again Inv-loop μ-loop
-loop-again c = ?
+loop-again c =
+    let v = c .before .before .before .before in
+    let t = v .before .before in
+    let k = t .before .before .before .before .before .before .before in
+    let body = k .before .args .body .now in
+    let at = 4 * t .before .loop .j in
+    let room : at + 4 ≤ length body = omega arith in
+    let copied = ap (bytesOf 4) (v .u32-at2 .ensures) ∙ bytesOf-numberAt 4 body at (λ i. k .shared-slice-known .given i .fits) room in
+    spread-next binary32 _ body (k .before .pre .1 .1 .0) (t .before .loop .inv) (t .loop-test .taken)
+    _ _ _ (v .before .u32-at .ensures) copied (c .before .before .put-u32 .ensures)
 
--- src/dense.rt:61:1
-same-length : tie.Need-same-length Inv-loop μ-loop
-same-length c = ?
-
--- src/dense.rt:61:1
 returns : tie.Need-returns Inv-loop μ-loop
-returns c = ?
+returns c =
+    let s = c .before .before .before .before .before .before .before .before in
+    spread-all binary32 _ _ (s .pre .1 .1 .0) _ _ (c .before .before .before .before .put-zeros .ensures) (c .before .loop .inv) (c .loop-test .left)
 
 pub spread32-spec : {M : Type 1} → statement M
 spread32-spec =
@@ -86,20 +53,20 @@ spread32-spec =
     (tie.spec
     Inv-loop
     μ-loop
-    mul-put-zeros
-    put-zeros-requires
+    (λ c. search needs)
+    (λ c κs. search needs)
     loop-holds
-    mul-u32-at
-    mul-u32-at-2
-    add-u32-at
-    u32-at-requires
-    cast-index
-    mul-u32-at-3
-    u32-at-requires-2
-    mul-put-u32
+    (λ c. search needs)
+    (λ c. search needs)
+    (λ c. search needs)
+    (λ c κs. search needs)
+    (λ c. search needs)
+    (λ c. search needs)
+    (λ c κs. search needs)
+    (λ c. search needs)
     put-u32-requires
-    add-j
-    loop-less
+    (λ c. search needs)
+    (λ c. search needs)
     loop-again
-    same-length
+    (λ c. search needs)
     returns)
