@@ -1,8 +1,10 @@
 -- Laws of conversions
 pub mod Answered
 pub mod Bodies
+pub mod Bytewise
 pub mod Fitting
 pub mod Lengths
+pub mod Packed
 pub mod Pieces
 pub mod Spread
 pub mod Through

@@ -6,3 +6,4 @@ pub mod Bits
 pub mod Quantized
 pub mod Result
 pub mod Convert
+pub mod Examples

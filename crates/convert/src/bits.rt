@@ -1,7 +1,7 @@
 // To Float1Bit.
 ghost use mathlib.Core.Path.{_≡_};
 ghost use mathlib.Core.Bool.{false, true, cond, _&&_};
-ghost use Prim.Native.Nat.{_+_, _*_, _≤_, _<_};
+ghost use Prim.Native.Nat.{_≤_, _<_};
 ghost use lib.Dec.{ltb};
 ghost use lib.ListN.{length};
 ghost use Rattle.promises.specs.Onto.{onto};
@@ -10,18 +10,18 @@ ghost use Rattle.convert.specs.Bits.{positive, packedByte, bitBody};
 use crate::element::is_positive;
 use vector_types::VectorType;
 
-// Bit i: 1 where there is such an element and it is greater than 0.
-fn bit(kind: VectorType, dims: usize, body: &[u8], i: usize) -> u32
+// What bit i adds to its byte: its weight where there is such an element and it is greater than 0, else 0.
+fn bit(kind: VectorType, dims: usize, body: &[u8], i: usize, weight: u32) -> u32
     requires { ⌜ dims ≤ mostDims ⌝ }
     requires { ⌜ fits kind dims (length (now body)) ≡ true ⌝ }
     requires { ⌜ is 9 kind ≡ false ⌝ }
-    ensures { λ r. ⌜ r ≡ cond (ltb i dims && positive kind dims (now (body .entry)) i) 1 0 ⌝ }
+    ensures { λ r. ⌜ r ≡ cond (ltb i dims && positive kind dims (now (body .entry)) i) weight 0 ⌝ }
 {
     if dims <= i {
         return 0;
     }
     if is_positive(kind, dims, body, i) {
-        return 1;
+        return weight;
     }
     0
 }
@@ -38,7 +38,7 @@ fn packed_byte(kind: VectorType, dims: usize, body: &[u8], m: usize) -> u8
     let mut weight: u32 = 1;
     let mut j = 0;
     while j < 8 {
-        byte += weight * bit(kind, dims, body, 8 * m + j);
+        byte += bit(kind, dims, body, 8 * m + j, weight);
         weight *= 2;
         j += 1;
     }

@@ -1,25 +1,20 @@
+-- `bit` meets its contract, by cases on the two tests.
 use borrow.Author.Needs.{needs}
+use borrow.Author.Tests.{lt-ltb, le-ltb}
 use Rattle.convert.proofs.bits.bit.Statement.{statement}
 use Rattle.convert.proofs.bits.bit.Tie as tie
-use Rattle.convert.proofs.bits.bit.Reads as reads
-use Rattle.convert.proofs.bits.bit.Lts as lts
-use Rattle.convert.proofs.element.is_positive.Reads as is-positive-reads
 
--- src/bits.rt:21:9
 returns : tie.Need-returns
-returns c = ?
+returns c = simp (le-ltb _ _ (c .if1 .taken))
 
--- src/bits.rt:23:8
 is-positive-requires : tie.Need-is-positive-requires
 is-positive-requires c κs = search needs
 
--- src/bits.rt:24:9
 returns-2 : tie.Need-returns-2
-returns-2 c = ?
+returns-2 c = simp (lt-ltb _ _ (c .before .before .if1 .left), ← (c .before .is-positive .ensures), c .if2 .taken)
 
--- src/bits.rt:14:1
 returns-3 : tie.Need-returns-3
-returns-3 c = ?
+returns-3 c = simp (lt-ltb _ _ (c .before .before .if1 .left), ← (c .before .is-positive .ensures), c .if2 .left)
 
 pub bit-spec : {M : Type 1} → statement M
 bit-spec = tie.close (tie.spec returns is-positive-requires returns-2 returns-3)

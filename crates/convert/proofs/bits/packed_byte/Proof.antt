@@ -1,62 +1,50 @@
+-- `packed_byte` meets its contract. The loop's invariant: the byte is made up of its first bits, and the weight is that of the next.
+use Prim.Native.Nat.{_-_}
+use native.Mathlib.Omega.{arith}
+use borrow.Author.Needs.{needs}
+use Rattle.convert.specs.Bits.{positive}
+use Rattle.convert.proofs.Packed.{Packing, pack-none, pack-next, pack-all}
 use Rattle.convert.proofs.bits.packed_byte.Statement.{statement}
 use Rattle.convert.proofs.bits.packed_byte.Tie as tie
-use Rattle.convert.proofs.bits.packed_byte.Reads as reads
-use Rattle.convert.proofs.bits.packed_byte.Lts as lts
-use Rattle.convert.proofs.bits.bit.Reads as bit-reads
 
 abbrev Inv-loop : tie.InvT-loop
-Inv-loop kind dims body m byte₀ weight₀ j₀ byte weight j = ?
+Inv-loop kind dims body m byte₀ weight₀ j₀ byte weight j = Packing (positive kind dims body) dims m byte weight j
 
 abbrev μ-loop : tie.MeasureT-loop
-μ-loop kind dims body m byte₀ weight₀ j₀ byte weight j = ?
+μ-loop kind dims body m byte₀ weight₀ j₀ byte weight j = 8 - j
 
--- src/bits.rt:40:5
 loop-holds : tie.Need-loop-holds Inv-loop μ-loop
-loop-holds c = ?
+loop-holds c = pack-none _ _ _
 
--- src/bits.rt:41:48
 mul-bit : tie.Need-mul-bit Inv-loop μ-loop
-mul-bit c = ?
+mul-bit c = omega arith
 
--- src/bits.rt:41:48
 add-bit : tie.Need-add-bit Inv-loop μ-loop
-add-bit c = ?
+add-bit c = omega arith
 
--- src/bits.rt:41:26
 bit-requires : tie.Need-bit-requires Inv-loop μ-loop
-bit-requires c κs = ?
+bit-requires c κs = search needs
 
--- src/bits.rt:41:17
-mul-byte : tie.Need-mul-byte Inv-loop μ-loop
-mul-byte c = ?
-
--- src/bits.rt:41:9
 add-byte : tie.Need-add-byte Inv-loop μ-loop
-add-byte c = ?
+add-byte c = let next = pack-next (c .before .before .loop .inv) (c .before .loop-test .taken) (c .bit .ensures) in omega arith
 
--- src/bits.rt:42:9
 mul-weight : tie.Need-mul-weight Inv-loop μ-loop
-mul-weight c = ?
+mul-weight c = omega arith
 
--- src/bits.rt:43:9
 add-j : tie.Need-add-j Inv-loop μ-loop
-add-j c = ?
+add-j c = omega arith
 
--- src/bits.rt:40:5
 loop-less : tie.Need-loop-less Inv-loop μ-loop
-loop-less c = ?
+loop-less c = omega arith
 
--- src/bits.rt:40:5
 loop-again : tie.Need-loop-again Inv-loop μ-loop
-loop-again c = ?
+loop-again c = pack-next (c .before .before .loop .inv) (c .before .loop-test .taken) (c .bit .ensures)
 
--- src/bits.rt:45:5
 cast-result : tie.Need-cast-result Inv-loop μ-loop
-cast-result c = ?
+cast-result c = omega arith
 
--- src/bits.rt:30:1
 returns : tie.Need-returns Inv-loop μ-loop
-returns c = ?
+returns c = pack-all (c .before .loop .inv) (c .loop-test .left)
 
 pub packed-byte-spec : {M : Type 1} → statement M
 packed-byte-spec =
@@ -68,7 +56,6 @@ packed-byte-spec =
     mul-bit
     add-bit
     bit-requires
-    mul-byte
     add-byte
     mul-weight
     add-j
