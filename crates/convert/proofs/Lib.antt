@@ -6,6 +6,8 @@ pub mod Fitting
 pub mod Lengths
 pub mod Packed
 pub mod Pieces
+pub mod Places
+pub mod Regions
 pub mod Spread
 pub mod Through
 pub mod Units

@@ -1,7 +1,7 @@
 // To Float32Sparse.
 ghost use mathlib.Core.Path.{_≡_};
 ghost use mathlib.Core.Bool.{false, true, cond};
-ghost use mathlib.Core.List.{[], _∷_, _++_};
+ghost use mathlib.Core.List.{[], _∷_};
 ghost use Prim.Native.Nat.{_+_, _*_, _≤_, _<_};
 ghost use lib.ListN.{length};
 ghost use Rattle.promises.specs.Onto.{onto};
@@ -44,21 +44,20 @@ pub(crate) fn count_stored(kind: VectorType, dims: usize, body: &[u8]) -> usize
     n
 }
 
-// Puts the value of element i at a place.
-fn put_value(kind: VectorType, dims: usize, body: &[u8], i: usize, out: &mut [u8], at: usize)
+// The four bytes stored for element i, as a number.
+fn value_bits(kind: VectorType, dims: usize, body: &[u8], i: usize) -> u32
     requires { ⌜ dims ≤ mostDims ⌝ }
     requires { ⌜ fits kind dims (length (now body)) ≡ true ⌝ }
     requires { ⌜ is 9 kind ≡ false ⌝ }
     requires { ⌜ i < dims ⌝ }
-    requires { ⌜ at + 4 ≤ length (now out) ⌝ }
-    ensures { λ _. ⌜ now (out .exit) ≡ put (now (out .entry)) at (valueBytes kind dims (now (body .entry)) i) ⌝ }
+    ensures { λ r. ⌜ bytesOf 4 r ≡ valueBytes kind dims (now (body .entry)) i ⌝ }
 {
     match kind {
-        VectorType::Float32Dense => elements::put_u32(out, at, elements::u32_at(body, 4 * i)),
-        VectorType::Float64Dense => elements::put_f32(out, at, single(kind, dims, body, i)),
-        VectorType::Float32Sparse => elements::put_f32(out, at, single(kind, dims, body, i)),
-        VectorType::Float1Bit => elements::put_f32(out, at, single(kind, dims, body, i)),
-        VectorType::Float8 => elements::put_f32(out, at, single(kind, dims, body, i)),
+        VectorType::Float32Dense => elements::u32_at(body, 4 * i),
+        VectorType::Float64Dense => elements::bits32(single(kind, dims, body, i)),
+        VectorType::Float32Sparse => elements::bits32(single(kind, dims, body, i)),
+        VectorType::Float1Bit => elements::bits32(single(kind, dims, body, i)),
+        VectorType::Float8 => elements::bits32(single(kind, dims, body, i)),
     }
 }
 
@@ -84,7 +83,7 @@ fn put_entry(
         (now (out .entry)) ⌝ }
 {
     if is_stored(kind, dims, body, i) {
-        put_value(kind, dims, body, i, out, 4 * n);
+        elements::put_u32(out, 4 * n, value_bits(kind, dims, body, i));
         elements::put_u32(out, 4 * count + 4 * n, i as u32);
         return n + 1;
     }

@@ -1,40 +1,44 @@
+-- The elements below i that are stored have been counted.
+use mathlib.Core.Path.{_≡_, ap, _∙_}
+use Prim.Native.Nat.{ℕ, _-_, _≤_}
+use lib.ListN.{length}
+use borrow.Author.Needs.{needs}
+use Rattle.convert.specs.Pieces.{placesOf}
+use Rattle.convert.specs.Sparse.{stored}
+use Rattle.convert.proofs.Places.{length-next, places-few}
 use Rattle.convert.proofs.sparse.count_stored.Statement.{statement}
 use Rattle.convert.proofs.sparse.count_stored.Tie as tie
-use Rattle.convert.proofs.sparse.count_stored.Reads as reads
-use Rattle.convert.proofs.sparse.count_stored.Lts as lts
-use Rattle.convert.proofs.sparse.step.Reads as step-reads
 
 abbrev Inv-loop : tie.InvT-loop
-Inv-loop kind dims body n₀ i₀ n i = ?
+Inv-loop kind dims body n₀ i₀ n i = (i ≤ dims) × (n ≡ length (placesOf (stored kind dims body) i))
 
 abbrev μ-loop : tie.MeasureT-loop
-μ-loop kind dims body n₀ i₀ n i = ?
+μ-loop kind dims body n₀ i₀ n i = dims - i
 
--- src/sparse.rt:40:5
 loop-holds : tie.Need-loop-holds Inv-loop μ-loop
-loop-holds c = ?
+unfolding placesOf
+loop-holds c = search needs
 
--- src/sparse.rt:41:9
 step-requires : tie.Need-step-requires Inv-loop μ-loop
-step-requires c κs = ?
+step-requires c κs =
+    let a = c .before .before .before .args in
+    let few = places-few (stored (a .kind) (a .dims) (a .body .now)) (c .before .loop .i) in
+    let pre = c .before .before .before .pre in
+    (pre .0, (pre .1 .0, (pre .1 .1, (search needs, search needs))))
 
--- src/sparse.rt:42:9
-add-i : tie.Need-add-i Inv-loop μ-loop
-add-i c = ?
-
--- src/sparse.rt:40:5
-loop-less : tie.Need-loop-less Inv-loop μ-loop
-loop-less c = ?
-
--- src/sparse.rt:40:5
 loop-again : tie.Need-loop-again Inv-loop μ-loop
-loop-again c = ?
+loop-again c =
+    let a = c .before .before .before .before .args in
+    let p = stored (a .kind) (a .dims) (a .body .now) in
+    (search needs, rw (length-next p (c .before .before .loop .i)) (search needs))
 
--- src/sparse.rt:32:1
 returns : tie.Need-returns Inv-loop μ-loop
-returns c = ?
+returns c =
+    let a = c .before .before .before .args in
+    let e : c .before .loop .i ≡ a .dims = search needs in
+    c .before .loop .inv .1 ∙ ap (λ (i : ℕ). length (placesOf (stored (a .kind) (a .dims) (a .body .now)) i)) e
 
 pub count-stored-spec : {M : Type 1} → statement M
 count-stored-spec =
     tie.close
-    (tie.spec Inv-loop μ-loop loop-holds step-requires add-i loop-less loop-again returns)
+    (tie.spec Inv-loop μ-loop loop-holds step-requires (λ c. search needs) (λ c. search needs) loop-again returns)

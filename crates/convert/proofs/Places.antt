@@ -1,0 +1,113 @@
+-- Places that pass a test, the pieces of these, and how long a sparse body made of them is.
+use mathlib.Core.Path.{_≡_, refl}
+use mathlib.Core.Logic.{_⊎_, inl, inr}
+use mathlib.Core.Bool.{Bool, true, false, cond}
+use mathlib.Core.List.{List, [], _∷_, _++_, append-assoc, append-nil}
+use Prim.Native.Nat.{ℕ, zero, suc, _+_, _-_, _*_, _<_, _≤_}
+use native.Mathlib.Nat.{add-zero, add-suc, eq-or-lt-of-le}
+use native.Mathlib.Numerals.{add-one}
+use native.Mathlib.Omega.{arith}
+use lib.ListN.{length, getD, drop, length-append, length-drop, List·getD-append}
+use lib.Seq.{length-take-le, getD-append-seam}
+use lib.Ieee.{binary32, toBits}
+use borrow.Author.Tests.{eqb-true}
+use Rattle.elements.specs.Bytes.{bytesOf}
+use Rattle.elements.proofs.Numbers.{length-bytesOf}
+use Rattle.vector_types.specs.Layout.{fits}
+use Rattle.vector_types.specs.declared.VectorType.{VectorType}
+use Rattle.vector_types.specs.declared.VectorType.the-variants.{Float32Dense, Float64Dense, Float32Sparse, Float1Bit, Float8}
+use Rattle.convert.specs.Pieces.{placesOf, each}
+use Rattle.convert.specs.Elements.{element}
+use Rattle.convert.specs.Sparse.{stored, valueBytes, sparseBody}
+
+-- a place after others that are below it
+one-below : (is : List ℕ) (n j : ℕ) (b : Bool) → (j < length is → getD is j 0 < n) → j < length (is ++ cond b (n ∷ []) [])
+    → getD (is ++ cond b (n ∷ []) []) j 0 < suc n
+one-below is n j false lower h = rw append-nil (omega (arith, lower (rw append-nil at h)))
+one-below is n j true lower h = by (eq-or-lt-of-le (omega (arith, rw length-append at h)))
+  where
+    by : (j ≡ length is) ⊎ (j < length is) → getD (is ++ (n ∷ [])) j 0 < suc n
+    by (inl e) = rw (e, getD-append-seam) (omega arith)
+    by (inr l) = rw (List·getD-append is (n ∷ []) 0 j l) (omega (arith, lower l))
+
+-- ---- places: one more or none for each step
+module _ (p : ℕ → Bool) where
+  pub places-next : (n : ℕ) → placesOf p (n + 1) ≡ placesOf p n ++ cond (p n) (n ∷ []) []
+  unfolding placesOf
+  places-next n = rw add-one
+
+  pub length-next : (n : ℕ) → length (placesOf p (n + 1)) ≡ length (placesOf p n) + length (cond (p n) (n ∷ []) [])
+  length-next n = rw (places-next n) (length-append (placesOf p n) (cond (p n) (n ∷ []) []))
+
+  pub places-few : (n : ℕ) → length (placesOf p n) ≤ n
+  unfolding placesOf
+  places-few zero = omega arith
+  places-few (suc n) = rw length-append (omega (arith, places-few n, one (p n)))
+    where
+      one : (b : Bool) → length (cond b (n ∷ []) []) ≤ 1
+      one true = omega arith
+      one false = omega arith
+
+  pub places-rise : (n m : ℕ) → n ≤ m → length (placesOf p n) ≤ length (placesOf p m)
+  places-rise n m h = let e : m ≡ n + (m - n) = omega arith in rw e (on (m - n))
+    where
+      on : (k : ℕ) → length (placesOf p n) ≤ length (placesOf p (n + k))
+      on zero = rw add-zero (omega arith)
+      on (suc k) = rw (add-suc, ← add-one (n + k)) (omega (arith, on k, length-next (n + k)))
+
+  pub places-room : (n m : ℕ) → n < m → length (placesOf p n) + length (cond (p n) (n ∷ []) []) ≤ length (placesOf p m)
+  places-room n m h = rw (← length-next n) (places-rise (n + 1) m (omega arith))
+
+  pub places-below : (n j : ℕ) → j < length (placesOf p n) → getD (placesOf p n) j 0 < n
+  unfolding placesOf
+  places-below (suc n) j h = one-below (placesOf p n) n j (p n) (places-below n j) h
+
+-- ---- the pieces of places, which have w bytes each
+pub each-append : (g : ℕ → List ℕ) (is js : List ℕ) → each g (is ++ js) ≡ each g is ++ each g js
+unfolding each
+each-append g [] js = refl
+each-append g (i ∷ is) js = rw (append-assoc, ← each-append g is js)
+
+pub each-snoc : (g : ℕ → List ℕ) (is : List ℕ) (i : ℕ) → each g (is ++ (i ∷ [])) ≡ each g is ++ g i
+unfolding each
+each-snoc g is i = rw (each-append g is (i ∷ []), append-nil)
+
+pub length-each : (g : ℕ → List ℕ) (w : ℕ) (p : ℕ → Bool) (n : ℕ) → ((i : ℕ) → i < n → length (g i) ≡ w)
+    → length (each g (placesOf p n)) ≡ w * length (placesOf p n)
+unfolding placesOf each
+length-each g w p zero h = omega arith
+length-each g w p (suc n) h =
+    let lower = length-each g w p n (λ i l. h i (omega arith)) in
+    simp (each-append, length-append, lower) (omega (arith, last (p n)))
+  where
+    last : (b : Bool) → length (each g (cond b (n ∷ []) [])) ≡ w * length (cond b (n ∷ []) [])
+    last true = rw length-append (omega (arith, h n (omega arith)))
+    last false = omega arith
+
+-- ---- the values and the indices that a sparse body is made of
+pub dense-inside : {k : VectorType} (d m i : ℕ) → k ≡ Float32Dense → fits k d m ≡ true → i < d → 4 * i + 4 ≤ m
+unfolding fits
+dense-inside d m i e fit h = omega (arith, eqb-true m (4 * d) (rw e at fit))
+
+pub length-value : (k : VectorType) (d : ℕ) (body : List ℕ) → fits k d (length body) ≡ true → (i : ℕ) → i < d
+    → length (valueBytes k d body i) ≡ 4
+unfolding valueBytes
+length-value Float32Dense d body fit i h =
+    length-take-le 4 (drop (4 * i) body) (rw length-drop (omega (arith, dense-inside d (length body) i refl fit h)))
+length-value Float64Dense d body fit i h = length-bytesOf 4 (toBits binary32 (element binary32 Float64Dense d body i))
+length-value Float32Sparse d body fit i h = length-bytesOf 4 (toBits binary32 (element binary32 Float32Sparse d body i))
+length-value Float1Bit d body fit i h = length-bytesOf 4 (toBits binary32 (element binary32 Float1Bit d body i))
+length-value Float8 d body fit i h = length-bytesOf 4 (toBits binary32 (element binary32 Float8 d body i))
+
+pub length-indices : (p : ℕ → Bool) (n : ℕ) → length (each (bytesOf 4) (placesOf p n)) ≡ 4 * length (placesOf p n)
+length-indices p n = length-each (bytesOf 4) 4 p n (λ i _. length-bytesOf 4 i)
+
+module _ (k : VectorType) (d : ℕ) (body : List ℕ) (fit : fits k d (length body) ≡ true) where
+  pub length-values : (p : ℕ → Bool) (n : ℕ) → n ≤ d → length (each (valueBytes k d body) (placesOf p n)) ≡ 4 * length (placesOf p n)
+  length-values p n h = length-each (valueBytes k d body) 4 p n (λ i l. length-value k d body fit i (omega arith))
+
+  pub length-sparse : length (sparseBody k d body) ≡ 8 * length (placesOf (stored k d body) d)
+  unfolding sparseBody
+  length-sparse =
+      let p = stored k d body in
+      rw (length-append, length-values p d (omega arith), length-indices p d) (omega arith)
