@@ -7,7 +7,9 @@ pub mod Lengths
 pub mod Packed
 pub mod Pieces
 pub mod Places
+pub mod Ranged
 pub mod Regions
+pub mod Scaled
 pub mod Spread
 pub mod Through
 pub mod Units

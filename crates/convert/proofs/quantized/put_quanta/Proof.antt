@@ -1,64 +1,39 @@
+-- `quantized::put_quanta` meets its contract. The loop's invariant: the bytes of the elements passed are written.
+use mathlib.Core.List.{[], _∷_}
+use Prim.Native.Nat.{_-_}
+use native.Mathlib.Omega.{arith}
+use borrow.Author.Needs.{needs}
+use lib.Ieee.{binary32}
+use Rattle.convert.specs.Pieces.{pieces}
+use Rattle.convert.specs.Elements.{element}
+use Rattle.convert.specs.Quantized.{quantum}
+use Rattle.convert.proofs.Pieces.{Filled, fill-none, fill-byte, fill-all}
 use Rattle.convert.proofs.quantized.put_quanta.Statement.{statement}
 use Rattle.convert.proofs.quantized.put_quanta.Tie as tie
-use Rattle.convert.proofs.quantized.put_quanta.Reads as reads
-use Rattle.convert.proofs.quantized.put_quanta.Lts as lts
-use Rattle.convert.proofs.element.single.Reads as single-reads
-use Rattle.convert.proofs.quantized.quantize.Reads as quantize-reads
 
 abbrev Inv-loop : tie.InvT-loop
-Inv-loop kind dims body scale out₀ i₀ out i = ?
+Inv-loop kind dims body scale out₀ i₀ out i =
+    Filled (pieces (λ k. quantum (scale .alpha) (scale .shift) (element binary32 kind dims body k) ∷ [])) dims out₀ out i
 
 abbrev μ-loop : tie.MeasureT-loop
-μ-loop kind dims body scale out₀ i₀ out i = ?
+μ-loop kind dims body scale out₀ i₀ out i = dims - i
 
--- src/quantized.rt:99:5
 loop-holds : tie.Need-loop-holds Inv-loop μ-loop
-loop-holds c = ?
+loop-holds c = fill-none _ _ _
 
--- src/quantized.rt:100:13
-single-requires : tie.Need-single-requires Inv-loop μ-loop
-single-requires c κs = ?
-
--- src/quantized.rt:101:18
-quantize-requires : tie.Need-quantize-requires Inv-loop μ-loop
-quantize-requires c κs = ?
-
--- src/quantized.rt:101:9
-slice-write-out : tie.Need-slice-write-out Inv-loop μ-loop
-slice-write-out c = ?
-
--- src/quantized.rt:102:9
-add-i : tie.Need-add-i Inv-loop μ-loop
-add-i c = ?
-
--- src/quantized.rt:99:5
-loop-less : tie.Need-loop-less Inv-loop μ-loop
-loop-less c = ?
-
--- src/quantized.rt:99:5
 loop-again : tie.Need-loop-again Inv-loop μ-loop
-loop-again c = ?
+loop-again c =
+    let l = c .before .before .before .loop in
+    let byte = rw (c .before .single .ensures) at (c .quantize .ensures) in
+    fill-byte _ (l .inv) (omega arith) (omega arith) (c .quantize .result) byte
 
--- src/quantized.rt:91:1
-same-length : tie.Need-same-length Inv-loop μ-loop
-same-length c = ?
-
--- src/quantized.rt:91:1
 returns : tie.Need-returns Inv-loop μ-loop
-returns c = ?
+returns c = fill-all (c .before .loop .inv) (c .loop-test .left)
 
 pub put-quanta-spec : {M : Type 1} → statement M
 put-quanta-spec =
     tie.close
     (tie.spec
-    Inv-loop
-    μ-loop
-    loop-holds
-    single-requires
-    quantize-requires
-    slice-write-out
-    add-i
-    loop-less
-    loop-again
-    same-length
-    returns)
+    Inv-loop μ-loop loop-holds
+    (λ c κs. search needs) (λ c κs. tt) (λ c. omega arith) (λ c. omega arith) (λ c. omega arith)
+    loop-again (λ c. search needs) returns)

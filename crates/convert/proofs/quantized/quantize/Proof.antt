@@ -1,21 +1,25 @@
-use borrow.Author.Needs.{needs}
+-- `quantized::quantize` meets its contract: the code's test is the definition's.
+use mathlib.Core.Path.{_≡_}
+use mathlib.Core.Bool.{true, false}
+use lib.Ieee.{eq, ofBits}
+use Rattle.float_laws.specs.Zero.{plusZero}
 use Rattle.convert.proofs.quantized.quantize.Statement.{statement}
 use Rattle.convert.proofs.quantized.quantize.Tie as tie
-use Rattle.convert.proofs.quantized.quantize.Reads as reads
-use Rattle.convert.proofs.quantized.quantize.Lts as lts
-use Rattle.rounding.proofs.truncate.Reads as truncate-reads
 
--- src/quantized.rt:85:9
 returns : tie.Need-returns
-returns c = ?
+unfolding ofBits
+returns c =
+    let zero : eq (c .before .before .args .scale .alpha) plusZero ≡ true = c .if1 .taken in
+    rw zero
 
--- src/quantized.rt:87:5
 truncate-requires : tie.Need-truncate-requires
-truncate-requires c κs = search needs
+truncate-requires c κs = tt
 
--- src/quantized.rt:81:1
 returns-2 : tie.Need-returns-2
-returns-2 c = ?
+unfolding ofBits
+returns-2 c =
+    let other : eq (c .before .before .before .before .before .args .scale .alpha) plusZero ≡ false = c .before .before .before .if1 .left in
+    rw other (c .truncate .ensures)
 
 pub quantize-spec : {M : Type 1} → statement M
 quantize-spec = tie.close (tie.spec returns truncate-requires returns-2)

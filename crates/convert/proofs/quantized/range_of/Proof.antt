@@ -1,54 +1,40 @@
+-- `quantized::range_of` meets its contract. The loop's invariant: the range of the elements passed.
+use mathlib.Core.Path.{_≡_, refl}
+use Prim.Native.Nat.{_-_, _≤_}
+use native.Mathlib.Omega.{arith}
+use borrow.Author.Needs.{needs}
+use lib.Ieee.{binary32, ofBits, div, neg}
+use Rattle.convert.specs.Elements.{element}
+use Rattle.convert.specs.Quantized.{least, greatest}
+use Rattle.convert.proofs.Scaled.{RangeOf, one-more}
 use Rattle.convert.proofs.quantized.range_of.Statement.{statement}
 use Rattle.convert.proofs.quantized.range_of.Tie as tie
-use Rattle.convert.proofs.quantized.range_of.Reads as reads
-use Rattle.convert.proofs.quantized.range_of.Lts as lts
-use Rattle.convert.proofs.element.single.Reads as single-reads
-use Rattle.convert.proofs.quantized.wider.Reads as wider-reads
 
 abbrev Inv-loop : tie.InvT-loop
-Inv-loop kind dims body found₀ i₀ found i = ?
+Inv-loop kind dims body found₀ i₀ found i = (i ≤ dims) × RangeOf (element binary32 kind dims body) i found
 
 abbrev μ-loop : tie.MeasureT-loop
-μ-loop kind dims body found₀ i₀ found i = ?
+μ-loop kind dims body found₀ i₀ found i = dims - i
 
--- src/quantized.rt:51:5
 loop-holds : tie.Need-loop-holds Inv-loop μ-loop
-loop-holds c = ?
+unfolding least greatest div ofBits neg
+loop-holds c = (omega arith, (refl, refl))
 
--- src/quantized.rt:52:13
-single-requires : tie.Need-single-requires Inv-loop μ-loop
-single-requires c κs = ?
-
--- src/quantized.rt:53:9
-wider-requires : tie.Need-wider-requires Inv-loop μ-loop
-wider-requires c κs = ?
-
--- src/quantized.rt:54:9
-add-i : tie.Need-add-i Inv-loop μ-loop
-add-i c = ?
-
--- src/quantized.rt:51:5
-loop-less : tie.Need-loop-less Inv-loop μ-loop
-loop-less c = ?
-
--- src/quantized.rt:51:5
 loop-again : tie.Need-loop-again Inv-loop μ-loop
-loop-again c = ?
+loop-again c =
+    let l = c .before .before .before .loop in
+    (omega arith, one-more _ (l .i) (l .found) (c .wider .result) (c .before .single .result) (l .inv .1) (c .before .single .ensures) (c .wider .ensures))
 
--- src/quantized.rt:39:1
 returns : tie.Need-returns Inv-loop μ-loop
-returns c = ?
+returns c =
+    let l = c .before .loop in
+    let all : l .i ≡ c .before .before .before .args .dims = omega arith in
+    rw all at (l .inv .1)
 
 pub range-of-spec : {M : Type 1} → statement M
 range-of-spec =
     tie.close
     (tie.spec
-    Inv-loop
-    μ-loop
-    loop-holds
-    single-requires
-    wider-requires
-    add-i
-    loop-less
-    loop-again
-    returns)
+    Inv-loop μ-loop loop-holds
+    (λ c κs. search needs) (λ c κs. tt) (λ c. omega arith) (λ c. omega arith)
+    loop-again returns)

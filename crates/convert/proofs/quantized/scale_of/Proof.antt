@@ -1,21 +1,23 @@
+-- `quantized::scale_of` meets its contract: of no elements zeros, else by their range.
 use borrow.Author.Needs.{needs}
+use borrow.Author.Tests.{eq-eqb, ne-eqb}
+use lib.Ieee.{ofBits, ofInt}
+use Rattle.convert.specs.Quantized.{scaleOf}
 use Rattle.convert.proofs.quantized.scale_of.Statement.{statement}
 use Rattle.convert.proofs.quantized.scale_of.Tie as tie
-use Rattle.convert.proofs.quantized.scale_of.Reads as reads
-use Rattle.convert.proofs.quantized.scale_of.Lts as lts
-use Rattle.convert.proofs.quantized.range_of.Reads as range-of-reads
 
--- src/quantized.rt:67:9
 returns : tie.Need-returns
-returns c = ?
+unfolding scaleOf ofBits
+returns c = rw (eq-eqb _ _ (c .if1 .taken))
 
--- src/quantized.rt:72:9
 range-of-requires : tie.Need-range-of-requires
 range-of-requires c κs = search needs
 
--- src/quantized.rt:60:1
 returns-2 : tie.Need-returns-2
-returns-2 c = ?
+unfolding scaleOf ofBits ofInt
+returns-2 c =
+    let r = c .before .range-of .ensures in
+    rw (ne-eqb _ _ (c .before .before .if1 .left), r .0, r .1)
 
 pub scale-of-spec : {M : Type 1} → statement M
 scale-of-spec = tie.close (tie.spec returns range-of-requires returns-2)

@@ -1,15 +1,20 @@
+-- `quantized::wider` meets its contract: each test is the definition's.
+use mathlib.Core.Path.{_≡_}
+use mathlib.Core.Logic.{⊎-elim}
+use mathlib.Core.Bool.{cond}
+use lib.Ieee.{lt}
 use Rattle.convert.proofs.quantized.wider.Statement.{statement}
 use Rattle.convert.proofs.quantized.wider.Tie as tie
-use Rattle.convert.proofs.quantized.wider.Reads as reads
-use Rattle.convert.proofs.quantized.wider.Lts as lts
 
--- src/quantized.rt:30:1
+-- the two ways to the least element meet
+low : (c : tie.Joined1) → let a = c .before .before .args in c .if1 .low ≡ cond (lt (a .x) (a .range .low)) (a .x) (a .range .low)
+low c = ⊎-elim (λ w. rw (w .1, w .0 .taken)) (λ w. rw (w .1, w .0 .left)) (c .if1 .came)
+
 returns : tie.Need-returns
-returns c = ?
+returns c = (low (c .before .before), rw (c .if2 .taken))
 
--- src/quantized.rt:30:1
 returns-2 : tie.Need-returns-2
-returns-2 c = ?
+returns-2 c = (low (c .before .before), rw (c .if2 .left))
 
 pub wider-spec : {M : Type 1} → statement M
 wider-spec = tie.close (tie.spec returns returns-2)

@@ -1,0 +1,79 @@
+-- Laws of Float8 bodies: the range with one element more, bytes, and how long the body is.
+use mathlib.Core.Path.{_≡_, _∙_}
+use mathlib.Core.Bool.{Bool, true, false, cond}
+use mathlib.Core.List.{List, [], _∷_, _++_, append-assoc}
+use Prim.Native.Nat.{ℕ, _+_, _-_, _*_, _/_, _<_}
+use native.Mathlib.Omega.{arith}
+use native.Mathlib.Nat.{min-le-right}
+use native.Mathlib.Numerals.{add-one}
+use lib.ListN.{length, take, drop, replicate, length-append, length-replicate}
+use lib.Ieee.{Float, nan, inf, fin, up, down, lt, eq, add, sub, div, binary32}
+use borrow.Rule.Slice.PartMut.{putMid}
+use Rattle.promises.specs.Onto.{onto}
+use Rattle.promises.proofs.Onto.{onto-then}
+use Rattle.float_laws.specs.Zero.{plusZero}
+use Rattle.rounding.specs.Truncate.{truncated}
+use Rattle.elements.specs.Bytes.{put, floatBytes}
+use Rattle.elements.proofs.Numbers.{length-bytesOf}
+use Rattle.vector_types.specs.Layout.{ceil}
+use Rattle.vector_types.specs.declared.VectorType.{VectorType}
+use Rattle.convert.specs.Pieces.{pieces}
+use Rattle.convert.specs.Elements.{element}
+use Rattle.convert.specs.Quantized.{least, greatest, half, quantum, scaleOf, quantizedBody}
+use Rattle.convert.specs.declared.quantized.Range.{Range}
+use Rattle.convert.specs.declared.quantized.Scale.{Scale}
+use Rattle.convert.proofs.Pieces.{length-bytes, put-after}
+
+-- ---- the range
+-- r is the range of the first n elements
+abbrev pub RangeOf : (ℕ → Float) → ℕ → Range → Type 0
+RangeOf e n r = (r .low ≡ least e n) × (r .high ≡ greatest e n)
+
+pub one-more : (e : ℕ → Float) (n : ℕ) (r w : Range) (x : Float) → RangeOf e n r → x ≡ e n
+    → (w .low ≡ cond (lt x (r .low)) x (r .low)) × (w .high ≡ cond (lt (r .high) x) x (r .high))
+    → RangeOf e (n + 1) w
+unfolding least greatest
+one-more e n r w x (low, high) at (l, h) = rw (add-one n, ← low, ← high, ← at) (l, h)
+
+-- ---- the body
+truncated-byte : (x : Float) → truncated x < 256
+unfolding truncated
+truncated-byte nan = omega arith
+truncated-byte (inf true) = omega arith
+truncated-byte (inf false) = omega arith
+truncated-byte (fin true m e) = omega arith
+truncated-byte (fin false m e) = omega (arith, min-le-right (m * up e / down e) 255)
+
+pub quantum-byte : (alpha shift x : Float) → quantum alpha shift x < 256
+quantum-byte alpha shift x = byte (eq alpha plusZero) (truncated-byte (add binary32 (div binary32 (sub binary32 x shift) alpha) half))
+  where
+    byte : (zero : Bool) {n : ℕ} → n < 256 → cond zero 0 n < 256
+    byte true h = omega arith
+    byte false h = h
+
+pub length-quantizedBody : (k : VectorType) (d : ℕ) (body : List ℕ) → length (quantizedBody k d body) ≡ 4 * ceil d 4 + 8
+unfolding quantizedBody
+length-quantizedBody k d body =
+    simp (length-append, length-bytes, length-replicate, length-bytesOf) (omega arith)
+
+-- what is left by four writers: the bytes, the zeros as a part from d on, alpha and shift
+pub quantized-put : (k : VectorType) (d end : ℕ) (body l o ys o′ o″ : List ℕ) (c : Scale) → end ≡ 4 * ceil d 4
+    → c ≡ scaleOf (element binary32 k d body) d
+    → o ≡ onto (pieces (λ i. quantum (c .alpha) (c .shift) (element binary32 k d body i) ∷ []) d) l
+    → ys ≡ onto (replicate (end - d) 0) (take (length o - d) (drop d o))
+    → o′ ≡ put (putMid d (length o - d) o ys) end (floatBytes binary32 (c .alpha))
+    → o″ ≡ put o′ (end + 4) (floatBytes binary32 (c .shift))
+    → o″ ≡ onto (quantizedBody k d body) l
+unfolding quantizedBody
+quantized-put k d end body l o ys o′ o″ c at scale bytes zeros alpha shift =
+    let b = pieces (λ i. quantum (c .alpha) (c .shift) (element binary32 k d body i) ∷ []) d in
+    let z : List ℕ = replicate (end - d) 0 in
+    let a = floatBytes binary32 (c .alpha) in
+    let s = floatBytes binary32 (c .shift) in
+    let short : length b ≡ d = length-bytes _ d in
+    let two = onto-then b z l o ys d bytes short zeros in
+    let long : length (b ++ z) ≡ end = rw (length-append, short, length-replicate) (omega arith) in
+    let three = alpha ∙ put-after (b ++ z) a l _ end long two in
+    let longer : length (b ++ z ++ a) ≡ end + 4 = rw (length-append, long, length-bytesOf) in
+    let four = shift ∙ put-after (b ++ z ++ a) s l _ (end + 4) longer three in
+    rw (← scale, ← at) (rw (append-assoc (b ++ z) a s, append-assoc b z (a ++ s)) at four)
