@@ -5,9 +5,10 @@ use mathlib.Core.List.{List}
 use Prim.Native.Nat.{ℕ, _+_, _*_, _/_, _%_, _<_, _≤_}
 use native.Mathlib.Omega.{arith}
 use lib.Dec.{ltb}
-use lib.ListN.{length}
+use lib.ListN.{length, take, drop}
+use lib.Seq.{take-at}
 use lib.Ieee.{Format, binary32, binary64}
-use borrow.Author.Tests.{lt-ltb, le-ltb, not-true}
+use borrow.Author.Tests.{eq-eqb, lt-ltb, le-ltb, not-true}
 use Rattle.promises.specs.Onto.{onto}
 use Rattle.elements.specs.Bytes.{width}
 use Rattle.vector_types.specs.Layout.{ceil, is, counted, fits, outside}
@@ -16,7 +17,7 @@ use Rattle.vector_types.specs.declared.VectorType.{VectorType}
 use Rattle.vector_types.specs.declared.VectorType.the-variants.{Float32Dense, Float64Dense, Float32Sparse, Float1Bit, Float8}
 use Rattle.vector_types.proofs.Bools.{or-both}
 use Rattle.convert.specs.Pieces.{placesOf}
-use Rattle.convert.specs.Dense.{spreadBody}
+use Rattle.convert.specs.Dense.{count, spreadBody}
 use Rattle.convert.specs.Elements.{element, floatsOf, denseBody}
 use Rattle.convert.specs.Sparse.{stored, sparseBody}
 use Rattle.convert.specs.Bits.{bitBody}
@@ -27,6 +28,11 @@ use Rattle.convert.specs.declared.result.Way.{Way}
 use Rattle.convert.specs.declared.result.Way.the-variants.{Copied, Straight, Through}
 use Rattle.convert.specs.declared.ConvertAnswer.{ConvertAnswer}
 use Rattle.convert.specs.declared.ConvertAnswer.the-variants.{Converted, Refused, ShortScratch, Short}
+use Rattle.convert.proofs.Lengths.{length-dense}
+use Rattle.convert.proofs.Packed.{length-bitBody}
+use Rattle.convert.proofs.Places.{length-sparse}
+use Rattle.convert.proofs.Spread.{length-spread}
+use Rattle.convert.proofs.Scaled.{length-quantizedBody}
 use Rattle.convert.proofs.Through.{through-made}
 
 by-kind : (P : VectorType → Type 0) → P Float32Dense → P Float64Dense → P Float32Sparse → P Float1Bit → P Float8 → (k : VectorType) → P k
@@ -82,11 +88,11 @@ sizeOf k Float8 d body = 4 * ceil d 4 + 8
 module _ (k : VectorType) (d : ℕ) (body : List ℕ) (fit : fits k d (length body) ≡ true) (inside : (is 9 k && some (outside body (length body / 8) d) (length body / 8)) ≡ false) where
   pub made-size : (t : VectorType) → length (made k t d body) ≡ sizeOf k t d body
   unfolding made
-  made-size Float32Dense = ?
-  made-size Float64Dense = ?
-  made-size Float32Sparse = ?
-  made-size Float1Bit = ?
-  made-size Float8 = ?
+  made-size Float32Dense = length-dense binary32 k d body inside
+  made-size Float64Dense = length-dense binary64 k d body inside
+  made-size Float32Sparse = length-sparse k d body fit
+  made-size Float1Bit = length-bitBody k d body
+  made-size Float8 = length-quantizedBody k d body
 
   -- to a kind that is known
   pub sized : (t u : VectorType) → t ≡ u → length (made k t d body) ≡ sizeOf k u d body
@@ -163,6 +169,28 @@ sparse-through Float32Dense h d body = absurd (false≢true h)
 sparse-through Float64Dense h d body = absurd (false≢true h)
 sparse-through Float32Sparse h d body = absurd (false≢true h)
 
+module _ (d : ℕ) (body : List ℕ) (inside : some (outside body (count body) d) (count body) ≡ false) where
+  abbrev dense : List ℕ
+  dense = spreadBody binary32 d body
+
+  dense-long : length dense ≡ 4 * d
+  dense-long = length-spread binary32 d body inside (count body) (omega arith)
+
+  pub dense-fits : fits Float32Dense d (length dense) ≡ true
+  unfolding fits
+  dense-fits = eq-eqb (length dense) (4 * d) dense-long
+
+  -- it stands at the front of scratch
+  pub dense-front : (scratch s : List ℕ) → s ≡ onto dense scratch → take (4 * d) s ≡ dense
+  dense-front scratch s e = rw e (take-at dense (drop (length dense) scratch) (4 * d) dense-long)
+
+  pub through-size : (t : VectorType) → counted t ≡ true → fits Float32Sparse d (length body) ≡ true
+      → length (made Float32Sparse t d body) ≡ length (resultOf Float32Sparse t d body)
+  through-size t takes fit =
+      let first = made-size Float32Sparse d body fit inside t in
+      let second = made-size Float32Dense d dense dense-fits refl t in
+      rw (sparse-through t takes d body) (first ∙ counted-size t takes Float32Sparse Float32Dense d body dense ∙ sym second)
+
 -- ---- a new body of so many bytes, where the output is too short and where it is not
 abbrev pub Put : VectorType → ℕ → (new out : List ℕ) → ConvertAnswer → List ℕ → Type 0
 Put t d new out r o = (r ≡ answerWith t d new (length out)) × (o ≡ outWith new out)
@@ -192,6 +220,7 @@ plainly k d body t scratch out r o h (e, p) = (e ∙ rw h, (rw (h, and-false), p
   where
     new : List ℕ
     new = resultOf k t d body
+
     left : (b : Bool) → cond b out (onto new out) ≡ cond (isConverted (cond b (Short (length new)) (convertedTo t d (length new)))) (onto new out) out
     left true = refl
     left false = refl

@@ -2,6 +2,7 @@
 pub mod Answered
 pub mod Bodies
 pub mod Bytewise
+pub mod Determined
 pub mod Fitting
 pub mod Lengths
 pub mod Packed

@@ -24,7 +24,8 @@ use Rattle.convert.specs.Bits.{packedByte, packed, positive, bitBody}
 use Rattle.convert.specs.Quantized.{least, greatest, quantum, scaleOf, quantizedBy, quantizedBody}
 use Rattle.convert.specs.Result.{made}
 use Rattle.convert.proofs.Pieces.{length-pieces}
-use Rattle.convert.proofs.Units.{element-fits}
+use Rattle.convert.proofs.Places.{each-append}
+use Rattle.convert.proofs.Fitting.{element-fits}
 
 -- ---- what asks only for places below n is the same of two functions that agree there
 abbrev Same : {A : Type 0} → (ℕ → A) → (ℕ → A) → ℕ → Type 0
@@ -39,9 +40,6 @@ pub places-same : (p q : ℕ → Bool) (n : ℕ) → Same p q n → placesOf p n
 unfolding placesOf
 places-same p q zero s = refl
 places-same p q (suc n) s = rw (places-same p q n (λ i l. s i (omega arith)), s n (omega arith))
-
-each-append : (g : ℕ → List ℕ) (is js : List ℕ) → each g (is ++ js) ≡ each g is ++ each g js
-each-append g is js = ?
 
 pub each-same : (g h : ℕ → List ℕ) (p : ℕ → Bool) (n : ℕ) → Same g h n → each g (placesOf p n) ≡ each h (placesOf p n)
 unfolding placesOf each
@@ -60,6 +58,7 @@ byte-same p q d m (suc j) s = rw (byte-same p q d m j s, at (ltb i d) refl)
   where
     i : ℕ
     i = 8 * m + j
+
     at : (b : Bool) → ltb i d ≡ b → ltb i d && p i ≡ ltb i d && q i
     at true e = rw e (s i (ltb-true i d e))
     at false e = rw e
@@ -98,6 +97,7 @@ module _ (g : ℕ → List ℕ) (w : ℕ) (wide : (i : ℕ) → length (g i) ≡
     where
       long : length (pieces g n) ≡ w * n
       long = length-pieces g w wide n
+
       by : (b : Bool) → ltb i n ≡ b → (i < n → take w (drop (w * i) (pieces g n)) ≡ g i) → take w (drop (w * i) (pieces g n ++ g n)) ≡ g i
       by true e earlier =
           let m = ltb-true i n e in

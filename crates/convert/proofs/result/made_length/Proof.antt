@@ -2,6 +2,8 @@
 use mathlib.Core.Path.{sym, ap, _∙_}
 use native.Mathlib.Omega.{arith}
 use Rattle.vector_types.specs.Layout.{is}
+use Rattle.convert.specs.Sparse.{stored}
+use Rattle.convert.proofs.Places.{places-few}
 use Rattle.convert.proofs.Answered.{sized, and-left}
 use borrow.Author.Needs.{needs}
 use Rattle.convert.proofs.result.made_length.Statement.{statement}
@@ -13,7 +15,9 @@ count-stored-requires c κs =
     (a .pre .0, (a .pre .1 .0, and-left _ _ (a .pre .1 .1 .1) (ap (is 9) (c .enum-told3 .given .1))))
 
 mul-result-3 : tie.Need-mul-result-3
-mul-result-3 c = ?
+mul-result-3 c =
+    let a = c .before .before .before .before in
+    omega (arith, a .pre .0, c .count-stored .ensures, places-few (stored (a .args .kind) (a .args .dims) (a .args .body .now)) (a .args .dims))
 
 returns : tie.Need-returns
 returns c = let a = c .before .before .before in sym (sized _ _ _ (a .pre .1 .0) (a .pre .1 .1 .0) _ _ (c .enum-told .given .1))
