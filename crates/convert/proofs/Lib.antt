@@ -1,5 +1,8 @@
 -- Laws of conversions
+pub mod Answered
 pub mod Bodies
+pub mod Bytewise
+pub mod Determined
 pub mod Fitting
 pub mod Lengths
 pub mod Packed
@@ -9,4 +12,5 @@ pub mod Ranged
 pub mod Regions
 pub mod Scaled
 pub mod Spread
+pub mod Through
 pub mod Units

@@ -39,14 +39,18 @@ isConverted (Short need) = false
 abbrev pub scratched : VectorType → VectorType → Bool
 scratched k t = is 9 k && counted t
 
+-- of a new body: the answer for so much room, and what is left in the output
+abbrev pub answerWith : VectorType → ℕ → List ℕ → ℕ → ConvertAnswer
+answerWith t d new room = cond (ltb room (length new)) (Short (length new)) (convertedTo t d (length new))
+
+abbrev pub outWith : List ℕ → List ℕ → List ℕ
+outWith new out = cond (ltb (length out) (length new)) out (onto new out)
+
 -- of a body of a kind and dims: the answer for so much scratch and so much room
 unfoldable pub answerOf : VectorType → ℕ → List ℕ → VectorType → ℕ → ℕ → ConvertAnswer
 unfolding resultOf
 answerOf k d body t scratch room =
-    let need = length (resultOf k t d body) in
-    cond (scratched k t && ltb scratch (4 * d)) (ShortScratch (4 * d))
-    (cond (ltb room need) (Short need)
-    (convertedTo t d need))
+    cond (scratched k t && ltb scratch (4 * d)) (ShortScratch (4 * d)) (answerWith t d (resultOf k t d body) room)
 
 -- and what is left in the two buffers
 unfoldable pub scratchBy : VectorType → ℕ → List ℕ → VectorType → List ℕ → ℕ → List ℕ

@@ -1,8 +1,7 @@
 // Which way a pair is converted, how long the result is, and putting it.
 ghost use mathlib.Core.Path.{_≡_};
-ghost use mathlib.Core.Bool.{false, true, cond, _&&_, _||_};
+ghost use mathlib.Core.Bool.{false, true, _&&_, _||_};
 ghost use Prim.Native.Nat.{_*_, _/_, _≤_};
-ghost use lib.Dec.{ltb};
 ghost use lib.ListN.{length};
 ghost use lib.Ieee.{binary32, binary64};
 ghost use Rattle.promises.specs.Onto.{onto};
@@ -11,11 +10,9 @@ ghost use Rattle.vector_types.specs.Search.{some};
 ghost use Rattle.vector_types.specs.Read.{readOf};
 ghost use Rattle.vector_types.specs.Parts.{bodyOf};
 ghost use Rattle.vector_types.specs.declared.ReadAnswer.the-variants.{View as Seen};
-ghost use Rattle.convert.specs.Dense.{spreadBody};
 ghost use Rattle.convert.specs.Result.{wayOf, made, resultOf};
 ghost use Rattle.convert.specs.Elements.{denseBody};
-ghost use Rattle.convert.specs.Convert.{convertedTo, answerOf, scratchBy, outBy};
-ghost use Rattle.convert.specs.declared.ConvertAnswer.the-variants.{Short};
+ghost use Rattle.convert.specs.Convert.{convertedTo, answerWith, outWith, answerOf, scratchBy, outBy};
 ghost use Rattle.vector_types.specs.declared.VectorType.the-variants.{Float32Dense, Float64Dense, Float32Sparse, Float1Bit, Float8};
 use crate::ConvertAnswer;
 use crate::bits::put_bits;
@@ -109,10 +106,36 @@ fn way_of(kind: VectorType, target: VectorType) -> Way
     }
 }
 
+fn is_sparse(kind: VectorType) -> bool
+    ensures { λ r. ⌜ r ≡ is 9 kind ⌝ }
+{
+    match kind {
+        VectorType::Float32Sparse => true,
+        VectorType::Float32Dense => false,
+        VectorType::Float64Dense => false,
+        VectorType::Float1Bit => false,
+        VectorType::Float8 => false,
+    }
+}
+
+// Whether blobs of a kind carry a trailing count.
+fn is_counted(kind: VectorType) -> bool
+    ensures { λ r. ⌜ r ≡ counted kind ⌝ }
+{
+    match kind {
+        VectorType::Float1Bit => true,
+        VectorType::Float8 => true,
+        VectorType::Float32Dense => false,
+        VectorType::Float64Dense => false,
+        VectorType::Float32Sparse => false,
+    }
+}
+
 // How long the body is that one step makes.
 fn made_length(kind: VectorType, target: VectorType, dims: usize, body: &[u8]) -> usize
     requires { ⌜ dims ≤ mostDims ⌝ }
     requires { ⌜ fits kind dims (length (now body)) ≡ true ⌝ }
+    requires { ⌜ (is 9 kind && some (outside (now body) (length (now body) / 8) dims) (length (now body) / 8)) ≡ false ⌝ }
     requires { ⌜ (is 9 kind && is 9 target) ≡ false ⌝ }
     ensures { λ r. ⌜ r ≡ length (made kind target dims (now (body .entry))) ⌝ }
 {
@@ -133,13 +156,11 @@ fn put_dense32(kind: VectorType, dims: usize, body: &[u8], out: &mut [u8])
     requires { ⌜ 4 * dims ≤ length (now out) ⌝ }
     ensures { λ _. ⌜ now (out .exit) ≡ onto (denseBody binary32 kind dims (now (body .entry))) (now (out .entry)) ⌝ }
 {
-    match kind {
-        VectorType::Float32Sparse => spread32(dims, body, out),
-        VectorType::Float32Dense => put_singles(kind, dims, body, out),
-        VectorType::Float64Dense => put_singles(kind, dims, body, out),
-        VectorType::Float1Bit => put_singles(kind, dims, body, out),
-        VectorType::Float8 => put_singles(kind, dims, body, out),
+    if is_sparse(kind) {
+        spread32(dims, body, out);
+        return;
     }
+    put_singles(kind, dims, body, out);
 }
 
 fn put_dense64(kind: VectorType, dims: usize, body: &[u8], out: &mut [u8])
@@ -149,13 +170,11 @@ fn put_dense64(kind: VectorType, dims: usize, body: &[u8], out: &mut [u8])
     requires { ⌜ 8 * dims ≤ length (now out) ⌝ }
     ensures { λ _. ⌜ now (out .exit) ≡ onto (denseBody binary64 kind dims (now (body .entry))) (now (out .entry)) ⌝ }
 {
-    match kind {
-        VectorType::Float32Sparse => spread64(dims, body, out),
-        VectorType::Float32Dense => put_doubles(kind, dims, body, out),
-        VectorType::Float64Dense => put_doubles(kind, dims, body, out),
-        VectorType::Float1Bit => put_doubles(kind, dims, body, out),
-        VectorType::Float8 => put_doubles(kind, dims, body, out),
+    if is_sparse(kind) {
+        spread64(dims, body, out);
+        return;
     }
+    put_doubles(kind, dims, body, out);
 }
 
 // Puts the body that one step makes, which has `size` bytes, at the start of out. From sparse there
@@ -189,19 +208,10 @@ fn put_made(
 fn is_scratched(kind: VectorType, target: VectorType) -> bool
     ensures { λ r. ⌜ r ≡ (is 9 kind && counted target) ⌝ }
 {
-    match kind {
-        VectorType::Float32Sparse => match target {
-            VectorType::Float1Bit => true,
-            VectorType::Float8 => true,
-            VectorType::Float32Dense => false,
-            VectorType::Float64Dense => false,
-            VectorType::Float32Sparse => false,
-        },
-        VectorType::Float32Dense => false,
-        VectorType::Float64Dense => false,
-        VectorType::Float1Bit => false,
-        VectorType::Float8 => false,
+    if is_sparse(kind) {
+        return is_counted(target);
     }
+    false
 }
 
 fn converted(target: VectorType, dims: usize, length: usize) -> ConvertAnswer
@@ -262,8 +272,8 @@ fn convert_body(
     requires { ⌜ fits kind dims (length (now body)) ≡ true ⌝ }
     requires { ⌜ (is 9 kind && some (outside (now body) (length (now body) / 8) dims) (length (now body) / 8)) ≡ false ⌝ }
     requires { ⌜ (is 9 kind && counted target) ≡ false ⌝ }
-    ensures { λ r. ⌜ r ≡ answerOf kind dims (now (body .entry)) target 0 (length (now (out .entry))) ⌝ }
-    ensures { λ _. ⌜ now (out .exit) ≡ outBy kind dims (now (body .entry)) target 0 (now (out .entry)) ⌝ }
+    ensures { λ r. ⌜ r ≡ answerWith target dims (resultOf kind target dims (now (body .entry))) (length (now (out .entry))) ⌝ }
+    ensures { λ _. ⌜ now (out .exit) ≡ outWith (resultOf kind target dims (now (body .entry))) (now (out .entry)) ⌝ }
 {
     match way_of(kind, target) {
         Way::Copied => {
@@ -289,8 +299,8 @@ fn convert_made(
     requires { ⌜ fits kind dims (length (now body)) ≡ true ⌝ }
     requires { ⌜ (is 9 kind && some (outside (now body) (length (now body) / 8) dims) (length (now body) / 8)) ≡ false ⌝ }
     requires { ⌜ (is 9 kind && (is 9 target || counted target)) ≡ false ⌝ }
-    ensures { λ r. ⌜ r ≡ cond (ltb (length (now (out .entry))) (length (made kind target dims (now (body .entry))))) (Short (length (made kind target dims (now (body .entry))))) (convertedTo target dims (length (made kind target dims (now (body .entry))))) ⌝ }
-    ensures { λ _. ⌜ now (out .exit) ≡ cond (ltb (length (now (out .entry))) (length (made kind target dims (now (body .entry))))) (now (out .entry)) (onto (made kind target dims (now (body .entry))) (now (out .entry))) ⌝ }
+    ensures { λ r. ⌜ r ≡ answerWith target dims (made kind target dims (now (body .entry))) (length (now (out .entry))) ⌝ }
+    ensures { λ _. ⌜ now (out .exit) ≡ outWith (made kind target dims (now (body .entry))) (now (out .entry)) ⌝ }
 {
     let need = made_length(kind, target, dims, body);
     if out.len() < need {

@@ -1,52 +1,31 @@
+-- The answer read decides: a view is converted, a refusal handed on.
+use mathlib.Core.Path.{refl, sym, _∙_}
+use Rattle.convert.specs.Convert.{convertOf, leftScratch, leftOut}
 use borrow.Author.Needs.{needs}
 use Rattle.convert.proofs.convert.Statement.{statement}
 use Rattle.convert.proofs.convert.Tie as tie
-use Rattle.convert.proofs.convert.Reads as reads
-use Rattle.convert.proofs.convert.Lts as lts
-use Rattle.convert.proofs.result.convert_view.Reads as convert-view-reads
-use Rattle.vector_types.proofs.read.Reads as read-reads
 
--- src/lib.rt:33:11
-read-requires : tie.Need-read-requires
-read-requires c κs = search needs
-
--- src/lib.rt:34:26
-enum-known-view : tie.Need-enum-known-view
-enum-known-view c = search needs
-
--- src/lib.rt:34:35
 convert-view-requires : tie.Need-convert-view-requires
-convert-view-requires c κs = ?
+convert-view-requires c κs = sym (c .before .before .before .before .before .read .ensures) ∙ c .before .before .before .view .given .1
 
--- src/lib.rt:35:29
-enum-known-refusal : tie.Need-enum-known-refusal
-enum-known-refusal c = search needs
-
--- src/lib.rt:28:1
-same-length : tie.Need-same-length
-same-length c = search needs
-
--- src/lib.rt:28:1
-same-length-2 : tie.Need-same-length-2
-same-length-2 c = search needs
-
--- src/lib.rt:28:1
 returns : tie.Need-returns
-returns c = ?
+unfolding convertOf leftScratch leftOut
+returns c =
+    let v = c .before .before .before .before .before .before .before .before in
+    rw (sym (v .before .before .read .ensures) ∙ v .view .given .1) (c .before .before .before .before .convert-view .ensures)
 
--- src/lib.rt:28:1
 returns-2 : tie.Need-returns-2
-returns-2 c = ?
+unfolding convertOf leftScratch leftOut
+returns-2 c =
+    let e = sym (c .before .before .before .read .ensures) ∙ c .before .refusal .given .1 in
+    (rw e, (rw e, rw e))
 
 pub convert-spec : {M : Type 1} → statement M
 convert-spec =
     tie.close
     (tie.spec
-    read-requires
-    enum-known-view
-    convert-view-requires
-    enum-known-refusal
-    same-length
-    same-length-2
-    returns
+    (λ c κs. search needs)
+    (λ c. search needs) convert-view-requires
+    (λ c. search needs)
+    (λ c. search needs) (λ c. search needs) returns
     returns-2)

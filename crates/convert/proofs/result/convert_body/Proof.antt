@@ -1,89 +1,71 @@
+-- By the way of the pair: the body is copied, or made in one step.
+use mathlib.Core.Path.{_≡_, sym, ap, _∙_}
+use native.Mathlib.Omega.{arith}
+use lib.ListN.{length}
+use Rattle.promises.proofs.Onto.{copied}
+use Rattle.convert.specs.Result.{wayOf, resultOf}
+use Rattle.convert.specs.declared.result.Way.{Way}
+use Rattle.convert.specs.declared.result.Way.the-variants.{Copied, Straight, Through}
+use Rattle.convert.proofs.Answered.{copies, straight, isCopied, through-one, made-plainly, too-long, put-whole}
 use borrow.Author.Needs.{needs}
 use Rattle.convert.proofs.result.convert_body.Statement.{statement}
 use Rattle.convert.proofs.result.convert_body.Tie as tie
-use Rattle.convert.proofs.result.convert_body.Reads as reads
-use Rattle.convert.proofs.result.convert_body.Lts as lts
-use Rattle.bytes.proofs.copy.Reads as copy-reads
-use Rattle.convert.proofs.result.convert_made.Reads as convert-made-reads
-use Rattle.convert.proofs.result.converted.Reads as converted-reads
-use Rattle.convert.proofs.result.way_of.Reads as way-of-reads
 
--- src/result.rt:268:11
-way-of-requires : tie.Need-way-of-requires
-way-of-requires c κs = search needs
+way : (c : tie.After-way-of) (w : Way) → c .way-of .result ≡ w → let a = c .before .before .before .args in wayOf (a .kind) (a .target) ≡ w
+way c w e = sym (c .way-of .ensures) ∙ e
 
--- src/result.rt:270:16
-enum-told : tie.Need-enum-told
-enum-told c = search needs
+-- a copy
+same : (c : tie.After-enum-told) → let a = c .before .before .before .before .before .args in
+    a .body .now ≡ resultOf (a .kind) (a .target) (a .dims) (a .body .now)
+same c =
+    let a = c .before .before .before .before .before .args in
+    copies (a .kind) (a .target) (a .dims) (a .body .now) (way (c .before .before) Copied (c .enum-told .given .1))
 
--- src/result.rt:271:17
 returns : tie.Need-returns
-returns c = ?
+returns c =
+    let a = c .before .before .before .before .before .before .args in
+    too-long (a .target) (a .dims) (resultOf (a .kind) (a .target) (a .dims) (a .body .now)) (a .out .now) _ (ap length (same (c .before))) (c .if1 .taken)
 
--- src/result.rt:273:17
-copy-requires : tie.Need-copy-requires
-copy-requires c κs = search needs
-
--- src/result.rt:274:13
-converted-requires : tie.Need-converted-requires
-converted-requires c κs = search needs
-
--- src/result.rt:276:65
-enum-told-2 : tie.Need-enum-told-2
-enum-told-2 c = search needs
-
--- src/result.rt:276:26
-convert-made-requires : tie.Need-convert-made-requires
-convert-made-requires c κs = ?
-
--- src/result.rt:277:64
-enum-told-3 : tie.Need-enum-told-3
-enum-told-3 c = search needs
-
--- src/result.rt:277:25
-convert-made-requires-2 : tie.Need-convert-made-requires-2
-convert-made-requires-2 c κs = ?
-
--- src/result.rt:254:1
-same-length : tie.Need-same-length
-same-length c = search needs
-
--- src/result.rt:254:1
 returns-2 : tie.Need-returns-2
-returns-2 c = ?
+returns-2 c =
+    let copy = c .before .before .before .copy in
+    let test = c .before .before .before .before .before in
+    let a = test .before .before .before .before .before .before .args in
+    let new = resultOf (a .kind) (a .target) (a .dims) (a .body .now) in
+    let (size, left) = copied (a .body .now) new (a .out .now) (copy .last .1 .0) (copy .result) (same (test .before)) (copy .ensures .0) (copy .ensures .1) in
+    put-whole (a .target) (a .dims) new (a .out .now) (copy .result) size (omega (arith, copy .ensures .0, test .if1 .left)) _ _ (c .converted .ensures) left
 
--- src/result.rt:254:1
-same-length-2 : tie.Need-same-length-2
-same-length-2 c = search needs
+-- one step
+convert-made-requires : tie.Need-convert-made-requires
+convert-made-requires c κs =
+    let a = c .before .before .before .before .before .before in
+    let w = way (c .before .before .before) Straight (c .before .enum-told2 .given .1) in
+    (a .pre .0, (a .pre .1 .0, (a .pre .1 .1 .0, made-plainly (a .args .kind) (a .args .target) (a .pre .1 .1 .1) (ap isCopied w))))
 
--- src/result.rt:254:1
+convert-made-requires-2 : tie.Need-convert-made-requires-2
+convert-made-requires-2 c κs =
+    let a = c .before .before .before .before .before .before in
+    let w = way (c .before .before .before) Through (c .before .enum-told3 .given .1) in
+    (a .pre .0, (a .pre .1 .0, (a .pre .1 .1 .0, made-plainly (a .args .kind) (a .args .target) (a .pre .1 .1 .1) (ap isCopied w))))
+
 returns-3 : tie.Need-returns-3
-returns-3 c = ?
+returns-3 c =
+    let a = c .before .before .before .before .before .before .before .before .before .args in
+    let w = way (c .before .before .before .before .before .before) Straight (c .before .before .before .before .enum-told2 .given .1) in
+    rw (straight (a .kind) (a .target) (a .dims) (a .body .now) w) (c .before .before .convert-made .ensures)
 
--- src/result.rt:254:1
-same-length-3 : tie.Need-same-length-3
-same-length-3 c = search needs
-
--- src/result.rt:254:1
 returns-4 : tie.Need-returns-4
-returns-4 c = ?
+returns-4 c =
+    let a = c .before .before .before .before .before .before .before .before .before in
+    let w = way (c .before .before .before .before .before .before) Through (c .before .before .before .before .enum-told3 .given .1) in
+    rw (through-one (a .args .kind) (a .args .target) (a .pre .1 .1 .1) (a .args .dims) (a .args .body .now) w) (c .before .before .convert-made2 .ensures)
 
 pub convert-body-spec : {M : Type 1} → statement M
 convert-body-spec =
     tie.close
     (tie.spec
-    way-of-requires
-    enum-told
-    returns
-    copy-requires
-    converted-requires
-    enum-told-2
-    convert-made-requires
-    enum-told-3
-    convert-made-requires-2
-    same-length
-    returns-2
-    same-length-2
-    returns-3
-    same-length-3
-    returns-4)
+    (λ c κs. search needs)
+    (λ c. search needs) returns (λ c κs. search needs) (λ c κs. search needs)
+    (λ c. search needs) convert-made-requires
+    (λ c. search needs) convert-made-requires-2
+    (λ c. search needs) returns-2 (λ c. search needs) returns-3 (λ c. search needs) returns-4)

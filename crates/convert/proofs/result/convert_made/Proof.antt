@@ -1,43 +1,37 @@
+-- The length decides whether there is room.
+use native.Mathlib.Omega.{arith}
+use Rattle.vector_types.specs.Layout.{is, counted}
+use Rattle.convert.specs.Result.{made}
+use Rattle.convert.proofs.Answered.{and-first, too-long, put-whole}
 use borrow.Author.Needs.{needs}
 use Rattle.convert.proofs.result.convert_made.Statement.{statement}
 use Rattle.convert.proofs.result.convert_made.Tie as tie
-use Rattle.convert.proofs.result.convert_made.Reads as reads
-use Rattle.convert.proofs.result.convert_made.Lts as lts
-use Rattle.convert.proofs.result.converted.Reads as converted-reads
-use Rattle.convert.proofs.result.made_length.Reads as made-length-reads
-use Rattle.convert.proofs.result.put_made.Reads as put-made-reads
 
--- src/result.rt:295:9
 made-length-requires : tie.Need-made-length-requires
-made-length-requires c κs = ?
+made-length-requires c κs =
+    let a = c .before .before in
+    (a .pre .0, (a .pre .1 .0, (a .pre .1 .1 .0, and-first (is 9 (a .args .kind)) _ (counted (a .args .target)) (a .pre .1 .1 .1))))
 
--- src/result.rt:297:9
 returns : tie.Need-returns
-returns c = ?
+returns c =
+    let a = c .before .before .before .before .args in
+    too-long (a .target) (a .dims) (made (a .kind) (a .target) (a .dims) (a .body .now)) (a .out .now) _ (c .before .made-length .ensures) (c .if1 .taken)
 
--- src/result.rt:299:5
 put-made-requires : tie.Need-put-made-requires
-put-made-requires c κs = ?
+put-made-requires c κs =
+    let a = c .before .before .before .before .before in
+    (a .pre .0, (a .pre .1 .0, (a .pre .1 .1 .0, (a .pre .1 .1 .1, (c .before .before .made-length .ensures, c .before .if1 .left)))))
 
--- src/result.rt:300:5
-converted-requires : tie.Need-converted-requires
-converted-requires c κs = search needs
-
--- src/result.rt:281:1
-same-length : tie.Need-same-length
-same-length c = search needs
-
--- src/result.rt:281:1
 returns-2 : tie.Need-returns-2
-returns-2 c = ?
+returns-2 c =
+    let l = c .before .before .before .before .before in
+    let a = l .before .before .before .before .args in
+    let new = made (a .kind) (a .target) (a .dims) (a .body .now) in
+    put-whole (a .target) (a .dims) new (a .out .now) _ (l .before .made-length .ensures) (l .if1 .left) _ _ (c .converted .ensures) (c .before .before .before .put-made .ensures)
 
 pub convert-made-spec : {M : Type 1} → statement M
 convert-made-spec =
     tie.close
     (tie.spec
-    made-length-requires
-    returns
-    put-made-requires
-    converted-requires
-    same-length
-    returns-2)
+    made-length-requires returns
+    put-made-requires (λ c κs. search needs) (λ c. search needs) returns-2)

@@ -1,74 +1,83 @@
+-- The sizes decide; then the dense body is written to scratch, and the new one made of it.
+use mathlib.Core.Path.{_≡_, refl, ap, _∙_}
+use Prim.Native.Nat.{_*_}
+use native.Mathlib.Omega.{arith}
+use lib.ListN.{length, take, length-take}
+use lib.Ieee.{binary32}
+use Rattle.vector_types.specs.declared.VectorType.the-variants.{Float32Sparse}
+use Rattle.convert.specs.Dense.{spreadBody}
+use Rattle.convert.specs.Result.{resultOf}
+use Rattle.convert.proofs.Bodies.{sparse-length}
+use Rattle.convert.proofs.Answered.{not-counted, sparse-through, dense-fits, dense-front, through-size, scratch-short, out-short, both-written}
 use borrow.Author.Needs.{needs}
 use Rattle.convert.proofs.result.convert_through.Statement.{statement}
 use Rattle.convert.proofs.result.convert_through.Tie as tie
-use Rattle.convert.proofs.result.convert_through.Reads as reads
-use Rattle.convert.proofs.result.convert_through.Lts as lts
-use Rattle.convert.proofs.dense.spread32.Reads as spread32-reads
-use Rattle.convert.proofs.result.converted.Reads as converted-reads
-use Rattle.convert.proofs.result.made_length.Reads as made-length-reads
-use Rattle.convert.proofs.result.put_made.Reads as put-made-reads
 
--- src/result.rt:233:17
-mul-whole : tie.Need-mul-whole
-mul-whole c = search needs
-
--- src/result.rt:235:9
 returns : tie.Need-returns
-returns c = ?
+returns c =
+    let a = c .before .before .before .before in
+    scratch-short (a .args .target) (a .pre .1 .1 .1) (a .args .dims) (a .args .body .now) (a .args .scratch .now) (a .args .out .now) (c .if1 .taken)
 
--- src/result.rt:237:9
 made-length-requires : tie.Need-made-length-requires
-made-length-requires c κs = ?
+made-length-requires c κs =
+    let a = c .before .before .before .before in
+    (a .pre .0, (a .pre .1 .0, (a .pre .1 .1 .0, not-counted (a .args .target) (a .pre .1 .1 .1))))
 
--- src/result.rt:239:9
+-- how long the result is
+whole : (c : tie.After-made-length) → let a = c .before .before .before .before .before .args in
+    c .made-length .result ≡ length (resultOf Float32Sparse (a .target) (a .dims) (a .body .now))
+whole c =
+    let a = c .before .before .before .before .before in
+    c .made-length .ensures ∙ through-size (a .args .dims) (a .args .body .now) (a .pre .1 .1 .0) (a .args .target) (a .pre .1 .1 .1) (a .pre .1 .0)
+
 returns-2 : tie.Need-returns-2
-returns-2 c = ?
+returns-2 c =
+    let m = c .before in
+    let a = m .before .before .before .before .before in
+    out-short (a .args .target) (a .pre .1 .1 .1) (a .args .dims) (a .args .body .now) (a .args .scratch .now) (a .args .out .now)
+    (m .before .if1 .left) (m .made-length .result) (whole m) (c .if2 .taken)
 
--- src/result.rt:241:5
 spread32-requires : tie.Need-spread32-requires
-spread32-requires c κs = ?
+spread32-requires c κs =
+    let a = c .before .before .before .before .before .before .before in
+    (a .pre .0, (sparse-length (a .args .dims) _ refl (a .pre .1 .0), (a .pre .1 .1 .0, c .before .before .before .if1 .left)))
 
--- src/result.rt:246:9
-slice-reshare-prefix-put-made : tie.Need-slice-reshare-prefix-put-made
-slice-reshare-prefix-put-made c = search needs
-
--- src/result.rt:246:9
 slice-aggregate-put-made : tie.Need-slice-aggregate-put-made
-slice-aggregate-put-made c = ?
+slice-aggregate-put-made c =
+    let spread = c .before .before .before .spread32 in
+    simp length-take (omega (arith, spread .kept .1 .1 .0, c .before .before .before .before .before .before .before .if1 .left))
 
--- src/result.rt:242:5
+-- the dense body in scratch
+front : (c : tie.After-spread32) → let a = c .before .before .before .before .before .before .before .before .args in
+    take (4 * a .dims) (c .spread32 .last .1 .1 .0) ≡ spreadBody binary32 (a .dims) (a .body .now)
+front c =
+    let a = c .before .before .before .before .before .before .before .before in
+    dense-front (a .args .dims) (a .args .body .now) (a .pre .1 .1 .0) (a .args .scratch .now) (c .spread32 .last .1 .1 .0) (c .spread32 .ensures)
+
 put-made-requires : tie.Need-put-made-requires
-put-made-requires c κs = ?
+put-made-requires c κs =
+    let s = c .before .before .before .before in
+    let test = s .before .before in
+    let a = s .before .before .before .before .before .before .before .before in
+    let need = whole (test .before) ∙ ap length (sparse-through (a .args .target) (a .pre .1 .1 .1) (a .args .dims) (a .args .body .now)) in
+    (a .pre .0, (rw (front s) (dense-fits (a .args .dims) (a .args .body .now) (a .pre .1 .1 .0)), (refl, (refl, (rw (front s) need, test .if2 .left)))))
 
--- src/result.rt:250:5
-converted-requires : tie.Need-converted-requires
-converted-requires c κs = search needs
-
--- src/result.rt:218:1
-same-length : tie.Need-same-length
-same-length c = search needs
-
--- src/result.rt:218:1
-same-length-2 : tie.Need-same-length-2
-same-length-2 c = search needs
-
--- src/result.rt:218:1
 returns-3 : tie.Need-returns-3
-returns-3 c = ?
+returns-3 c =
+    let s = c .before .before .before .before .before .before .before .before in
+    let test = s .before .before in
+    let a = s .before .before .before .before .before .before .before .before in
+    let made = rw (front s, ← (sparse-through (a .args .target) (a .pre .1 .1 .1) (a .args .dims) (a .args .body .now))) at (c .before .before .before .put-made .ensures) in
+    both-written (a .args .target) (a .pre .1 .1 .1) (a .args .dims) (a .args .body .now) (a .args .scratch .now) (a .args .out .now)
+    (test .before .before .if1 .left) (test .before .made-length .result) (whole (test .before)) (test .if2 .left)
+    _ _ _ (c .converted .ensures) (s .spread32 .ensures) made
 
 pub convert-through-spec : {M : Type 1} → statement M
 convert-through-spec =
     tie.close
     (tie.spec
-    mul-whole
-    returns
-    made-length-requires
-    returns-2
+    (λ c. search needs) returns
+    made-length-requires returns-2
     spread32-requires
-    slice-reshare-prefix-put-made
-    slice-aggregate-put-made
-    put-made-requires
-    converted-requires
-    same-length
-    same-length-2
-    returns-3)
+    (λ c. search needs) slice-aggregate-put-made put-made-requires
+    (λ c κs. search needs) (λ c. search needs) (λ c. search needs) returns-3)

@@ -1,58 +1,70 @@
+-- What the view tells of its body is what the two conversions ask.
+use mathlib.Core.Path.{_≡_, sym, _∙_}
+use mathlib.Core.Bool.{true, false, _&&_, and-eq-true-iff}
+use mathlib.Core.List.{List}
+use Prim.Native.Nat.{ℕ}
+use native.Mathlib.Omega.{arith}
+use lib.ListN.{length-take, take}
+use Rattle.vector_types.specs.Layout.{is, counted}
+use Rattle.vector_types.specs.Read.{readOf}
+use Rattle.vector_types.specs.declared.View.{View}
+use Rattle.vector_types.specs.declared.ReadAnswer.the-variants.{View as Seen}
+use Rattle.vector_types.proofs.Views.{told}
+use Rattle.vector_types.proofs.Written.{Writable, writable}
+use Rattle.vector_types.proofs.Rewritten.{body-is, rewritable}
+use Rattle.convert.proofs.Answered.{sparse-kind, plainly}
 use borrow.Author.Needs.{needs}
 use Rattle.convert.proofs.result.convert_view.Statement.{statement}
 use Rattle.convert.proofs.result.convert_view.Tie as tie
-use Rattle.convert.proofs.result.convert_view.Reads as reads
-use Rattle.convert.proofs.result.convert_view.Lts as lts
-use Rattle.convert.proofs.result.convert_body.Reads as convert-body-reads
-use Rattle.convert.proofs.result.convert_through.Reads as convert-through-reads
-use Rattle.convert.proofs.result.is_scratched.Reads as is-scratched-reads
 
--- src/result.rt:319:9
 slice-aggregate-body : tie.Need-slice-aggregate-body
-slice-aggregate-body c = ?
+slice-aggregate-body c = simp length-take (omega (arith, told _ _ (c .before .before .before .before .before .pre) .within))
 
--- src/result.rt:320:8
-is-scratched-requires : tie.Need-is-scratched-requires
-is-scratched-requires c κs = search needs
+shown : (s : List ℕ) (v : View) → readOf s ≡ Seen v → Writable (v .kind) (v .dims .0) (take (v .length) s)
+shown s v e = rw (← (body-is s v e)) (writable _ _ _ (rewritable s v e))
 
--- src/result.rt:321:9
+-- from sparse to 1-bit and Float8
+takes : (c : tie.Then1) → let a = c .before .before .before .before .before .before .before .args in
+    (is 9 (a .view .kind) ≡ true) × (counted (a .target) ≡ true)
+takes c =
+    let a = c .before .before .before .before .before .before .before .args in
+    and-eq-true-iff (is 9 (a .view .kind)) (counted (a .target)) .0 (sym (c .before .is-scratched .ensures) ∙ c .if1 .taken)
+
 convert-through-requires : tie.Need-convert-through-requires
-convert-through-requires c κs = ?
+convert-through-requires c κs =
+    let a = c .before .before .before .before .before .before .before .before .before in
+    let w = shown (a .args .blob .now) (a .args .view) (a .pre) in
+    let (sparse, counts) = takes (c .before .before) in
+    (w .few, (rw (sparse-kind (a .args .view .kind) sparse) at (w .fit), (rw sparse at (w .inside), counts)))
 
--- src/result.rt:321:9
-same-length : tie.Need-same-length
-same-length c = search needs
-
--- src/result.rt:321:9
-same-length-2 : tie.Need-same-length-2
-same-length-2 c = search needs
-
--- src/result.rt:321:9
 returns : tie.Need-returns
-returns c = ?
+returns c =
+    let a = c .before .before .before .before .before .before .before .before .before .before .before .before .before .before in
+    let (sparse, _) = takes (c .before .before .before .before .before .before .before) in
+    rw (body-is (a .args .blob .now) (a .args .view) (a .pre), sparse-kind (a .args .view .kind) sparse) (c .before .before .before .before .convert-through .ensures)
 
--- src/result.rt:323:5
+-- the other pairs
+plain : (c : tie.Else1) → let a = c .before .before .before .before .before .before .before .args in (is 9 (a .view .kind) && counted (a .target)) ≡ false
+plain c = sym (c .before .is-scratched .ensures) ∙ c .if1 .left
+
 convert-body-requires : tie.Need-convert-body-requires
-convert-body-requires c κs = ?
+convert-body-requires c κs =
+    let a = c .before .before .before .before .before .before .before .before in
+    let w = shown (a .args .blob .now) (a .args .view) (a .pre) in
+    (w .few, (w .fit, (w .inside, plain (c .before))))
 
--- src/result.rt:304:1
-same-length-3 : tie.Need-same-length-3
-same-length-3 c = search needs
-
--- src/result.rt:304:1
 returns-2 : tie.Need-returns-2
-returns-2 c = ?
+returns-2 c =
+    let a = c .before .before .before .before .before .before .before .before .before .before .before in
+    let v = a .args .view in
+    let body = take (v .length) (a .args .blob .now) in
+    rw (body-is (a .args .blob .now) v (a .pre))
+    (plainly (v .kind) (v .dims .0) body (a .args .target) (a .args .scratch .now) (a .args .out .now) _ _ (plain (c .before .before .before .before)) (c .before .before .convert-body .ensures))
 
 pub convert-view-spec : {M : Type 1} → statement M
 convert-view-spec =
     tie.close
     (tie.spec
-    slice-aggregate-body
-    is-scratched-requires
-    convert-through-requires
-    same-length
-    same-length-2
-    returns
-    convert-body-requires
-    same-length-3
-    returns-2)
+    slice-aggregate-body (λ c κs. search needs)
+    convert-through-requires (λ c. search needs) (λ c. search needs) returns
+    convert-body-requires (λ c. search needs) returns-2)

@@ -1,101 +1,48 @@
+-- Each arm is its row of `sizeOf`.
+use mathlib.Core.Path.{sym, ap, _∙_}
+use native.Mathlib.Omega.{arith}
+use Rattle.vector_types.specs.Layout.{is}
+use Rattle.convert.specs.Sparse.{stored}
+use Rattle.convert.proofs.Places.{places-few}
+use Rattle.convert.proofs.Answered.{sized, and-left}
 use borrow.Author.Needs.{needs}
 use Rattle.convert.proofs.result.made_length.Statement.{statement}
 use Rattle.convert.proofs.result.made_length.Tie as tie
-use Rattle.convert.proofs.result.made_length.Reads as reads
-use Rattle.convert.proofs.result.made_length.Lts as lts
-use Rattle.convert.proofs.sparse.count_stored.Reads as count-stored-reads
 
--- src/result.rt:120:37
-enum-told : tie.Need-enum-told
-enum-told c = search needs
-
--- src/result.rt:120:37
-mul-result : tie.Need-mul-result
-mul-result c = search needs
-
--- src/result.rt:121:37
-enum-told-2 : tie.Need-enum-told-2
-enum-told-2 c = search needs
-
--- src/result.rt:121:37
-mul-result-2 : tie.Need-mul-result-2
-mul-result-2 c = search needs
-
--- src/result.rt:122:42
-enum-told-3 : tie.Need-enum-told-3
-enum-told-3 c = search needs
-
--- src/result.rt:122:42
 count-stored-requires : tie.Need-count-stored-requires
-count-stored-requires c κs = ?
+count-stored-requires c κs =
+    let a = c .before .before .before in
+    (a .pre .0, (a .pre .1 .0, and-left _ _ (a .pre .1 .1 .1) (ap (is 9) (c .enum-told3 .given .1))))
 
--- src/result.rt:122:38
 mul-result-3 : tie.Need-mul-result-3
-mul-result-3 c = ?
+mul-result-3 c =
+    let a = c .before .before .before .before in
+    omega (arith, a .pre .0, c .count-stored .ensures, places-few (stored (a .args .kind) (a .args .dims) (a .args .body .now)) (a .args .dims))
 
--- src/result.rt:123:35
-enum-told-4 : tie.Need-enum-told-4
-enum-told-4 c = search needs
-
--- src/result.rt:123:35
-add-result : tie.Need-add-result
-add-result c = search needs
-
--- src/result.rt:124:32
-enum-told-5 : tie.Need-enum-told-5
-enum-told-5 c = search needs
-
--- src/result.rt:124:32
-add-result-2 : tie.Need-add-result-2
-add-result-2 c = search needs
-
--- src/result.rt:124:31
-mul-result-4 : tie.Need-mul-result-4
-mul-result-4 c = search needs
-
--- src/result.rt:124:31
-add-result-3 : tie.Need-add-result-3
-add-result-3 c = search needs
-
--- src/result.rt:113:1
 returns : tie.Need-returns
-returns c = ?
+returns c = let a = c .before .before .before in sym (sized _ _ _ (a .pre .1 .0) (a .pre .1 .1 .0) _ _ (c .enum-told .given .1))
 
--- src/result.rt:113:1
 returns-2 : tie.Need-returns-2
-returns-2 c = ?
+returns-2 c = let a = c .before .before .before in sym (sized _ _ _ (a .pre .1 .0) (a .pre .1 .1 .0) _ _ (c .enum-told2 .given .1))
 
--- src/result.rt:113:1
 returns-3 : tie.Need-returns-3
-returns-3 c = ?
+returns-3 c =
+    let a = c .before .before .before .before in
+    omega (arith, c .count-stored .ensures, sized _ _ _ (a .pre .1 .0) (a .pre .1 .1 .0) _ _ (c .before .enum-told3 .given .1))
 
--- src/result.rt:113:1
 returns-4 : tie.Need-returns-4
-returns-4 c = ?
+returns-4 c = let a = c .before .before .before in sym (sized _ _ _ (a .pre .1 .0) (a .pre .1 .1 .0) _ _ (c .enum-told4 .given .1))
 
--- src/result.rt:113:1
 returns-5 : tie.Need-returns-5
-returns-5 c = ?
+returns-5 c = let a = c .before .before .before in omega (arith, sized _ _ _ (a .pre .1 .0) (a .pre .1 .1 .0) _ _ (c .enum-told5 .given .1))
 
 pub made-length-spec : {M : Type 1} → statement M
 made-length-spec =
     tie.close
     (tie.spec
-    enum-told
-    mul-result
-    enum-told-2
-    mul-result-2
-    enum-told-3
-    count-stored-requires
-    mul-result-3
-    enum-told-4
-    add-result
-    enum-told-5
-    add-result-2
-    mul-result-4
-    add-result-3
-    returns
-    returns-2
-    returns-3
-    returns-4
-    returns-5)
+    (λ c. search needs) (λ c. search needs)
+    (λ c. search needs) (λ c. search needs)
+    (λ c. search needs) count-stored-requires mul-result-3
+    (λ c. search needs) (λ c. search needs)
+    (λ c. search needs) (λ c. search needs) (λ c. search needs) (λ c. search needs)
+    returns returns-2 returns-3 returns-4 returns-5)

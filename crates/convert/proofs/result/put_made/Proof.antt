@@ -1,115 +1,94 @@
+-- Each arm puts its row of `made`, for which there is room.
+use mathlib.Core.Path.{_≡_, ap, _∙_}
+use mathlib.Core.Bool.{true, false, _||_}
+use Prim.Native.Nat.{_≤_}
+use native.Mathlib.Omega.{arith}
+use lib.ListN.{length}
+use Rattle.vector_types.specs.Layout.{is, counted}
+use Rattle.vector_types.specs.declared.VectorType.{VectorType}
+use Rattle.vector_types.specs.declared.VectorType.the-variants.{Float32Dense, Float64Dense, Float32Sparse, Float1Bit, Float8}
+use Rattle.convert.specs.Result.{made}
+use Rattle.convert.proofs.Answered.{sizeOf, sized, and-left}
 use borrow.Author.Needs.{needs}
 use Rattle.convert.proofs.result.put_made.Statement.{statement}
 use Rattle.convert.proofs.result.put_made.Tie as tie
-use Rattle.convert.proofs.result.put_made.Reads as reads
-use Rattle.convert.proofs.result.put_made.Lts as lts
-use Rattle.convert.proofs.bits.put_bits.Reads as put-bits-reads
-use Rattle.convert.proofs.quantized.put_quantized.Reads as put-quantized-reads
-use Rattle.convert.proofs.result.put_dense32.Reads as put-dense32-reads
-use Rattle.convert.proofs.result.put_dense64.Reads as put-dense64-reads
-use Rattle.convert.proofs.sparse.put_sparse.Reads as put-sparse-reads
 
--- src/result.rt:180:67
-enum-told : tie.Need-enum-told
-enum-told c = search needs
+-- the size, to a kind that is known, and the room
+exact : (c : tie.After-slice-known) (u : VectorType) → let a = c .before .before .args in
+    a .target ≡ u → a .size ≡ sizeOf (a .kind) u (a .dims) (a .body .now)
+exact c u e =
+    let a = c .before .before in
+    a .pre .1 .1 .1 .1 .0 ∙ sized _ _ _ (a .pre .1 .0) (a .pre .1 .1 .0) _ u e
 
--- src/result.rt:180:37
+room : (c : tie.After-slice-known) (u : VectorType) → let a = c .before .before .args in
+    a .target ≡ u → sizeOf (a .kind) u (a .dims) (a .body .now) ≤ length (a .out .now)
+room c u e = omega (arith, exact c u e, c .before .before .pre .1 .1 .1 .1 .1)
+
+-- to these kinds from no sparse body
+plain : (c : tie.After-slice-known) → let a = c .before .before .args in (is 9 (a .target) || counted (a .target)) ≡ true → is 9 (a .kind) ≡ false
+plain c h = and-left _ _ (c .before .before .pre .1 .1 .1 .0) h
+
 put-dense32-requires : tie.Need-put-dense32-requires
-put-dense32-requires c κs = ?
+put-dense32-requires c κs =
+    let s = c .before .before .before in
+    let a = s .before .before in
+    (a .pre .0, (a .pre .1 .0, (a .pre .1 .1 .0, room s Float32Dense (c .before .enum-told .given .1))))
 
--- src/result.rt:181:67
-enum-told-2 : tie.Need-enum-told-2
-enum-told-2 c = search needs
-
--- src/result.rt:181:37
 put-dense64-requires : tie.Need-put-dense64-requires
-put-dense64-requires c κs = ?
+put-dense64-requires c κs =
+    let s = c .before .before .before in
+    let a = s .before .before in
+    (a .pre .0, (a .pre .1 .0, (a .pre .1 .1 .0, room s Float64Dense (c .before .enum-told2 .given .1))))
 
--- src/result.rt:182:67
-enum-told-3 : tie.Need-enum-told-3
-enum-told-3 c = search needs
-
--- src/result.rt:182:38
 put-sparse-requires : tie.Need-put-sparse-requires
-put-sparse-requires c κs = ?
+put-sparse-requires c κs =
+    let s = c .before .before .before in
+    let a = s .before .before in
+    let e = c .before .enum-told3 .given .1 in
+    let size = exact s Float32Sparse e in
+    (a .pre .0, (a .pre .1 .0, (plain s (rw e), (omega arith, omega (arith, a .pre .1 .1 .1 .1 .1)))))
 
--- src/result.rt:183:61
-enum-told-4 : tie.Need-enum-told-4
-enum-told-4 c = search needs
-
--- src/result.rt:183:34
 put-bits-requires : tie.Need-put-bits-requires
-put-bits-requires c κs = ?
+put-bits-requires c κs =
+    let s = c .before .before .before in
+    let a = s .before .before in
+    let e = c .before .enum-told4 .given .1 in
+    (a .pre .0, (a .pre .1 .0, (plain s (rw e), room s Float1Bit e)))
 
--- src/result.rt:184:63
-enum-told-5 : tie.Need-enum-told-5
-enum-told-5 c = search needs
-
--- src/result.rt:184:31
 put-quantized-requires : tie.Need-put-quantized-requires
-put-quantized-requires c κs = ?
+put-quantized-requires c κs =
+    let s = c .before .before .before in
+    let a = s .before .before in
+    let e = c .before .enum-told5 .given .1 in
+    (a .pre .0, (a .pre .1 .0, (plain s (rw e), room s Float8 e)))
 
--- src/result.rt:163:1
-same-length : tie.Need-same-length
-same-length c = search needs
-
--- src/result.rt:163:1
 returns : tie.Need-returns
-returns c = ?
+unfolding made
+returns c = rw (c .before .before .before .before .enum-told .given .1) (c .before .before .put-dense32 .ensures)
 
--- src/result.rt:163:1
-same-length-2 : tie.Need-same-length-2
-same-length-2 c = search needs
-
--- src/result.rt:163:1
 returns-2 : tie.Need-returns-2
-returns-2 c = ?
+unfolding made
+returns-2 c = rw (c .before .before .before .before .enum-told2 .given .1) (c .before .before .put-dense64 .ensures)
 
--- src/result.rt:163:1
-same-length-3 : tie.Need-same-length-3
-same-length-3 c = search needs
-
--- src/result.rt:163:1
 returns-3 : tie.Need-returns-3
-returns-3 c = ?
+unfolding made
+returns-3 c = rw (c .before .before .before .before .enum-told3 .given .1) (c .before .before .put-sparse .ensures)
 
--- src/result.rt:163:1
-same-length-4 : tie.Need-same-length-4
-same-length-4 c = search needs
-
--- src/result.rt:163:1
 returns-4 : tie.Need-returns-4
-returns-4 c = ?
+unfolding made
+returns-4 c = rw (c .before .before .before .before .enum-told4 .given .1) (c .before .before .put-bits .ensures)
 
--- src/result.rt:163:1
-same-length-5 : tie.Need-same-length-5
-same-length-5 c = search needs
-
--- src/result.rt:163:1
 returns-5 : tie.Need-returns-5
-returns-5 c = ?
+unfolding made
+returns-5 c = rw (c .before .before .before .before .enum-told5 .given .1) (c .before .before .put-quantized .ensures)
 
 pub put-made-spec : {M : Type 1} → statement M
 put-made-spec =
     tie.close
     (tie.spec
-    enum-told
-    put-dense32-requires
-    enum-told-2
-    put-dense64-requires
-    enum-told-3
-    put-sparse-requires
-    enum-told-4
-    put-bits-requires
-    enum-told-5
-    put-quantized-requires
-    same-length
-    returns
-    same-length-2
-    returns-2
-    same-length-3
-    returns-3
-    same-length-4
-    returns-4
-    same-length-5
-    returns-5)
+    (λ c. search needs) put-dense32-requires
+    (λ c. search needs) put-dense64-requires
+    (λ c. search needs) put-sparse-requires
+    (λ c. search needs) put-bits-requires
+    (λ c. search needs) put-quantized-requires
+    (λ c. search needs) returns (λ c. search needs) returns-2 (λ c. search needs) returns-3 (λ c. search needs) returns-4 (λ c. search needs) returns-5)
