@@ -1,0 +1,95 @@
+// To Float32Dense and Float64Dense.
+ghost use mathlib.Core.Path.{_≡_};
+ghost use mathlib.Core.Bool.{false, true};
+ghost use Prim.Native.Nat.{_*_, _%_, _≤_, _<_};
+ghost use lib.ListN.{length};
+ghost use lib.ListN.{replicate};
+ghost use lib.Ieee.{binary32, binary64};
+ghost use Rattle.promises.specs.Onto.{onto};
+ghost use Rattle.vector_types.specs.Layout.{mostDims, is, fits, outside};
+ghost use Rattle.vector_types.specs.Search.{some};
+ghost use Rattle.convert.specs.Dense.{count, spreadBody};
+ghost use Rattle.convert.specs.Elements.{element, floatsOf};
+use crate::element::double;
+use crate::element::single;
+use vector_types::VectorType;
+
+// Puts the elements in f32 at the start of out, and in f64.
+pub(crate) fn put_singles(kind: VectorType, dims: usize, body: &[u8], out: &mut [u8])
+    requires { ⌜ dims ≤ mostDims ⌝ }
+    requires { ⌜ fits kind dims (length (now body)) ≡ true ⌝ }
+    requires { ⌜ is 9 kind ≡ false ⌝ }
+    requires { ⌜ 4 * dims ≤ length (now out) ⌝ }
+    ensures { λ _. ⌜ now (out .exit) ≡ onto (floatsOf binary32 (element binary32 kind dims (now (body .entry))) dims) (now (out .entry)) ⌝ }
+{
+    let mut i = 0;
+    while i < dims {
+        let x = single(kind, dims, body, i);
+        elements::put_f32(out, 4 * i, x);
+        i += 1;
+    }
+}
+
+pub(crate) fn put_doubles(kind: VectorType, dims: usize, body: &[u8], out: &mut [u8])
+    requires { ⌜ dims ≤ mostDims ⌝ }
+    requires { ⌜ fits kind dims (length (now body)) ≡ true ⌝ }
+    requires { ⌜ is 9 kind ≡ false ⌝ }
+    requires { ⌜ 8 * dims ≤ length (now out) ⌝ }
+    ensures { λ _. ⌜ now (out .exit) ≡ onto (floatsOf binary64 (element binary64 kind dims (now (body .entry))) dims) (now (out .entry)) ⌝ }
+{
+    let mut i = 0;
+    while i < dims {
+        let x = double(kind, dims, body, i);
+        elements::put_f64(out, 8 * i, x);
+        i += 1;
+    }
+}
+
+// Puts n zeros at the start of out.
+pub(crate) fn put_zeros(n: usize, out: &mut [u8])
+    requires { ⌜ n ≤ length (now out) ⌝ }
+    ensures { λ _. ⌜ now (out .exit) ≡ onto (replicate n 0) (now (out .entry)) ⌝ }
+{
+    let mut i = 0;
+    while i < n {
+        out[i] = 0;
+        i += 1;
+    }
+}
+
+// Spreads a sparse body in f32 over the start of out, and in f64.
+pub(crate) fn spread32(dims: usize, body: &[u8], out: &mut [u8])
+    requires { ⌜ dims ≤ mostDims ⌝ }
+    requires { ⌜ length (now body) % 8 ≡ 0 ⌝ }
+    requires { ⌜ some (outside (now body) (count (now body)) dims) (count (now body)) ≡ false ⌝ }
+    requires { ⌜ 4 * dims ≤ length (now out) ⌝ }
+    ensures { λ _. ⌜ now (out .exit) ≡ onto (spreadBody binary32 dims (now (body .entry))) (now (out .entry)) ⌝ }
+{
+    put_zeros(4 * dims, out);
+    let count = body.len() / 8;
+    let mut j = 0;
+    while j < count {
+        let index = elements::u32_at(body, 4 * count + 4 * j) as usize;
+        let value = elements::u32_at(body, 4 * j);
+        elements::put_u32(out, 4 * index, value);
+        j += 1;
+    }
+}
+
+pub(crate) fn spread64(dims: usize, body: &[u8], out: &mut [u8])
+    requires { ⌜ dims ≤ mostDims ⌝ }
+    requires { ⌜ length (now body) % 8 ≡ 0 ⌝ }
+    requires { ⌜ some (outside (now body) (count (now body)) dims) (count (now body)) ≡ false ⌝ }
+    requires { ⌜ 8 * dims ≤ length (now out) ⌝ }
+    ensures { λ _. ⌜ now (out .exit) ≡ onto (spreadBody binary64 dims (now (body .entry))) (now (out .entry)) ⌝ }
+{
+    put_zeros(8 * dims, out);
+    let count = body.len() / 8;
+    let mut j = 0;
+    while j < count {
+        let index = elements::u32_at(body, 4 * count + 4 * j) as usize;
+        let value = rounding::widen(elements::f32_at(body, 4 * j));
+        elements::put_f64(out, 8 * index, value);
+        j += 1;
+    }
+}

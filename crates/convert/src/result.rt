@@ -1,0 +1,324 @@
+// Which way a pair is converted, how long the result is, and putting it.
+ghost use mathlib.Core.Path.{_≡_};
+ghost use mathlib.Core.Bool.{false, true, cond, _&&_, _||_};
+ghost use Prim.Native.Nat.{_*_, _/_, _≤_};
+ghost use lib.Dec.{ltb};
+ghost use lib.ListN.{length};
+ghost use lib.Ieee.{binary32, binary64};
+ghost use Rattle.promises.specs.Onto.{onto};
+ghost use Rattle.vector_types.specs.Layout.{mostDims, is, counted, fits, outside};
+ghost use Rattle.vector_types.specs.Search.{some};
+ghost use Rattle.vector_types.specs.Read.{readOf};
+ghost use Rattle.vector_types.specs.Parts.{bodyOf};
+ghost use Rattle.vector_types.specs.declared.ReadAnswer.the-variants.{View as Seen};
+ghost use Rattle.convert.specs.Dense.{spreadBody};
+ghost use Rattle.convert.specs.Result.{wayOf, made, resultOf};
+ghost use Rattle.convert.specs.Elements.{denseBody};
+ghost use Rattle.convert.specs.Convert.{convertedTo, answerOf, scratchBy, outBy};
+ghost use Rattle.convert.specs.declared.ConvertAnswer.the-variants.{Short};
+ghost use Rattle.vector_types.specs.declared.VectorType.the-variants.{Float32Dense, Float64Dense, Float32Sparse, Float1Bit, Float8};
+use crate::ConvertAnswer;
+use crate::bits::put_bits;
+use crate::dense::put_doubles;
+use crate::dense::put_singles;
+use crate::dense::spread32;
+use crate::dense::spread64;
+use crate::quantized::put_quantized;
+use crate::sparse::count_stored;
+use crate::sparse::put_sparse;
+use vector_types::Dims;
+use vector_types::VectorType;
+use vector_types::View;
+
+// How a pair is converted: the body is copied, or made in one step, or in two, through Float32Dense.
+pub enum Way {
+    Copied,
+    Straight,
+    Through,
+}
+
+fn from_dense32(target: VectorType) -> Way
+    ensures { λ r. ⌜ r ≡ wayOf Float32Dense target ⌝ }
+{
+    match target {
+        VectorType::Float32Dense => Way::Copied,
+        VectorType::Float64Dense => Way::Straight,
+        VectorType::Float32Sparse => Way::Straight,
+        VectorType::Float1Bit => Way::Straight,
+        VectorType::Float8 => Way::Straight,
+    }
+}
+
+fn from_dense64(target: VectorType) -> Way
+    ensures { λ r. ⌜ r ≡ wayOf Float64Dense target ⌝ }
+{
+    match target {
+        VectorType::Float32Dense => Way::Straight,
+        VectorType::Float64Dense => Way::Copied,
+        VectorType::Float32Sparse => Way::Straight,
+        VectorType::Float1Bit => Way::Straight,
+        VectorType::Float8 => Way::Straight,
+    }
+}
+
+fn from_sparse(target: VectorType) -> Way
+    ensures { λ r. ⌜ r ≡ wayOf Float32Sparse target ⌝ }
+{
+    match target {
+        VectorType::Float32Dense => Way::Straight,
+        VectorType::Float64Dense => Way::Straight,
+        VectorType::Float32Sparse => Way::Copied,
+        VectorType::Float1Bit => Way::Through,
+        VectorType::Float8 => Way::Through,
+    }
+}
+
+fn from_one_bit(target: VectorType) -> Way
+    ensures { λ r. ⌜ r ≡ wayOf Float1Bit target ⌝ }
+{
+    match target {
+        VectorType::Float32Dense => Way::Straight,
+        VectorType::Float64Dense => Way::Straight,
+        VectorType::Float32Sparse => Way::Through,
+        VectorType::Float1Bit => Way::Copied,
+        VectorType::Float8 => Way::Through,
+    }
+}
+
+fn from_float8(target: VectorType) -> Way
+    ensures { λ r. ⌜ r ≡ wayOf Float8 target ⌝ }
+{
+    match target {
+        VectorType::Float32Dense => Way::Straight,
+        VectorType::Float64Dense => Way::Straight,
+        VectorType::Float32Sparse => Way::Through,
+        VectorType::Float1Bit => Way::Through,
+        VectorType::Float8 => Way::Copied,
+    }
+}
+
+fn way_of(kind: VectorType, target: VectorType) -> Way
+    ensures { λ r. ⌜ r ≡ wayOf kind target ⌝ }
+{
+    match kind {
+        VectorType::Float32Dense => from_dense32(target),
+        VectorType::Float64Dense => from_dense64(target),
+        VectorType::Float32Sparse => from_sparse(target),
+        VectorType::Float1Bit => from_one_bit(target),
+        VectorType::Float8 => from_float8(target),
+    }
+}
+
+// How long the body is that one step makes.
+fn made_length(kind: VectorType, target: VectorType, dims: usize, body: &[u8]) -> usize
+    requires { ⌜ dims ≤ mostDims ⌝ }
+    requires { ⌜ fits kind dims (length (now body)) ≡ true ⌝ }
+    requires { ⌜ (is 9 kind && is 9 target) ≡ false ⌝ }
+    ensures { λ r. ⌜ r ≡ length (made kind target dims (now (body .entry))) ⌝ }
+{
+    match target {
+        VectorType::Float32Dense => 4 * dims,
+        VectorType::Float64Dense => 8 * dims,
+        VectorType::Float32Sparse => 8 * count_stored(kind, dims, body),
+        VectorType::Float1Bit => (dims + 7) / 8,
+        VectorType::Float8 => (dims + 3) / 4 * 4 + 8,
+    }
+}
+
+// Puts the elements as floats at the start of out.
+fn put_dense32(kind: VectorType, dims: usize, body: &[u8], out: &mut [u8])
+    requires { ⌜ dims ≤ mostDims ⌝ }
+    requires { ⌜ fits kind dims (length (now body)) ≡ true ⌝ }
+    requires { ⌜ (is 9 kind && some (outside (now body) (length (now body) / 8) dims) (length (now body) / 8)) ≡ false ⌝ }
+    requires { ⌜ 4 * dims ≤ length (now out) ⌝ }
+    ensures { λ _. ⌜ now (out .exit) ≡ onto (denseBody binary32 kind dims (now (body .entry))) (now (out .entry)) ⌝ }
+{
+    match kind {
+        VectorType::Float32Sparse => spread32(dims, body, out),
+        VectorType::Float32Dense => put_singles(kind, dims, body, out),
+        VectorType::Float64Dense => put_singles(kind, dims, body, out),
+        VectorType::Float1Bit => put_singles(kind, dims, body, out),
+        VectorType::Float8 => put_singles(kind, dims, body, out),
+    }
+}
+
+fn put_dense64(kind: VectorType, dims: usize, body: &[u8], out: &mut [u8])
+    requires { ⌜ dims ≤ mostDims ⌝ }
+    requires { ⌜ fits kind dims (length (now body)) ≡ true ⌝ }
+    requires { ⌜ (is 9 kind && some (outside (now body) (length (now body) / 8) dims) (length (now body) / 8)) ≡ false ⌝ }
+    requires { ⌜ 8 * dims ≤ length (now out) ⌝ }
+    ensures { λ _. ⌜ now (out .exit) ≡ onto (denseBody binary64 kind dims (now (body .entry))) (now (out .entry)) ⌝ }
+{
+    match kind {
+        VectorType::Float32Sparse => spread64(dims, body, out),
+        VectorType::Float32Dense => put_doubles(kind, dims, body, out),
+        VectorType::Float64Dense => put_doubles(kind, dims, body, out),
+        VectorType::Float1Bit => put_doubles(kind, dims, body, out),
+        VectorType::Float8 => put_doubles(kind, dims, body, out),
+    }
+}
+
+// Puts the body that one step makes, which has `size` bytes, at the start of out. From sparse there
+// is one step only to the dense kinds.
+fn put_made(
+    kind: VectorType,
+    target: VectorType,
+    dims: usize,
+    body: &[u8],
+    size: usize,
+    out: &mut [u8],
+)
+    requires { ⌜ dims ≤ mostDims ⌝ }
+    requires { ⌜ fits kind dims (length (now body)) ≡ true ⌝ }
+    requires { ⌜ (is 9 kind && some (outside (now body) (length (now body) / 8) dims) (length (now body) / 8)) ≡ false ⌝ }
+    requires { ⌜ (is 9 kind && (is 9 target || counted target)) ≡ false ⌝ }
+    requires { ⌜ size ≡ length (made kind target dims (now body)) ⌝ }
+    requires { ⌜ size ≤ length (now out) ⌝ }
+    ensures { λ _. ⌜ now (out .exit) ≡ onto (made kind target dims (now (body .entry))) (now (out .entry)) ⌝ }
+{
+    match target {
+        VectorType::Float32Dense => put_dense32(kind, dims, body, out),
+        VectorType::Float64Dense => put_dense64(kind, dims, body, out),
+        VectorType::Float32Sparse => put_sparse(kind, dims, body, size / 8, out),
+        VectorType::Float1Bit => put_bits(kind, dims, body, out),
+        VectorType::Float8 => put_quantized(kind, dims, body, out),
+    }
+}
+
+// Whether a pair takes scratch: from sparse, in two steps.
+fn is_scratched(kind: VectorType, target: VectorType) -> bool
+    ensures { λ r. ⌜ r ≡ (is 9 kind && counted target) ⌝ }
+{
+    match kind {
+        VectorType::Float32Sparse => match target {
+            VectorType::Float1Bit => true,
+            VectorType::Float8 => true,
+            VectorType::Float32Dense => false,
+            VectorType::Float64Dense => false,
+            VectorType::Float32Sparse => false,
+        },
+        VectorType::Float32Dense => false,
+        VectorType::Float64Dense => false,
+        VectorType::Float1Bit => false,
+        VectorType::Float8 => false,
+    }
+}
+
+fn converted(target: VectorType, dims: usize, length: usize) -> ConvertAnswer
+    ensures { λ r. ⌜ r ≡ convertedTo target dims length ⌝ }
+{
+    ConvertAnswer::Converted(View {
+        kind: target,
+        dims: Dims(dims),
+        length,
+    })
+}
+
+// From sparse in two steps: the dense body is left in scratch.
+fn convert_through(
+    dims: usize,
+    body: &[u8],
+    target: VectorType,
+    scratch: &mut [u8],
+    out: &mut [u8],
+) -> ConvertAnswer
+    requires { ⌜ dims ≤ mostDims ⌝ }
+    requires { ⌜ fits Float32Sparse dims (length (now body)) ≡ true ⌝ }
+    requires { ⌜ some (outside (now body) (length (now body) / 8) dims) (length (now body) / 8) ≡ false ⌝ }
+    requires { ⌜ counted target ≡ true ⌝ }
+    ensures { λ r. ⌜ r ≡ answerOf Float32Sparse dims (now (body .entry)) target (length (now (scratch .entry))) (length (now (out .entry))) ⌝ }
+    ensures { λ _. ⌜ now (scratch .exit) ≡ scratchBy Float32Sparse dims (now (body .entry)) target (now (scratch .entry)) (length (now (out .entry))) ⌝ }
+    ensures { λ _. ⌜ now (out .exit) ≡ outBy Float32Sparse dims (now (body .entry)) target (length (now (scratch .entry))) (now (out .entry)) ⌝ }
+{
+    let whole = 4 * dims;
+    if scratch.len() < whole {
+        return ConvertAnswer::ShortScratch(whole);
+    }
+    let need = made_length(VectorType::Float32Sparse, target, dims, body);
+    if out.len() < need {
+        return ConvertAnswer::Short(need);
+    }
+    spread32(dims, body, scratch);
+    put_made(
+        VectorType::Float32Dense,
+        target,
+        dims,
+        &scratch[..whole],
+        need,
+        out,
+    );
+    converted(target, dims, need)
+}
+
+// The other pairs.
+fn convert_body(
+    kind: VectorType,
+    dims: usize,
+    body: &[u8],
+    target: VectorType,
+    out: &mut [u8],
+) -> ConvertAnswer
+    requires { ⌜ dims ≤ mostDims ⌝ }
+    requires { ⌜ fits kind dims (length (now body)) ≡ true ⌝ }
+    requires { ⌜ (is 9 kind && some (outside (now body) (length (now body) / 8) dims) (length (now body) / 8)) ≡ false ⌝ }
+    requires { ⌜ (is 9 kind && counted target) ≡ false ⌝ }
+    ensures { λ r. ⌜ r ≡ answerOf kind dims (now (body .entry)) target 0 (length (now (out .entry))) ⌝ }
+    ensures { λ _. ⌜ now (out .exit) ≡ outBy kind dims (now (body .entry)) target 0 (now (out .entry)) ⌝ }
+{
+    match way_of(kind, target) {
+        Way::Copied => {
+            if out.len() < body.len() {
+                return ConvertAnswer::Short(body.len());
+            }
+            let need = bytes::copy(body, out);
+            converted(target, dims, need)
+        }
+        Way::Straight => convert_made(kind, dims, body, target, out),
+        Way::Through => convert_made(kind, dims, body, target, out),
+    }
+}
+
+fn convert_made(
+    kind: VectorType,
+    dims: usize,
+    body: &[u8],
+    target: VectorType,
+    out: &mut [u8],
+) -> ConvertAnswer
+    requires { ⌜ dims ≤ mostDims ⌝ }
+    requires { ⌜ fits kind dims (length (now body)) ≡ true ⌝ }
+    requires { ⌜ (is 9 kind && some (outside (now body) (length (now body) / 8) dims) (length (now body) / 8)) ≡ false ⌝ }
+    requires { ⌜ (is 9 kind && (is 9 target || counted target)) ≡ false ⌝ }
+    ensures { λ r. ⌜ r ≡ cond (ltb (length (now (out .entry))) (length (made kind target dims (now (body .entry))))) (Short (length (made kind target dims (now (body .entry))))) (convertedTo target dims (length (made kind target dims (now (body .entry))))) ⌝ }
+    ensures { λ _. ⌜ now (out .exit) ≡ cond (ltb (length (now (out .entry))) (length (made kind target dims (now (body .entry))))) (now (out .entry)) (onto (made kind target dims (now (body .entry))) (now (out .entry))) ⌝ }
+{
+    let need = made_length(kind, target, dims, body);
+    if out.len() < need {
+        return ConvertAnswer::Short(need);
+    }
+    put_made(kind, target, dims, body, need, out);
+    converted(target, dims, need)
+}
+
+// Converts the body of a view.
+pub(crate) fn convert_view(
+    blob: &[u8],
+    view: View,
+    target: VectorType,
+    scratch: &mut [u8],
+    out: &mut [u8],
+) -> ConvertAnswer
+    requires { ⌜ readOf (now blob) ≡ Seen view ⌝ }
+    ensures { λ r. ⌜ r ≡ answerOf (view .kind) (view .dims .0) (bodyOf (now (blob .entry))) target (length (now (scratch .entry))) (length (now (out .entry))) ⌝ }
+    ensures { λ _. ⌜ now (scratch .exit) ≡ scratchBy (view .kind) (view .dims .0) (bodyOf (now (blob .entry))) target (now (scratch .entry)) (length (now (out .entry))) ⌝ }
+    ensures { λ _. ⌜ now (out .exit) ≡ outBy (view .kind) (view .dims .0) (bodyOf (now (blob .entry))) target (length (now (scratch .entry))) (now (out .entry)) ⌝ }
+{
+    let kind = view.kind;
+    let dims = view.dims;
+    let size = view.length;
+    let body = &blob[..size];
+    if is_scratched(kind, target) {
+        return convert_through(dims.0, body, target, scratch, out);
+    }
+    convert_body(kind, dims.0, body, target, out)
+}
