@@ -1,13 +1,14 @@
--- Laws of the answers about blobs: texts put one after another, what a view and a written blob measure, fields that spell bytes, and the three fields of write.
-use mathlib.Core.Path.{_≡_, refl, sym}
+-- Laws of the answers about blobs: texts put one after another, what a view, a written blob and a converted one measure, fields that spell bytes, and the fields of write and conv.
+use mathlib.Core.Path.{_≡_, refl, sym, ap}
+use mathlib.Core.Bool.{Bool, true, false, cond, _&&_}
 use mathlib.Core.List.{List, _++_}
-use Prim.Native.Nat.{ℕ, _+_, _-_, _*_, _<_, _≤_}
+use Prim.Native.Nat.{ℕ, suc, _+_, _-_, _*_, _<_, _≤_}
 use native.Mathlib.Omega.{arith}
-use lib.Dec.{lit≤}
+use lib.Dec.{lit≤, ltb}
 use lib.ListN.{length, take, drop, length-append}
 use lib.Seq.{take-at}
 use borrow.Rule.Slice.PartMut.{putMid}
-use borrow.Author.Tests.{eq-eqb, ne-eqb}
+use borrow.Author.Tests.{eq-eqb, ne-eqb, ltb-false}
 use Rattle.bytes.specs.Bytes.{indexOf}
 use Rattle.promises.specs.Onto.{onto}
 use Rattle.promises.proofs.Onto.{onto-then, tail-lent}
@@ -21,21 +22,27 @@ use Rattle.lines.proofs.Pairs.{blob-none}
 use Rattle.lines.proofs.Parting.{parts-at, parts-last}
 use Rattle.vector_types.specs.Layout.{longest}
 use Rattle.vector_types.specs.Read.{readOf}
+use Rattle.vector_types.specs.Parts.{bodyOf}
 use Rattle.vector_types.specs.Write.{blobOf, writeOf, leftOf}
 use Rattle.vector_types.specs.declared.VectorType.{VectorType}
 use Rattle.vector_types.specs.declared.View.{View}
-use Rattle.vector_types.specs.declared.ReadAnswer.the-variants.{View as Seen}
+use Rattle.vector_types.specs.declared.ReadAnswer.{ReadAnswer}
+use Rattle.vector_types.specs.declared.ReadAnswer.the-variants.{View as Seen, Refused as Unread}
 use Rattle.vector_types.specs.declared.WriteAnswer.the-variants.{Written}
+use Rattle.convert.specs.Result.{resultOf}
+use Rattle.convert.specs.Convert.{convertedTo, scratched, answerOf, outBy, convertIn, convertOf, outIn, leftOut}
+use Rattle.convert.specs.declared.ConvertAnswer.{ConvertAnswer}
+use Rattle.convert.specs.declared.ConvertAnswer.the-variants.{Converted, Refused, ShortScratch, Short}
 use Rattle.vector_types.proofs.Views.{told}
 use Rattle.vector_types.proofs.Strict.{strict-plain}
 use Rattle.vector_types.proofs.Written.{writable, written-blob}
 use Rattle.probe_lines.specs.Line.{two, three}
-use Rattle.probe_lines.specs.Blobs.{other, spelled, readerOf, kindOf, madeText, writtenBy, writeText}
+use Rattle.probe_lines.specs.Blobs.{other, spelled, readerOf, kindOf, madeText, writtenBy, writeText, newBody, convertedText, convertedBy, convText}
 use Rattle.probe_lines.specs.declared.blobs.Reader.{Reader}
 use Rattle.probe_lines.specs.declared.blobs.Reader.the-variants.{Plain, Strict}
 use Rattle.probe_lines.specs.declared.blobs.Kind.{Kind}
 use Rattle.probe_lines.specs.declared.blobs.Kind.the-variants.{Known, Unknown}
-use Rattle.probe_lines.proofs.Fields.{one-field}
+use Rattle.probe_lines.proofs.Fields.{two-fields}
 
 -- the text w, of n bytes, is put at the start of l, which is o then
 abbrev pub Puts : List ℕ → List ℕ → List ℕ → ℕ → Type 0
@@ -60,6 +67,39 @@ pub written-room : (k : VectorType) (d : ℕ) (body made : List ℕ) (n : ℕ) �
 written-room k d body made n e =
     let (clear, size, left) = written-blob k d body made n e in
     (omega (arith, writable k d body clear .short, size), left)
+
+-- one more than the length of what was made
+abbrev reach : ConvertAnswer → ℕ
+reach (Converted v) = suc (v .length)
+reach (Refused r) = 0
+reach (ShortScratch need) = 0
+reach (Short need) = 0
+
+fitted : (few over : Bool) (need size : ℕ) (t : VectorType) (d : ℕ) (v : View)
+    → cond few (ShortScratch need) (cond over (Short size) (convertedTo t d size)) ≡ Converted v → (over ≡ false) × (size ≡ v .length)
+fitted true over need size t d v e = let z = ap reach e in absurd (omega arith)
+fitted false true need size t d v e = let z = ap reach e in absurd (omega arith)
+fitted false false need size t d v e = let z = ap reach e in (refl, omega arith)
+
+-- the first bytes of the room are the new body
+module _ (t : VectorType) (scratch : ℕ) (made : List ℕ) (v : View) where
+  made-by : (k : VectorType) (d : ℕ) (body : List ℕ) → answerOf k d body t scratch (length made) ≡ Converted v
+      → (v .length ≤ length made) × (take (v .length) (outBy k d body t scratch made) ≡ resultOf k t d body)
+  unfolding answerOf outBy
+  made-by k d body e =
+      let new = resultOf k t d body in
+      let (fits, size) = fitted (scratched k t && ltb scratch (4 * d)) (ltb (length made) (length new)) (4 * d) (length new) t d v e in
+      (omega (arith, ltb-false (length made) (length new) fits, size), rw e (take-at new (drop (length new) made) (v .length) size))
+
+  made-in : (r : ReadAnswer) (body : List ℕ) → convertIn r body t scratch (length made) ≡ Converted v
+      → (v .length ≤ length made) × (take (v .length) (outIn r body t scratch made) ≡ newBody t r body)
+  made-in (Seen w) body e = made-by (w .kind) (w .dims .0) body e
+  made-in (Unread r) body e = let z = ap reach e in absurd (omega arith)
+
+  pub converted-room : (s : List ℕ) → convertOf s t scratch (length made) ≡ Converted v
+      → (v .length ≤ length made) × (take (v .length) (leftOut s t scratch made) ≡ newBody t (readOf s) (bodyOf s))
+  unfolding convertOf leftOut
+  converted-room s e = made-in (readOf s) (bodyOf s) e
 
 -- ---- a field of which n bytes are spelled
 module _ (answer : List ℕ → List ℕ) (field : List ℕ) where
@@ -101,8 +141,14 @@ written-tab Unknown number s less = refl
 
 pub write-fields : (kind s : List ℕ) (stop : ℕ) → stop ≡ indexOf tab s → stop < length s
     → writeText kind (take stop s) (after stop s) ≡ two (writeText kind) (fieldsOf s)
-unfolding two writeText
-write-fields kind s stop e less =
-    let number = take stop s in
-    let rest = drop (stop + 1) s in
-    rw (tail-lent, parts-at tab s stop e less) (sym (one-field (writeText kind number) rest (written-tab (kindOf kind) (numeralOf 10 number) rest)))
+unfolding writeText
+write-fields kind s stop e less = two-fields (writeText kind) s stop e less (written-tab (kindOf kind) (numeralOf 10 (take stop s)))
+
+converted-tab : (kind : Kind) (s : List ℕ) → indexOf tab s < length s → convertedBy kind s ≡ other
+converted-tab (Known t) s less = spelled-tab (convertedText t) s less
+converted-tab Unknown s less = refl
+
+pub conv-fields : (s : List ℕ) (end : ℕ) → end ≡ indexOf tab s → end < length s
+    → convText (take end s) (after end s) ≡ two convText (fieldsOf s)
+unfolding convText
+conv-fields s end e less = two-fields convText s end e less (converted-tab (kindOf (take end s)))

@@ -21,7 +21,7 @@ use Rattle.lines.proofs.Parting.{index-le, parts-at, parts-last, parts-some}
 use Rattle.probe_lines.specs.Line.{rowOf, computedOf, one, two, three, ofWidth, verbOf, answerTo, answerBy, answerOf}
 use Rattle.probe_lines.specs.Blobs.{other, spelled, readText}
 use Rattle.probe_lines.specs.declared.Verb.{Verb}
-use Rattle.probe_lines.specs.declared.Verb.the-variants.{Root, Float, Read, Write, Other}
+use Rattle.probe_lines.specs.declared.Verb.the-variants.{Root, Float, Read, Write, Convert, Other}
 use Rattle.probe_lines.specs.declared.blobs.Reader.{Reader}
 use Rattle.probe_lines.specs.declared.float.Work.{Work}
 use Rattle.probe_lines.specs.declared.float.Work.the-variants.{Root32, Root64, Narrow, Widen, Trunc}
@@ -75,21 +75,26 @@ either : (t : Bool) → cond t other other ≡ other
 either true = refl
 either false = refl
 
-last-width : (width s : List ℕ) → one (ofWidth width) (fieldsOf s) ≡ ofWidth width s
+width-other : (width s : List ℕ) → indexOf tab s < length s → ofWidth width s ≡ other
 unfolding ofWidth
-last-width width s = one-field (ofWidth width) s (λ less. rw (tab-other Root32 s less, tab-other Root64 s less, either, either))
+width-other width s less = rw (tab-other Root32 s less, tab-other Root64 s less, either, either)
 
--- root|W|F after its first tab: the width alone, and both fields
+-- two fields: the first alone, and both, where a tab in the second would make X of it anyway
 pub two-short : (g : List ℕ → List ℕ → List ℕ) (s : List ℕ) → indexOf tab s ≡ length s → two g (fieldsOf s) ≡ other
 unfolding two one
 two-short g s all = rw (parts-last tab s all)
 
+pub two-fields : (g : List ℕ → List ℕ → List ℕ) (s : List ℕ) (end : ℕ) → end ≡ indexOf tab s → end < length s
+    → ((rest : List ℕ) → indexOf tab rest < length rest → g (take end s) rest ≡ other)
+    → g (take end s) (take (length s - (end + 1)) (drop (end + 1) s)) ≡ two g (fieldsOf s)
+unfolding two
+two-fields g s end e less x =
+    let rest = drop (end + 1) s in
+    rw (tail-lent, parts-at tab s end e less) (sym (one-field (g (take end s)) rest (x rest)))
+
 pub root-fields : (s : List ℕ) (end : ℕ) → end ≡ indexOf tab s → end < length s
     → ofWidth (take end s) (take (length s - (end + 1)) (drop (end + 1) s)) ≡ two ofWidth (fieldsOf s)
-unfolding two
-root-fields s end e less =
-    let first : partsOf tab s ≡ take end s ∷ partsOf tab (drop (end + 1) s) = parts-at tab s end e less in
-    rw (tail-lent, first) (sym (last-width (take end s) (drop (end + 1) s)))
+root-fields s end e less = two-fields ofWidth s end e less (width-other (take end s))
 
 -- a line that is its first field alone, and one that has more
 pub answer-short : (line : List ℕ) → indexOf tab line ≡ length line → answerOf line ≡ other
@@ -101,6 +106,7 @@ answer-short line all = rw (parts-last tab line all) (go (verbOf line))
     go (Float w) = refl
     go (Read r) = refl
     go Write = refl
+    go Convert = refl
     go Other = refl
 
 pub answer-fields : (line : List ℕ) (end : ℕ) → end ≡ indexOf tab line → end < length line

@@ -1,6 +1,6 @@
 -- The sizes of lines and replies.
-use Prim.Native.Nat.{ℕ, _+_}
-use Rattle.vector_types.specs.Layout.{longest as longestBlob}
+use Prim.Native.Nat.{ℕ, _+_, _*_}
+use Rattle.vector_types.specs.Layout.{longest as longestBlob, mostDims}
 
 -- as many bytes as a line may have before its newline, so that blobs at the limits can be put to it; no answer has more
 abbrev pub limit : ℕ
@@ -10,9 +10,12 @@ limit = 1100000
 abbrev pub longest : ℕ
 longest = limit + 22
 
--- room for the bytes that a line spells, and for the longest blob
+-- room for the bytes that a line spells, for the elements that a conversion goes through, and for the longest blob
 abbrev pub spelledRoom : ℕ
 spelledRoom = 550000
+
+abbrev pub scratchRoom : ℕ
+scratchRoom = 4 * mostDims
 
 abbrev pub blobRoom : ℕ
 blobRoom = longestBlob

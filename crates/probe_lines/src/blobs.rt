@@ -1,15 +1,15 @@
-// The lines about one blob: read, strict, write.
+// The lines about one blob: read, strict, write, conv.
 ghost use mathlib.Core.Path.{_≡_};
 ghost use Prim.Native.Nat.{_*_, _≤_};
-ghost use lib.ListN.{length};
+ghost use lib.ListN.{length, take};
 ghost use Rattle.promises.specs.Onto.{onto};
 ghost use Rattle.lines.specs.Parts.{fieldsOf};
 ghost use Rattle.vector_types.specs.Layout.{longest as longestBlob, byteOf};
-ghost use Rattle.vector_types.specs.declared.ReadAnswer.the-variants.{View as Seen};
-ghost use Rattle.probe_lines.specs.Limits.{limit, blobRoom};
-ghost use Rattle.probe_lines.specs.Line.{three};
-ghost use Rattle.probe_lines.specs.Blobs.{refusalText, viewText, readerOf, shownText, readText, kindOf, madeText, writtenBy, writeText};
+ghost use Rattle.probe_lines.specs.Limits.{limit, scratchRoom, blobRoom};
+ghost use Rattle.probe_lines.specs.Line.{two, three};
+ghost use Rattle.probe_lines.specs.Blobs.{refusalText, vectorText, readerOf, shownText, readText, kindOf, madeText, writtenBy, writeText, convertedText, convertedBy, convText};
 use crate::float::put_other;
+use convert::ConvertAnswer;
 use lines::hex::Found;
 use vector_types::Dims;
 use vector_types::ReadAnswer;
@@ -52,21 +52,23 @@ fn type_byte(kind: VectorType) -> u64
     }
 }
 
-// Puts a view of the blob at the start of out: V, its kind, its dims and its body, parted by tabs.
-fn put_view(view: View, blob: &[u8], out: &mut [u8]) -> usize
-    requires { ⌜ view .length ≤ length (now blob) ⌝ }
+// Puts a vector at the start of out: a mark, the kind, the dims and the body, the first bytes of
+// these, parted by tabs.
+fn put_vector(mark: &[u8], view: View, bytes: &[u8], out: &mut [u8]) -> usize
+    requires { ⌜ length (now mark) ≡ 2 ⌝ }
+    requires { ⌜ view .length ≤ length (now bytes) ⌝ }
     requires { ⌜ view .length ≤ longestBlob ⌝ }
     requires { ⌜ limit ≤ length (now out) ⌝ }
-    ensures { λ r. ⌜ r ≡ length (viewText (Seen view) (now (blob .entry))) ⌝ }
-    ensures { λ _. ⌜ now (out .exit) ≡ onto (viewText (Seen view) (now (blob .entry))) (now (out .entry)) ⌝ }
+    ensures { λ r. ⌜ r ≡ length (vectorText (now (mark .entry)) view (take (view .length) (now (bytes .entry)))) ⌝ }
+    ensures { λ _. ⌜ now (out .exit) ≡ onto (vectorText (now (mark .entry)) view (take (view .length) (now (bytes .entry)))) (now (out .entry)) ⌝ }
 {
     let kind = view.kind;
     let dims = view.dims;
     let length = view.length;
-    let mark = bytes::copy(b"V\t", out);
-    let named = mark + lines::text::put_head(type_byte(kind), &mut out[mark..]);
+    let marked = bytes::copy(mark, out);
+    let named = marked + lines::text::put_head(type_byte(kind), &mut out[marked..]);
     let sized = named + lines::text::put_head(dims.0 as u64, &mut out[named..]);
-    sized + lines::hex::put_bytes(&blob[..length], &mut out[sized..])
+    sized + lines::hex::put_bytes(&bytes[..length], &mut out[sized..])
 }
 
 fn read_by(reader: Reader, blob: &[u8]) -> ReadAnswer
@@ -85,7 +87,7 @@ fn put_read(reader: Reader, blob: &[u8], out: &mut [u8]) -> usize
     ensures { λ _. ⌜ now (out .exit) ≡ onto (shownText reader (now (blob .entry))) (now (out .entry)) ⌝ }
 {
     match read_by(reader, blob) {
-        ReadAnswer::View(view) => put_view(view, blob, out),
+        ReadAnswer::View(view) => put_vector(b"V\t", view, blob, out),
         ReadAnswer::Refused(refusal) => put_refusal(refusal.number, out),
     }
 }
@@ -192,4 +194,76 @@ pub fn write_line(rest: &[u8], spelled: &mut [u8], made: &mut [u8], out: &mut [u
     let number = lines::text::numeral(10, &more[..stop]);
     let field = &more[stop + 1..];
     write_found(kind, number, field, spelled, made, out)
+}
+
+// Converts a blob to a kind, and puts what is made at the start of out.
+fn put_converted(
+    target: VectorType,
+    blob: &[u8],
+    scratch: &mut [u8],
+    made: &mut [u8],
+    out: &mut [u8],
+) -> usize
+    requires { ⌜ length (now scratch) ≡ scratchRoom ⌝ }
+    requires { ⌜ length (now made) ≡ blobRoom ⌝ }
+    requires { ⌜ limit ≤ length (now out) ⌝ }
+    ensures { λ r. ⌜ r ≡ length (convertedText target (now (blob .entry))) ⌝ }
+    ensures { λ _. ⌜ now (out .exit) ≡ onto (convertedText target (now (blob .entry))) (now (out .entry)) ⌝ }
+{
+    match convert::convert(blob, target, scratch, made) {
+        ConvertAnswer::Converted(view) => put_vector(b"C\t", view, made, out),
+        ConvertAnswer::Refused(refusal) => put_refusal(refusal.number, out),
+        ConvertAnswer::ShortScratch(_) => put_refusal(17, out),
+        ConvertAnswer::Short(_) => put_refusal(15, out),
+    }
+}
+
+// The answer to conv|K|H, of which K is found and this is H.
+fn convert_found(
+    kind: Kind,
+    field: &[u8],
+    spelled: &mut [u8],
+    scratch: &mut [u8],
+    made: &mut [u8],
+    out: &mut [u8],
+) -> usize
+    requires { ⌜ length (now field) ≤ 2 * length (now spelled) ⌝ }
+    requires { ⌜ length (now scratch) ≡ scratchRoom ⌝ }
+    requires { ⌜ length (now made) ≡ blobRoom ⌝ }
+    requires { ⌜ limit ≤ length (now out) ⌝ }
+    ensures { λ r. ⌜ r ≡ length (convertedBy kind (now (field .entry))) ⌝ }
+    ensures { λ _. ⌜ now (out .exit) ≡ onto (convertedBy kind (now (field .entry))) (now (out .entry)) ⌝ }
+{
+    let Kind::Known(target) = kind else {
+        return put_other(out);
+    };
+    let count = lines::hex::bytes(field, spelled);
+    if 2 * count != field.len() {
+        return put_other(out);
+    }
+    put_converted(target, &spelled[..count], scratch, made, out)
+}
+
+// The answer to conv|K|H, of which this is K|H.
+pub fn convert_line(
+    rest: &[u8],
+    spelled: &mut [u8],
+    scratch: &mut [u8],
+    made: &mut [u8],
+    out: &mut [u8],
+) -> usize
+    requires { ⌜ length (now rest) ≤ 2 * length (now spelled) ⌝ }
+    requires { ⌜ length (now scratch) ≡ scratchRoom ⌝ }
+    requires { ⌜ length (now made) ≡ blobRoom ⌝ }
+    requires { ⌜ limit ≤ length (now out) ⌝ }
+    ensures { λ r. ⌜ r ≡ length (two convText (fieldsOf (now (rest .entry)))) ⌝ }
+    ensures { λ _. ⌜ now (out .exit) ≡ onto (two convText (fieldsOf (now (rest .entry)))) (now (out .entry)) ⌝ }
+{
+    let end = lines::text::field_end(rest);
+    if end == rest.len() {
+        return put_other(out);
+    }
+    let kind = kind_of(&rest[..end]);
+    let field = &rest[end + 1..];
+    convert_found(kind, field, spelled, scratch, made, out)
 }

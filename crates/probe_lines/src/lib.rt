@@ -10,9 +10,10 @@ ghost use Prim.Native.Nat.{_*_, _≤_};
 ghost use lib.ListN.{length};
 ghost use Rattle.promises.specs.Onto.{onto};
 ghost use Rattle.lines.specs.Parts.{fieldsOf};
-ghost use Rattle.probe_lines.specs.Limits.{limit, blobRoom};
+ghost use Rattle.probe_lines.specs.Limits.{limit, scratchRoom, blobRoom};
 ghost use Rattle.probe_lines.specs.Line.{answerOf, verbOf, two, ofWidth};
 use blobs::Reader;
+use blobs::convert_line;
 use blobs::read_line;
 use blobs::write_line;
 use float::Work;
@@ -25,6 +26,7 @@ pub enum Verb {
     Float(Work),
     Read(Reader),
     Write,
+    Convert,
     Other,
 }
 
@@ -51,6 +53,9 @@ fn verb_of(word: &[u8]) -> Verb
     }
     if check::same(word, b"write") {
         return Verb::Write;
+    }
+    if check::same(word, b"conv") {
+        return Verb::Convert;
     }
     Verb::Other
 }
@@ -82,14 +87,24 @@ pub const LIMIT: usize = 1100000;
 // The longest reply: twenty digits, a tab, the answer and a newline.
 pub const LONGEST: usize = LIMIT + 22;
 
-// Room for the bytes that a line spells in hexadecimal, and for the longest blob.
+// Room for the bytes that a line spells in hexadecimal, for the elements that a conversion goes
+// through, and for the longest blob.
 pub const SPELLED: usize = LIMIT / 2;
+
+pub const SCRATCH: usize = 4 * vector_types::MOST_DIMS;
 
 pub const BLOB: usize = vector_types::LONGEST;
 
-// Puts the answer to a line at the start of out, and answers its length; the other two are room to work in.
-pub fn answer(line: &[u8], spelled: &mut [u8], made: &mut [u8], out: &mut [u8]) -> usize
+// Puts the answer to a line at the start of out, and answers its length; the others are room to work in.
+pub fn answer(
+    line: &[u8],
+    spelled: &mut [u8],
+    scratch: &mut [u8],
+    made: &mut [u8],
+    out: &mut [u8],
+) -> usize
     requires { ⌜ length (now line) ≤ 2 * length (now spelled) ⌝ }
+    requires { ⌜ length (now scratch) ≡ scratchRoom ⌝ }
     requires { ⌜ length (now made) ≡ blobRoom ⌝ }
     requires { ⌜ limit ≤ length (now out) ⌝ }
     ensures { λ r. ⌜ r ≡ length (answerOf (now (line .entry))) ⌝ }
@@ -106,6 +121,7 @@ pub fn answer(line: &[u8], spelled: &mut [u8], made: &mut [u8], out: &mut [u8]) 
         Verb::Float(work) => computed(work, rest, out),
         Verb::Read(reader) => read_line(reader, rest, spelled, out),
         Verb::Write => write_line(rest, spelled, made, out),
+        Verb::Convert => convert_line(rest, spelled, scratch, made, out),
         Verb::Other => put_other(out),
     }
 }

@@ -7,7 +7,7 @@ ghost use Rattle.lines.specs.Text.{newline};
 ghost use Rattle.promises.specs.Onto.{onto};
 ghost use Rattle.lines.specs.Stream.{keptWith, pieceOf};
 ghost use Rattle.lines.specs.Served.{heldAnswer, heldReply, saidOf, servedOf, lastSaid};
-ghost use Rattle.probe_lines.specs.Limits.{limit, longest, blobRoom};
+ghost use Rattle.probe_lines.specs.Limits.{limit, longest, scratchRoom, blobRoom};
 ghost use Rattle.probe_lines.specs.Line.{answerOf};
 use crate::answer;
 use crate::float::put_other;
@@ -19,11 +19,13 @@ fn answer_held(
     kept: &[u8],
     held: Held,
     spelled: &mut [u8],
+    scratch: &mut [u8],
     made: &mut [u8],
     out: &mut [u8],
 ) -> usize
     requires { ⌜ held .count ≤ length (now kept) ⌝ }
     requires { ⌜ length (now kept) ≤ 2 * length (now spelled) ⌝ }
+    requires { ⌜ length (now scratch) ≡ scratchRoom ⌝ }
     requires { ⌜ length (now made) ≡ blobRoom ⌝ }
     requires { ⌜ limit ≤ length (now out) ⌝ }
     ensures { λ r. ⌜ r ≡ length (heldAnswer answerOf (now (kept .entry)) held) ⌝ }
@@ -33,28 +35,44 @@ fn answer_held(
         return put_other(out);
     }
     let count = held.count;
-    answer(&kept[..count], spelled, made, out)
+    answer(&kept[..count], spelled, scratch, made, out)
 }
 
 // The answer to the line of which this is kept, and a newline.
-fn put_line(kept: &[u8], held: Held, spelled: &mut [u8], made: &mut [u8], out: &mut [u8]) -> usize
+fn put_line(
+    kept: &[u8],
+    held: Held,
+    spelled: &mut [u8],
+    scratch: &mut [u8],
+    made: &mut [u8],
+    out: &mut [u8],
+) -> usize
     requires { ⌜ held .count ≤ length (now kept) ⌝ }
     requires { ⌜ length (now kept) ≤ 2 * length (now spelled) ⌝ }
+    requires { ⌜ length (now scratch) ≡ scratchRoom ⌝ }
     requires { ⌜ length (now made) ≡ blobRoom ⌝ }
     requires { ⌜ limit < length (now out) ⌝ }
     ensures { λ r. ⌜ r ≡ length (heldAnswer answerOf (now (kept .entry)) held ++ (newline ∷ [])) ⌝ }
     ensures { λ _. ⌜ now (out .exit) ≡ onto (heldAnswer answerOf (now (kept .entry)) held ++ (newline ∷ [])) (now (out .entry)) ⌝ }
 {
     let room = out.len() - 1;
-    let said = answer_held(kept, held, spelled, made, &mut out[..room]);
+    let said = answer_held(kept, held, spelled, scratch, made, &mut out[..room]);
     out[said] = b'\n';
     said + 1
 }
 
 // The reply to the line of which this is kept: its number, a tab, the answer and a newline.
-fn reply(kept: &[u8], held: Held, spelled: &mut [u8], made: &mut [u8], out: &mut [u8]) -> usize
+fn reply(
+    kept: &[u8],
+    held: Held,
+    spelled: &mut [u8],
+    scratch: &mut [u8],
+    made: &mut [u8],
+    out: &mut [u8],
+) -> usize
     requires { ⌜ held .count ≤ length (now kept) ⌝ }
     requires { ⌜ length (now kept) ≤ 2 * length (now spelled) ⌝ }
+    requires { ⌜ length (now scratch) ≡ scratchRoom ⌝ }
     requires { ⌜ length (now made) ≡ blobRoom ⌝ }
     requires { ⌜ held .before + 1 < 2 ^ 64 ⌝ }
     requires { ⌜ longest ≤ length (now out) ⌝ }
@@ -63,7 +81,7 @@ fn reply(kept: &[u8], held: Held, spelled: &mut [u8], made: &mut [u8], out: &mut
 {
     let number = held.before + 1;
     let head = lines::text::put_head(number, out);
-    let line = put_line(kept, held, spelled, made, &mut out[head..]);
+    let line = put_line(kept, held, spelled, scratch, made, &mut out[head..]);
     head + line
 }
 
@@ -75,12 +93,14 @@ pub fn serve(
     kept: &mut [u8],
     held: Held,
     spelled: &mut [u8],
+    scratch: &mut [u8],
     made: &mut [u8],
     out: &mut [u8],
 ) -> Served
     requires { ⌜ at ≤ length (now chunk) ⌝ }
     requires { ⌜ held .count ≤ length (now kept) ⌝ }
     requires { ⌜ length (now kept) ≤ 2 * length (now spelled) ⌝ }
+    requires { ⌜ length (now scratch) ≡ scratchRoom ⌝ }
     requires { ⌜ length (now made) ≡ blobRoom ⌝ }
     requires { ⌜ held .before + 1 < 2 ^ 64 ⌝ }
     requires { ⌜ longest ≤ length (now out) ⌝ }
@@ -92,7 +112,7 @@ pub fn serve(
     let next = taken.at;
     let line = taken.held;
     if taken.ended {
-        let said = reply(kept, line, spelled, made, out);
+        let said = reply(kept, line, spelled, scratch, made, out);
         let fresh = lines::stream::next(line);
         return Served {
             held: fresh,
@@ -108,9 +128,17 @@ pub fn serve(
 }
 
 // At the end of the input: the reply to a last line that has bytes, and how long it is.
-pub fn finish(kept: &[u8], held: Held, spelled: &mut [u8], made: &mut [u8], out: &mut [u8]) -> usize
+pub fn finish(
+    kept: &[u8],
+    held: Held,
+    spelled: &mut [u8],
+    scratch: &mut [u8],
+    made: &mut [u8],
+    out: &mut [u8],
+) -> usize
     requires { ⌜ held .count ≤ length (now kept) ⌝ }
     requires { ⌜ length (now kept) ≤ 2 * length (now spelled) ⌝ }
+    requires { ⌜ length (now scratch) ≡ scratchRoom ⌝ }
     requires { ⌜ length (now made) ≡ blobRoom ⌝ }
     requires { ⌜ held .before + 1 < 2 ^ 64 ⌝ }
     requires { ⌜ longest ≤ length (now out) ⌝ }
@@ -120,5 +148,5 @@ pub fn finish(kept: &[u8], held: Held, spelled: &mut [u8], made: &mut [u8], out:
     if held.count == 0 {
         return 0;
     }
-    reply(kept, held, spelled, made, out)
+    reply(kept, held, spelled, scratch, made, out)
 }

@@ -3,7 +3,7 @@ ghost use mathlib.Core.Path.{_≡_};
 ghost use Prim.Native.Nat.{_+_, _*_, _≤_, _<_, _^_};
 ghost use lib.ListN.{length};
 ghost use Rattle.lines.specs.Output.{Stepped};
-ghost use Rattle.probe_lines.specs.Limits.{limit, longest, spelledRoom, blobRoom};
+ghost use Rattle.probe_lines.specs.Limits.{limit, longest, spelledRoom, scratchRoom, blobRoom};
 use lines::output::Done;
 use lines::output::Room;
 use lines::output::Step;
@@ -12,6 +12,7 @@ use lines::stream::Held;
 use probe_lines::BLOB;
 use probe_lines::LIMIT;
 use probe_lines::LONGEST;
+use probe_lines::SCRATCH;
 use probe_lines::SPELLED;
 
 // As many bytes of a line as are kept: a line of more is answered X.
@@ -21,11 +22,17 @@ fn line_room() -> [u8; LIMIT]
     [0; LIMIT]
 }
 
-// Room to work in: for the bytes that a line spells, and for a blob that is written.
+// Room to work in: for the bytes that a line spells, for a conversion, and for what is made.
 fn spelled_room() -> [u8; SPELLED]
     ensures { λ r. ⌜ spelledRoom ≡ length r ⌝ }
 {
     [0; SPELLED]
+}
+
+fn scratch_room() -> [u8; SCRATCH]
+    ensures { λ r. ⌜ scratchRoom ≡ length r ⌝ }
+{
+    [0; SCRATCH]
 }
 
 fn blob_room() -> [u8; BLOB]
@@ -62,6 +69,7 @@ fn serve_from(
     kept: &mut [u8],
     held: Held,
     spelled: &mut [u8],
+    scratch: &mut [u8],
     made: &mut [u8],
     out: &mut [u8],
     start: usize,
@@ -69,12 +77,22 @@ fn serve_from(
     requires { ⌜ at < length (now chunk) ⌝ }
     requires { ⌜ held .count ≤ length (now kept) ⌝ }
     requires { ⌜ length (now kept) ≤ 2 * length (now spelled) ⌝ }
+    requires { ⌜ length (now scratch) ≡ scratchRoom ⌝ }
     requires { ⌜ length (now made) ≡ blobRoom ⌝ }
     requires { ⌜ held .before + 1 < 2 ^ 64 ⌝ }
     requires { ⌜ start + longest ≤ length (now out) ⌝ }
     ensures { λ r. ⌜ Stepped (length (now (chunk .entry))) at (length (now (kept .entry))) held (length (now (out .entry))) r ⌝ }
 {
-    let served = probe_lines::serve(chunk, at, kept, held, spelled, made, &mut out[start..]);
+    let served = probe_lines::serve(
+        chunk,
+        at,
+        kept,
+        held,
+        spelled,
+        scratch,
+        made,
+        &mut out[start..],
+    );
     let line = served.held;
     let next = served.at;
     let filled = start + served.said;
@@ -91,11 +109,13 @@ fn serve_chunk(
     kept: &mut [u8],
     held: Held,
     spelled: &mut [u8],
+    scratch: &mut [u8],
     made: &mut [u8],
     out: &mut [u8],
 ) -> Done
     requires { ⌜ held .count ≤ length (now kept) ⌝ }
     requires { ⌜ length (now kept) ≤ 2 * length (now spelled) ⌝ }
+    requires { ⌜ length (now scratch) ≡ scratchRoom ⌝ }
     requires { ⌜ length (now made) ≡ blobRoom ⌝ }
     requires { ⌜ held .before + length (now chunk) < 2 ^ 64 ⌝ }
     requires { ⌜ longest ≤ length (now out) ⌝ }
@@ -113,7 +133,7 @@ fn serve_chunk(
                 fine: false,
             };
         };
-        let step = serve_from(chunk, at, kept, line, spelled, made, out, start);
+        let step = serve_from(chunk, at, kept, line, spelled, scratch, made, out, start);
         line = step.held;
         at = step.at;
         filled = step.filled;
@@ -123,20 +143,29 @@ fn serve_chunk(
 }
 
 // Replies to a last line that no newline ends, at the end of the input.
-fn serve_end(kept: &[u8], held: Held, spelled: &mut [u8], made: &mut [u8], out: &mut [u8]) -> bool
+fn serve_end(
+    kept: &[u8],
+    held: Held,
+    spelled: &mut [u8],
+    scratch: &mut [u8],
+    made: &mut [u8],
+    out: &mut [u8],
+) -> bool
     requires { ⌜ held .count ≤ length (now kept) ⌝ }
     requires { ⌜ length (now kept) ≤ 2 * length (now spelled) ⌝ }
+    requires { ⌜ length (now scratch) ≡ scratchRoom ⌝ }
     requires { ⌜ length (now made) ≡ blobRoom ⌝ }
     requires { ⌜ held .before + 1 < 2 ^ 64 ⌝ }
     requires { ⌜ longest ≤ length (now out) ⌝ }
 {
-    let said = probe_lines::finish(kept, held, spelled, made, out);
+    let said = probe_lines::finish(kept, held, spelled, scratch, made, out);
     io::write_all(libc::STDOUT_FILENO, &out[..said])
 }
 
 fn main() {
     let mut kept = line_room();
     let mut spelled = spelled_room();
+    let mut scratch = scratch_room();
     let mut made = blob_room();
     let mut out = reply_room();
     let mut chunk = io::large_buffer();
@@ -159,6 +188,7 @@ fn main() {
             &mut kept,
             held,
             &mut spelled,
+            &mut scratch,
             &mut made,
             &mut out,
         );
@@ -168,7 +198,7 @@ fn main() {
         }
         held = done.held;
     }
-    if !serve_end(&kept, held, &mut spelled, &mut made, &mut out) {
+    if !serve_end(&kept, held, &mut spelled, &mut scratch, &mut made, &mut out) {
         cannot_write();
     }
 }

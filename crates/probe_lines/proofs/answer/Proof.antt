@@ -10,7 +10,7 @@ use Rattle.lines.specs.Text.{tab}
 use Rattle.lines.specs.Parts.{fieldsOf}
 use Rattle.probe_lines.specs.Line.{answerTo, answerOf}
 use Rattle.probe_lines.specs.declared.Verb.{Verb}
-use Rattle.probe_lines.specs.declared.Verb.the-variants.{Root, Float, Read, Write, Other}
+use Rattle.probe_lines.specs.declared.Verb.the-variants.{Root, Float, Read, Write, Convert, Other}
 use Rattle.probe_lines.proofs.Fields.{answer-short, answer-fields, last-computed, last-read, answered}
 use borrow.Author.Needs.{needs}
 use Rattle.probe_lines.proofs.answer.Statement.{statement}
@@ -28,7 +28,7 @@ same-length c = search needs
 returns : tie.Need-returns
 returns c =
     let t = c .before .before .before .before in
-    let line = t .before .before .before .before .before .before .args .line .now in
+    let line = t .before .before .before .before .before .before .before .args .line .now in
     let all : indexOf tab line ≡ length line = sym (t .before .field-end .ensures .0) ∙ t .if1 .taken in
     answered _ _ _ _ _ (sym (answer-short line all)) (c .before .before .put-other .ensures)
 
@@ -77,12 +77,18 @@ write-line-requires c κs = search needs
 enum-told-3 : tie.Need-enum-told-3
 enum-told-3 c = search needs
 
+convert-line-requires : tie.Need-convert-line-requires
+convert-line-requires c κs = search needs
+
+enum-told-4 : tie.Need-enum-told-4
+enum-told-4 c = search needs
+
 put-other-requires-2 : tie.Need-put-other-requires-2
 put-other-requires-2 c κs = search needs
 
 -- the line, and what follows its first field
 abbrev line : tie.After-rest → List ℕ
-line c = c .before .before .before .before .before .before .before .before .before .args .line .now
+line c = c .before .before .before .before .before .before .before .before .before .before .args .line .now
 
 abbrev rest : tie.After-rest → List ℕ
 rest c = let from = c .before .before .before .before .field-end .result + 1 in take (length (line c) - from) (drop from (line c))
@@ -148,11 +154,29 @@ returns-5 c =
 same-length-9 : tie.Need-same-length-9
 same-length-9 c = search needs
 
+same-length-10 : tie.Need-same-length-10
+same-length-10 c = search needs
+
+same-length-11 : tie.Need-same-length-11
+same-length-11 c = search needs
+
+same-length-12 : tie.Need-same-length-12
+same-length-12 c = search needs
+
 returns-6 : tie.Need-returns-6
 unfolding answerTo
 returns-6 c =
+    let told = c .before .before .before .before .before .before .before .before .before .before .before .before .before in
+    answered _ _ _ _ _ (by-verb (told .before .before) Convert (told .enum-told3 .given .1)) (c .before .before .before .before .before .before .before .before .convert-line .ensures)
+
+same-length-13 : tie.Need-same-length-13
+same-length-13 c = search needs
+
+returns-7 : tie.Need-returns-7
+unfolding answerTo
+returns-7 c =
     let told = c .before .before .before .before in
-    answered _ _ _ _ _ (by-verb (told .before .before) Other (told .enum-told3 .given .1)) (c .before .before .put-other2 .ensures)
+    answered _ _ _ _ _ (by-verb (told .before .before) Other (told .enum-told4 .given .1)) (c .before .before .put-other2 .ensures)
 
 pub answer-spec : {M : Type 1} → statement M
 answer-spec =
@@ -177,6 +201,8 @@ answer-spec =
     enum-told-2
     write-line-requires
     enum-told-3
+    convert-line-requires
+    enum-told-4
     put-other-requires-2
     same-length-2
     returns-2
@@ -190,4 +216,9 @@ answer-spec =
     same-length-8
     returns-5
     same-length-9
-    returns-6)
+    same-length-10
+    same-length-11
+    same-length-12
+    returns-6
+    same-length-13
+    returns-7)

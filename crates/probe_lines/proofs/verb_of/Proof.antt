@@ -7,7 +7,7 @@ use lib.ListN.{drop}
 use Rattle.lines.specs.Text.{word}
 use Rattle.probe_lines.specs.Line.{verbOf}
 use Rattle.probe_lines.specs.declared.Verb.{Verb}
-use Rattle.probe_lines.specs.declared.Verb.the-variants.{Root, Float, Read, Write, Other}
+use Rattle.probe_lines.specs.declared.Verb.the-variants.{Root, Float, Read, Write, Convert, Other}
 use Rattle.probe_lines.specs.declared.blobs.Reader.the-variants.{Plain, Strict}
 use Rattle.probe_lines.specs.declared.float.Work.the-variants.{Narrow, Widen, Trunc}
 use Rattle.probe_lines.proofs.Fields.{named, told}
@@ -19,7 +19,7 @@ use Rattle.probe_lines.proofs.verb_of.Tie as tie
 abbrev words : List (List ℕ × Verb)
 words =
     (word "root", Root) ∷ (word "narrow", Float Narrow) ∷ (word "widen", Float Widen) ∷ (word "trunc", Float Trunc)
-    ∷ (word "read", Read Plain) ∷ (word "strict", Read Strict) ∷ (word "write", Write) ∷ []
+    ∷ (word "read", Read Plain) ∷ (word "strict", Read Strict) ∷ (word "write", Write) ∷ (word "conv", Convert) ∷ []
 
 abbrev from : ℕ → List ℕ → Verb
 from n w = named (drop n words) Other w
@@ -67,6 +67,12 @@ asked7 c = asked6 (c .before .before .before)
 
 past7 : (c : tie.Else7) → verbOf (asked7 c) ≡ from 7 (asked7 c)
 past7 c = past6 (c .before .before .before) ∙ told false (c .before .same7 .ensures) (c .if7 .left) _ _
+
+abbrev asked8 : tie.Else8 → List ℕ
+asked8 c = asked7 (c .before .before .before)
+
+past8 : (c : tie.Else8) → verbOf (asked8 c) ≡ from 8 (asked8 c)
+past8 c = past7 (c .before .before .before) ∙ told false (c .before .same8 .ensures) (c .if8 .left) _ _
 
 slice-aggregate-same : tie.Need-slice-aggregate-same
 slice-aggregate-same c = search needs
@@ -132,8 +138,17 @@ same-requires-7 c κs = search needs
 returns-7 : tie.Need-returns-7
 returns-7 c = sym (past6 (c .before .before .before) ∙ told true (c .before .same7 .ensures) (c .if7 .taken) _ _)
 
+slice-aggregate-same-8 : tie.Need-slice-aggregate-same-8
+slice-aggregate-same-8 c = search needs
+
+same-requires-8 : tie.Need-same-requires-8
+same-requires-8 c κs = search needs
+
 returns-8 : tie.Need-returns-8
-returns-8 c = sym (past7 c)
+returns-8 c = sym (past7 (c .before .before .before) ∙ told true (c .before .same8 .ensures) (c .if8 .taken) _ _)
+
+returns-9 : tie.Need-returns-9
+returns-9 c = sym (past8 c)
 
 pub verb-of-spec : {M : Type 1} → statement M
 verb-of-spec =
@@ -160,4 +175,7 @@ verb-of-spec =
     slice-aggregate-same-7
     same-requires-7
     returns-7
-    returns-8)
+    slice-aggregate-same-8
+    same-requires-8
+    returns-8
+    returns-9)

@@ -5,24 +5,27 @@ use mathlib.Core.Path.{_≡_, ap}
 use native.Mathlib.Omega.{arith}
 use lib.ListN.{length}
 use Rattle.lines.specs.declared.stream.Held.{Held}
-use Rattle.probe_lines.specs.Limits.{limit, spelledRoom, blobRoom}
+use Rattle.probe_lines.specs.Limits.{limit, spelledRoom, scratchRoom, blobRoom}
 use borrow.Author.Needs.{needs}
 use Rattle.vecprobe.proofs.main.Statement.{statement}
 use Rattle.vecprobe.proofs.main.Tie as tie
 
 abbrev Inv-loop : tie.InvT-loop
-Inv-loop kept₀ spelled₀ made₀ out₀ chunk₀ held₀ left₀ kept spelled made out chunk held left =
-    (length kept ≡ limit) × (length spelled ≡ spelledRoom) × (length made ≡ blobRoom) × (length out ≡ 1200000) × (length chunk ≡ 65536)
+Inv-loop kept₀ spelled₀ scratch₀ made₀ out₀ chunk₀ held₀ left₀ kept spelled scratch made out chunk held left =
+    (length kept ≡ limit) × (length spelled ≡ spelledRoom) × (length scratch ≡ scratchRoom) × (length made ≡ blobRoom) × (length out ≡ 1200000) × (length chunk ≡ 65536)
     × (held .count ≤ limit) × (held .before + left ≤ 0x8000_0000_0000_0000)
 
 abbrev μ-loop : tie.MeasureT-loop
-μ-loop kept₀ spelled₀ made₀ out₀ chunk₀ held₀ left₀ kept spelled made out chunk held left = left
+μ-loop kept₀ spelled₀ scratch₀ made₀ out₀ chunk₀ held₀ left₀ kept spelled scratch made out chunk held left = left
 
 line-room-requires : tie.Need-line-room-requires Inv-loop μ-loop
 line-room-requires c κs = search needs
 
 spelled-room-requires : tie.Need-spelled-room-requires Inv-loop μ-loop
 spelled-room-requires c κs = search needs
+
+scratch-room-requires : tie.Need-scratch-room-requires Inv-loop μ-loop
+scratch-room-requires c κs = search needs
 
 blob-room-requires : tie.Need-blob-room-requires Inv-loop μ-loop
 blob-room-requires c κs = search needs
@@ -40,7 +43,7 @@ loop-holds : tie.Need-loop-holds Inv-loop μ-loop
 loop-holds c =
     let none : c .start .result .count ≡ 0 = ap (λ (h : Held). h .count) (c .start .ensures) in
     let first : c .start .result .before ≡ 0 = ap (λ (h : Held). h .before) (c .start .ensures) in
-    (search needs, search needs, search needs, search needs, search needs, omega arith, omega arith)
+    (search needs, search needs, search needs, search needs, search needs, search needs, omega arith, omega arith)
 
 slice-aggregate-read : tie.Need-slice-aggregate-read Inv-loop μ-loop
 slice-aggregate-read c = search needs
@@ -81,6 +84,9 @@ slice-aggregate-serve-chunk-4 c = search needs
 slice-aggregate-serve-chunk-5 : tie.Need-slice-aggregate-serve-chunk-5 Inv-loop μ-loop
 slice-aggregate-serve-chunk-5 c = search needs
 
+slice-aggregate-serve-chunk-6 : tie.Need-slice-aggregate-serve-chunk-6 Inv-loop μ-loop
+slice-aggregate-serve-chunk-6 c = search needs
+
 serve-chunk-requires : tie.Need-serve-chunk-requires Inv-loop μ-loop
 serve-chunk-requires c κs = search needs
 
@@ -108,6 +114,9 @@ slice-aggregate-serve-end-3 c = search needs
 slice-aggregate-serve-end-4 : tie.Need-slice-aggregate-serve-end-4 Inv-loop μ-loop
 slice-aggregate-serve-end-4 c = search needs
 
+slice-aggregate-serve-end-5 : tie.Need-slice-aggregate-serve-end-5 Inv-loop μ-loop
+slice-aggregate-serve-end-5 c = search needs
+
 serve-end-requires : tie.Need-serve-end-requires Inv-loop μ-loop
 serve-end-requires c κs = search needs
 
@@ -128,6 +137,7 @@ main-spec =
     μ-loop
     line-room-requires
     spelled-room-requires
+    scratch-room-requires
     blob-room-requires
     reply-room-requires
     large-buffer-requires
@@ -146,6 +156,7 @@ main-spec =
     slice-aggregate-serve-chunk-3
     slice-aggregate-serve-chunk-4
     slice-aggregate-serve-chunk-5
+    slice-aggregate-serve-chunk-6
     serve-chunk-requires
     cannot-write-requires
     returns-2
@@ -155,6 +166,7 @@ main-spec =
     slice-aggregate-serve-end-2
     slice-aggregate-serve-end-3
     slice-aggregate-serve-end-4
+    slice-aggregate-serve-end-5
     serve-end-requires
     cannot-write-requires-2
     returns-3

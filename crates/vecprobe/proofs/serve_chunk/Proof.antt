@@ -10,12 +10,12 @@ use Rattle.vecprobe.proofs.serve_chunk.Statement.{statement}
 use Rattle.vecprobe.proofs.serve_chunk.Tie as tie
 
 abbrev Inv-loop : tie.InvT-loop
-Inv-loop chunk kept₀ spelled₀ made₀ out₀ line₀ at₀ filled₀ kept spelled made out line at filled =
+Inv-loop chunk kept₀ spelled₀ scratch₀ made₀ out₀ line₀ at₀ filled₀ kept spelled scratch made out line at filled =
     (at ≤ length chunk) × (filled ≤ length out) × (line .count ≤ length kept) × (line .before ≤ line₀ .before + at)
-    × (length kept ≡ length kept₀) × (length spelled ≡ length spelled₀) × (length made ≡ length made₀) × (length out ≡ length out₀)
+    × (length kept ≡ length kept₀) × (length spelled ≡ length spelled₀) × (length scratch ≡ length scratch₀) × (length made ≡ length made₀) × (length out ≡ length out₀)
 
 abbrev μ-loop : tie.MeasureT-loop
-μ-loop chunk kept₀ spelled₀ made₀ out₀ line₀ at₀ filled₀ kept spelled made out line at filled = length chunk - at
+μ-loop chunk kept₀ spelled₀ scratch₀ made₀ out₀ line₀ at₀ filled₀ kept spelled scratch made out line at filled = length chunk - at
 
 loop-holds : tie.Need-loop-holds Inv-loop μ-loop
 loop-holds c = search needs
@@ -41,6 +41,9 @@ same-length-3 c = search needs
 same-length-4 : tie.Need-same-length-4 Inv-loop μ-loop
 same-length-4 c = search needs
 
+same-length-5 : tie.Need-same-length-5 Inv-loop μ-loop
+same-length-5 c = search needs
+
 returns : tie.Need-returns Inv-loop μ-loop
 returns c = search needs
 
@@ -49,7 +52,7 @@ roomy : (c : tie.After-room Inv-loop μ-loop) → c .room .given .0 .0 + longest
 roomy c = rw (c .room .given .1) at (c .before .before .make-room .ensures)
 
 serve-from-requires : tie.Need-serve-from-requires Inv-loop μ-loop
-serve-from-requires c κs = (omega arith, (omega arith, (omega arith, (omega arith, (omega arith, roomy (c .before .before .before .before .before))))))
+serve-from-requires c κs = (omega arith, (omega arith, (omega arith, (omega arith, (omega arith, (omega arith, roomy (c .before .before .before .before .before .before)))))))
 
 loop-less : tie.Need-loop-less Inv-loop μ-loop
 loop-less c = search needs
@@ -66,9 +69,6 @@ slice-aggregate-write-all c = sym (length-take-le _ _ (omega arith))
 write-all-requires : tie.Need-write-all-requires Inv-loop μ-loop
 write-all-requires c κs = search needs
 
-same-length-5 : tie.Need-same-length-5 Inv-loop μ-loop
-same-length-5 c = search needs
-
 same-length-6 : tie.Need-same-length-6 Inv-loop μ-loop
 same-length-6 c = search needs
 
@@ -77,6 +77,12 @@ same-length-7 c = search needs
 
 same-length-8 : tie.Need-same-length-8 Inv-loop μ-loop
 same-length-8 c = search needs
+
+same-length-9 : tie.Need-same-length-9 Inv-loop μ-loop
+same-length-9 c = search needs
+
+same-length-10 : tie.Need-same-length-10 Inv-loop μ-loop
+same-length-10 c = search needs
 
 returns-2 : tie.Need-returns-2 Inv-loop μ-loop
 returns-2 c = search needs
@@ -95,6 +101,7 @@ serve-chunk-spec =
     same-length-2
     same-length-3
     same-length-4
+    same-length-5
     returns
     serve-from-requires
     loop-less
@@ -102,8 +109,9 @@ serve-chunk-spec =
     slice-reshare-prefix-write-all
     slice-aggregate-write-all
     write-all-requires
-    same-length-5
     same-length-6
     same-length-7
     same-length-8
+    same-length-9
+    same-length-10
     returns-2)

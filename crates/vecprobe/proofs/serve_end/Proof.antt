@@ -14,18 +14,18 @@ use Rattle.vecprobe.proofs.serve_end.Tie as tie
 finish-requires : tie.Need-finish-requires
 finish-requires c κs = search needs
 
-fits : (c : tie.After-finish) → c .finish .result ≤ length (c .finish .last .1 .1 .1 .1 .0)
+fits : (c : tie.After-finish) → c .finish .result ≤ length (c .finish .last .1 .1 .1 .1 .1 .0)
 fits c =
-    let a = c .before .before .before .before .before .before .before .before .args in
+    let a = c .before .before .before .before .before .before .before .before .before .before .args in
     let f = c .finish in
-    let same = f .kept .1 .1 .1 .1 .0 in
-    omega (arith, f .ensures .0, same, onto-within (lastSaid answerOf (a .kept .now) (a .held)) (a .out .now) (f .last .1 .1 .1 .1 .0) (f .ensures .1) same)
+    let same = f .kept .1 .1 .1 .1 .1 .0 in
+    omega (arith, f .ensures .0, same, onto-within (lastSaid answerOf (a .kept .now) (a .held)) (a .out .now) (f .last .1 .1 .1 .1 .1 .0) (f .ensures .1) same)
 
 slice-reshare-prefix-write-all : tie.Need-slice-reshare-prefix-write-all
-slice-reshare-prefix-write-all c = omega (arith, fits (c .before .before .before .before .before .before))
+slice-reshare-prefix-write-all c = omega (arith, fits (c .before .before .before .before .before .before .before .before))
 
 slice-aggregate-write-all : tie.Need-slice-aggregate-write-all
-slice-aggregate-write-all c = sym (length-take-le _ _ (omega (arith, fits (c .before .before .before .before .before .before .before))))
+slice-aggregate-write-all c = sym (length-take-le _ _ (omega (arith, fits (c .before .before .before .before .before .before .before .before .before))))
 
 write-all-requires : tie.Need-write-all-requires
 write-all-requires c κs = search needs
@@ -38,6 +38,9 @@ same-length-2 c = search needs
 
 same-length-3 : tie.Need-same-length-3
 same-length-3 c = search needs
+
+same-length-4 : tie.Need-same-length-4
+same-length-4 c = search needs
 
 returns : tie.Need-returns
 returns c = search needs
@@ -53,4 +56,5 @@ serve-end-spec =
     same-length
     same-length-2
     same-length-3
+    same-length-4
     returns)

@@ -1,5 +1,5 @@
 -- `blobs::put_read` meets its contract: what the reader shows is put, or the refusal.
-use mathlib.Core.Path.{_≡_, sym, ap, _∙_}
+use mathlib.Core.Path.{_≡_, refl, sym, ap, _∙_}
 use Rattle.vector_types.specs.declared.ReadAnswer.{ReadAnswer}
 use Rattle.vector_types.specs.declared.ReadAnswer.the-variants.{View, Refused}
 use Rattle.probe_lines.specs.Blobs.{viewText, readerOf}
@@ -17,16 +17,17 @@ shown c = sym (c .before .before .read-by .ensures) ∙ c .view .given .1
 refused : (c : tie.After-refusal) → let a = c .before .before .before .before .before .args in readerOf (a .reader) (a .blob .now) ≡ Refused (c .refusal .given .0 .0)
 refused c = sym (c .before .before .read-by .ensures) ∙ c .refusal .given .1
 
-put-view-requires : tie.Need-put-view-requires
-put-view-requires c κs =
-    let a = c .before .before .before .before .before .before .before .args in
-    let w = seen-within (a .reader) (a .blob .now) _ (shown (c .before .before)) in
-    (w .0, (w .1, omega arith))
+put-vector-requires : tie.Need-put-vector-requires
+put-vector-requires c κs =
+    let a = c .before .before .before .before .before .before .before .before .args in
+    let w = seen-within (a .reader) (a .blob .now) _ (shown (c .before .before .before)) in
+    (refl, (w .0, (w .1, omega arith)))
 
 returns : tie.Need-returns
+unfolding viewText
 returns c =
-    let a = c .before .before .before .before .before .before .before .before .before .before .args in
-    answered _ _ _ _ _ (sym (ap (λ (r : ReadAnswer). viewText r (a .blob .now)) (shown (c .before .before .before .before .before)))) (c .before .before .put-view .ensures)
+    let a = c .before .before .before .before .before .before .before .before .before .before .before .args in
+    answered _ _ _ _ _ (sym (ap (λ (r : ReadAnswer). viewText r (a .blob .now)) (shown (c .before .before .before .before .before .before)))) (c .before .before .put-vector .ensures)
 
 returns-2 : tie.Need-returns-2
 unfolding viewText
@@ -38,5 +39,5 @@ pub put-read-spec : {M : Type 1} → statement M
 put-read-spec =
     tie.close
     (tie.spec
-    (λ c κs. search needs) (λ c. search needs) put-view-requires (λ c. search needs) (λ c κs. search needs)
+    (λ c κs. search needs) (λ c. search needs) (λ c. search needs) put-vector-requires (λ c. search needs) (λ c κs. search needs)
     (λ c. search needs) returns (λ c. search needs) returns-2)

@@ -20,8 +20,8 @@ slice-aggregate-answer c = sym (length-take-le _ _ (omega arith))
 
 answer-requires : tie.Need-answer-requires
 answer-requires c κs =
-    let a = c .before .before .before .before .before .before .before .before .before .args in
-    (omega (arith, length-take-le (a .held .count) (a .kept .now) (omega arith)), (omega arith, omega arith))
+    let a = c .before .before .before .before .before .before .before .before .before .before .before .args in
+    (omega (arith, length-take-le (a .held .count) (a .kept .now) (omega arith)), (omega arith, (omega arith, omega arith)))
 
 same-length-2 : tie.Need-same-length-2
 same-length-2 c = search needs
@@ -32,8 +32,11 @@ same-length-3 c = search needs
 same-length-4 : tie.Need-same-length-4
 same-length-4 c = search needs
 
+same-length-5 : tie.Need-same-length-5
+same-length-5 c = search needs
+
 returns-2 : tie.Need-returns-2
-returns-2 c = rw (c .before .before .before .before .before .before .before .before .before .before .before .if1 .left) (c .before .before .before .before .before .before .answer .ensures)
+returns-2 c = rw (c .before .before .before .before .before .before .before .before .before .before .before .before .before .before .if1 .left) (c .before .before .before .before .before .before .before .before .answer .ensures)
 
 pub answer-held-spec : {M : Type 1} → statement M
 answer-held-spec =
@@ -47,4 +50,5 @@ answer-held-spec =
     same-length-2
     same-length-3
     same-length-4
+    same-length-5
     returns-2)

@@ -23,12 +23,12 @@ slice-aggregate-answer-held c = sym (length-take-le _ _ (omega arith))
 
 answer-held-requires : tie.Need-answer-held-requires
 answer-held-requires c κs =
-    let out = c .before .before .before .before .before .before .before .args .out .now in
-    (omega arith, (omega arith, (omega arith, omega (arith, length-take-le (length out - 1) out (omega arith)))))
+    let out = c .before .before .before .before .before .before .before .before .before .args .out .now in
+    (omega arith, (omega arith, (omega arith, (omega arith, omega (arith, length-take-le (length out - 1) out (omega arith))))))
 
-line : (c : tie.After-slice-known6) → let a = c .before .before .before .before .before .before .before .before .before .before .before .before .before .before .args in let s = c .before .before .before .before .before .before .answer-held in
-    Ended (heldAnswer answerOf (a .kept .now) (a .held)) (a .out .now) (s .last .1 .1 .1 .1 .0) newline (s .result) (length (a .out .now) - 1)
-line c = let s = c .before .before .before .before .before .before .answer-held in onto-ended (s .ensures .0) (s .ensures .1) (s .kept .1 .1 .1 .1 .0) (omega arith)
+line : (c : tie.After-slice-known8) → let a = c .before .before .before .before .before .before .before .before .before .before .before .before .before .before .before .before .before .before .args in let s = c .before .before .before .before .before .before .before .before .answer-held in
+    Ended (heldAnswer answerOf (a .kept .now) (a .held)) (a .out .now) (s .last .1 .1 .1 .1 .1 .0) newline (s .result) (length (a .out .now) - 1)
+line c = let s = c .before .before .before .before .before .before .before .before .answer-held in onto-ended (s .ensures .0) (s .ensures .1) (s .kept .1 .1 .1 .1 .1 .0) (omega arith)
 
 slice-write-out : tie.Need-slice-write-out
 slice-write-out c = omega (arith, line c .within, line c .long)
@@ -44,6 +44,9 @@ same-length-2 c = search needs
 
 same-length-3 : tie.Need-same-length-3
 same-length-3 c = search needs
+
+same-length-4 : tie.Need-same-length-4
+same-length-4 c = search needs
 
 returns : tie.Need-returns
 returns c = (line c .size, line c .left)
@@ -61,4 +64,5 @@ put-line-spec =
     same-length
     same-length-2
     same-length-3
+    same-length-4
     returns)
