@@ -1,7 +1,6 @@
 -- Laws of conversions
 pub mod Answered
 pub mod Bodies
-pub mod Bytewise
 pub mod Determined
 pub mod Fitting
 pub mod Lengths
