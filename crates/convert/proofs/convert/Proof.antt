@@ -1,5 +1,5 @@
 -- The answer read decides: a view is converted, a refusal handed on.
-use mathlib.Core.Path.{refl, sym, _∙_}
+use mathlib.Core.Path.{sym, _∙_}
 use Rattle.convert.specs.Convert.{convertOf, leftScratch, leftOut}
 use borrow.Author.Needs.{needs}
 use Rattle.convert.proofs.convert.Statement.{statement}

@@ -6,7 +6,8 @@ use Rattle.promises.proofs.Onto.{copied}
 use Rattle.convert.specs.Result.{wayOf, resultOf}
 use Rattle.convert.specs.declared.result.Way.{Way}
 use Rattle.convert.specs.declared.result.Way.the-variants.{Copied, Straight, Through}
-use Rattle.convert.proofs.Answered.{copies, straight, isCopied, through-one, made-plainly, too-long, put-whole}
+use Rattle.convert.proofs.Ways.{copies, straight, isCopied, through-one, made-plainly}
+use Rattle.convert.proofs.Answered.{too-long, put-whole}
 use borrow.Author.Needs.{needs}
 use Rattle.convert.proofs.result.convert_body.Statement.{statement}
 use Rattle.convert.proofs.result.convert_body.Tie as tie

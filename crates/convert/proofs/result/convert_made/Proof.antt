@@ -1,8 +1,8 @@
 -- The length decides whether there is room.
-use native.Mathlib.Omega.{arith}
 use Rattle.vector_types.specs.Layout.{is, counted}
 use Rattle.convert.specs.Result.{made}
-use Rattle.convert.proofs.Answered.{and-first, too-long, put-whole}
+use Rattle.convert.proofs.ByKind.{and-first}
+use Rattle.convert.proofs.Answered.{too-long, put-whole}
 use borrow.Author.Needs.{needs}
 use Rattle.convert.proofs.result.convert_made.Statement.{statement}
 use Rattle.convert.proofs.result.convert_made.Tie as tie
@@ -27,7 +27,8 @@ returns-2 c =
     let l = c .before .before .before .before .before in
     let a = l .before .before .before .before .args in
     let new = made (a .kind) (a .target) (a .dims) (a .body .now) in
-    put-whole (a .target) (a .dims) new (a .out .now) _ (l .before .made-length .ensures) (l .if1 .left) _ _ (c .converted .ensures) (c .before .before .before .put-made .ensures)
+    put-whole (a .target) (a .dims) new (a .out .now) _ (l .before .made-length .ensures) (l .if1 .left) _ _
+    (c .converted .ensures) (c .before .before .before .put-made .ensures)
 
 pub convert-made-spec : {M : Type 1} → statement M
 convert-made-spec =

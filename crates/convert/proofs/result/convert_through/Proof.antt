@@ -8,7 +8,9 @@ use Rattle.vector_types.specs.declared.VectorType.the-variants.{Float32Sparse}
 use Rattle.convert.specs.Dense.{spreadBody}
 use Rattle.convert.specs.Result.{resultOf}
 use Rattle.convert.proofs.Bodies.{sparse-length}
-use Rattle.convert.proofs.Answered.{not-counted, sparse-through, dense-fits, dense-front, through-size, scratch-short, out-short, both-written}
+use Rattle.convert.proofs.ByKind.{counted-other}
+use Rattle.convert.proofs.Ways.{sparse-through, dense-fits, dense-front, through-size}
+use Rattle.convert.proofs.Answered.{scratch-short, out-short, both-written}
 use borrow.Author.Needs.{needs}
 use Rattle.convert.proofs.result.convert_through.Statement.{statement}
 use Rattle.convert.proofs.result.convert_through.Tie as tie
@@ -21,7 +23,7 @@ returns c =
 made-length-requires : tie.Need-made-length-requires
 made-length-requires c κs =
     let a = c .before .before .before .before in
-    (a .pre .0, (a .pre .1 .0, (a .pre .1 .1 .0, not-counted (a .args .target) (a .pre .1 .1 .1))))
+    (a .pre .0, (a .pre .1 .0, (a .pre .1 .1 .0, counted-other (a .args .target) (a .pre .1 .1 .1))))
 
 -- how long the result is
 whole : (c : tie.After-made-length) → let a = c .before .before .before .before .before .args in
@@ -59,7 +61,7 @@ put-made-requires c κs =
     let s = c .before .before .before .before in
     let test = s .before .before in
     let a = s .before .before .before .before .before .before .before .before in
-    let need = whole (test .before) ∙ ap length (sparse-through (a .args .target) (a .pre .1 .1 .1) (a .args .dims) (a .args .body .now)) in
+    let need = whole (test .before) ∙ ap length (sparse-through (a .args .dims) (a .args .body .now) (a .pre .1 .1 .0) (a .args .target) (a .pre .1 .1 .1)) in
     (a .pre .0, (rw (front s) (dense-fits (a .args .dims) (a .args .body .now) (a .pre .1 .1 .0)), (refl, (refl, (rw (front s) need, test .if2 .left)))))
 
 returns-3 : tie.Need-returns-3
@@ -67,7 +69,8 @@ returns-3 c =
     let s = c .before .before .before .before .before .before .before .before in
     let test = s .before .before in
     let a = s .before .before .before .before .before .before .before .before in
-    let made = rw (front s, ← (sparse-through (a .args .target) (a .pre .1 .1 .1) (a .args .dims) (a .args .body .now))) at (c .before .before .before .put-made .ensures) in
+    let two = sparse-through (a .args .dims) (a .args .body .now) (a .pre .1 .1 .0) (a .args .target) (a .pre .1 .1 .1) in
+    let made = rw (front s, ← two) at (c .before .before .before .put-made .ensures) in
     both-written (a .args .target) (a .pre .1 .1 .1) (a .args .dims) (a .args .body .now) (a .args .scratch .now) (a .args .out .now)
     (test .before .before .if1 .left) (test .before .made-length .result) (whole (test .before)) (test .if2 .left)
     _ _ _ (c .converted .ensures) (s .spread32 .ensures) made

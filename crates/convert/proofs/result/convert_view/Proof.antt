@@ -12,7 +12,8 @@ use Rattle.vector_types.specs.declared.ReadAnswer.the-variants.{View as Seen}
 use Rattle.vector_types.proofs.Views.{told}
 use Rattle.vector_types.proofs.Written.{Writable, writable}
 use Rattle.vector_types.proofs.Rewritten.{body-is, rewritable}
-use Rattle.convert.proofs.Answered.{sparse-kind, plainly}
+use Rattle.convert.proofs.ByKind.{sparse-kind}
+use Rattle.convert.proofs.Answered.{plainly}
 use borrow.Author.Needs.{needs}
 use Rattle.convert.proofs.result.convert_view.Statement.{statement}
 use Rattle.convert.proofs.result.convert_view.Tie as tie
@@ -59,7 +60,8 @@ returns-2 c =
     let v = a .args .view in
     let body = take (v .length) (a .args .blob .now) in
     rw (body-is (a .args .blob .now) v (a .pre))
-    (plainly (v .kind) (v .dims .0) body (a .args .target) (a .args .scratch .now) (a .args .out .now) _ _ (plain (c .before .before .before .before)) (c .before .before .convert-body .ensures))
+    (plainly (v .kind) (v .dims .0) body (a .args .target) (a .args .scratch .now) (a .args .out .now) _ _
+    (plain (c .before .before .before .before)) (c .before .before .convert-body .ensures))
 
 pub convert-view-spec : {M : Type 1} → statement M
 convert-view-spec =

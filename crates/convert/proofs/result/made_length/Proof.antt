@@ -1,10 +1,11 @@
 -- Each arm is its row of `sizeOf`.
-use mathlib.Core.Path.{sym, ap, _∙_}
+use mathlib.Core.Path.{sym, ap}
 use native.Mathlib.Omega.{arith}
 use Rattle.vector_types.specs.Layout.{is}
 use Rattle.convert.specs.Sparse.{stored}
 use Rattle.convert.proofs.Places.{places-few}
-use Rattle.convert.proofs.Answered.{sized, and-left}
+use Rattle.convert.proofs.ByKind.{and-left}
+use Rattle.convert.proofs.Ways.{sized}
 use borrow.Author.Needs.{needs}
 use Rattle.convert.proofs.result.made_length.Statement.{statement}
 use Rattle.convert.proofs.result.made_length.Tie as tie

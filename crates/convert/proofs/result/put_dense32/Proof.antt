@@ -4,7 +4,8 @@ use mathlib.Core.Bool.{true, false}
 use lib.Ieee.{binary32}
 use Rattle.vector_types.specs.Layout.{is}
 use Rattle.convert.proofs.Bodies.{sparse-length}
-use Rattle.convert.proofs.Answered.{sparse-kind, dense-sparse, dense-other}
+use Rattle.convert.proofs.ByKind.{sparse-kind}
+use Rattle.convert.proofs.Ways.{dense-sparse, dense-other}
 use borrow.Author.Needs.{needs}
 use Rattle.convert.proofs.result.put_dense32.Statement.{statement}
 use Rattle.convert.proofs.result.put_dense32.Tie as tie

@@ -1,5 +1,5 @@
 -- Each arm puts its row of `made`, for which there is room.
-use mathlib.Core.Path.{_≡_, ap, _∙_}
+use mathlib.Core.Path.{_≡_, _∙_}
 use mathlib.Core.Bool.{true, false, _||_}
 use Prim.Native.Nat.{_≤_}
 use native.Mathlib.Omega.{arith}
@@ -8,7 +8,8 @@ use Rattle.vector_types.specs.Layout.{is, counted}
 use Rattle.vector_types.specs.declared.VectorType.{VectorType}
 use Rattle.vector_types.specs.declared.VectorType.the-variants.{Float32Dense, Float64Dense, Float32Sparse, Float1Bit, Float8}
 use Rattle.convert.specs.Result.{made}
-use Rattle.convert.proofs.Answered.{sizeOf, sized, and-left}
+use Rattle.convert.proofs.ByKind.{and-left}
+use Rattle.convert.proofs.Ways.{sizeOf, sized}
 use borrow.Author.Needs.{needs}
 use Rattle.convert.proofs.result.put_made.Statement.{statement}
 use Rattle.convert.proofs.result.put_made.Tie as tie

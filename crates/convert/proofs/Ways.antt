@@ -1,0 +1,132 @@
+-- By which way a pair is converted, and how long the body is that it makes.
+use mathlib.Core.Path.{_≡_, refl, sym, ap, _∙_}
+use mathlib.Core.Bool.{Bool, true, false, not, _&&_, _||_, and-eq-true-iff, true≢false}
+use mathlib.Core.List.{List}
+use Prim.Native.Nat.{ℕ, _+_, _*_}
+use native.Mathlib.Omega.{arith}
+use lib.ListN.{length, take, drop}
+use lib.Seq.{take-at}
+use lib.Ieee.{Format, binary32, binary64}
+use borrow.Author.Tests.{eq-eqb, not-true}
+use Rattle.promises.specs.Onto.{onto}
+use Rattle.vector_types.specs.Layout.{ceil, is, counted, fits, outside}
+use Rattle.vector_types.specs.Search.{some}
+use Rattle.vector_types.specs.declared.VectorType.{VectorType}
+use Rattle.vector_types.specs.declared.VectorType.the-variants.{Float32Dense, Float64Dense, Float32Sparse, Float1Bit, Float8}
+use Rattle.convert.specs.Pieces.{placesOf}
+use Rattle.convert.specs.Dense.{count, spreadBody}
+use Rattle.convert.specs.Elements.{element, floatsOf, denseBody}
+use Rattle.convert.specs.Sparse.{stored}
+use Rattle.convert.specs.Result.{wayOf, made, resultBy, resultOf}
+use Rattle.convert.specs.Convert.{scratched}
+use Rattle.convert.specs.declared.result.Way.{Way}
+use Rattle.convert.specs.declared.result.Way.the-variants.{Copied, Straight, Through}
+use Rattle.convert.proofs.ByKind.{counted-by, sparse-kind, pairs}
+use Rattle.convert.proofs.Lengths.{length-dense}
+use Rattle.convert.proofs.Packed.{length-bitBody}
+use Rattle.convert.proofs.Places.{length-sparse}
+use Rattle.convert.proofs.Scaled.{length-quantizedBody}
+use Rattle.convert.proofs.Spread.{length-spread}
+use Rattle.convert.proofs.Through.{through-made}
+
+-- ---- dense bodies
+pub dense-sparse : (f : Format) (k : VectorType) (d : ℕ) (body : List ℕ) → is 9 k ≡ true → denseBody f k d body ≡ spreadBody f d body
+unfolding denseBody
+dense-sparse f k d body h = ap (λ (k : VectorType). denseBody f k d body) (sparse-kind k h)
+
+pub dense-other : (f : Format) (k : VectorType) (d : ℕ) (body : List ℕ) → is 9 k ≡ false → denseBody f k d body ≡ floatsOf f (element f k d body) d
+unfolding denseBody
+dense-other f Float32Dense d body h = refl
+dense-other f Float64Dense d body h = refl
+dense-other f Float1Bit d body h = refl
+dense-other f Float8 d body h = refl
+dense-other f Float32Sparse d body h = absurd (true≢false h)
+
+-- ---- how long the body is that one step makes
+abbrev pub sizeOf : VectorType → VectorType → ℕ → List ℕ → ℕ
+sizeOf k Float32Dense d body = 4 * d
+sizeOf k Float64Dense d body = 8 * d
+sizeOf k Float32Sparse d body = 8 * length (placesOf (stored k d body) d)
+sizeOf k Float1Bit d body = ceil d 8
+sizeOf k Float8 d body = 4 * ceil d 4 + 8
+
+module _ (k : VectorType) (d : ℕ) (body : List ℕ) (fit : fits k d (length body) ≡ true)
+    (inside : (is 9 k && some (outside body (count body) d) (count body)) ≡ false) where
+  made-size : (t : VectorType) → length (made k t d body) ≡ sizeOf k t d body
+  unfolding made
+  made-size Float32Dense = length-dense binary32 k d body inside
+  made-size Float64Dense = length-dense binary64 k d body inside
+  made-size Float32Sparse = length-sparse k d body fit
+  made-size Float1Bit = length-bitBody k d body
+  made-size Float8 = length-quantizedBody k d body
+
+  -- to a kind that is known
+  pub sized : (t u : VectorType) → t ≡ u → length (made k t d body) ≡ sizeOf k u d body
+  sized t u e = made-size t ∙ ap (λ (t : VectorType). sizeOf k t d body) e
+
+-- ---- the result by the way of its pair
+module _ (k t : VectorType) (d : ℕ) (body : List ℕ) where
+  by-way : (w : Way) → wayOf k t ≡ w → resultOf k t d body ≡ resultBy w k t d body
+  unfolding resultOf
+  by-way w e = ap (λ (w : Way). resultBy w k t d body) e
+
+  pub copies : wayOf k t ≡ Copied → body ≡ resultOf k t d body
+  unfolding resultOf
+  copies e = sym (by-way Copied e)
+
+  pub straight : wayOf k t ≡ Straight → resultOf k t d body ≡ made k t d body
+  unfolding resultOf
+  straight e = by-way Straight e
+
+abbrev pub isCopied : Way → Bool
+isCopied Copied = true
+isCopied Straight = false
+isCopied Through = false
+
+abbrev isThrough : Way → Bool
+isThrough Copied = false
+isThrough Straight = false
+isThrough Through = true
+
+module _ (k t : VectorType) (plain : scratched k t ≡ false) where
+  -- in two steps only from 1-bit and Float8, where one step makes the same
+  pub through-one : (d : ℕ) (body : List ℕ) → wayOf k t ≡ Through → resultOf k t d body ≡ made k t d body
+  unfolding made
+  through-one d body e =
+      let claim = pairs (λ k t. not (isThrough (wayOf k t)) || (scratched k t || (counted k && (is 9 t || counted t)))) refl k t in
+      let (from, to) = and-eq-true-iff (counted k) (is 9 t || counted t) .0 (rw (e, plain) at claim) in
+      by-way k t d body Through e ∙ through-made k t d body from to
+
+  -- from sparse in one step only to the dense kinds
+  pub made-plainly : isCopied (wayOf k t) ≡ false → (is 9 k && (is 9 t || counted t)) ≡ false
+  made-plainly e =
+      let claim = pairs (λ k t. isCopied (wayOf k t) || (scratched k t || not (is 9 k && (is 9 t || counted t)))) refl k t in
+      not-true (is 9 k && (is 9 t || counted t)) (rw (e, plain) at claim)
+
+-- ---- from sparse to 1-bit and Float8: the dense body, at the front of scratch, and what is made of it
+module _ (d : ℕ) (body : List ℕ) (inside : some (outside body (count body) d) (count body) ≡ false) where
+  abbrev dense : List ℕ
+  dense = spreadBody binary32 d body
+
+  dense-long : length dense ≡ 4 * d
+  dense-long = length-spread binary32 d body inside (count body) (omega arith)
+
+  pub dense-fits : fits Float32Dense d (length dense) ≡ true
+  unfolding fits
+  dense-fits = eq-eqb (length dense) (4 * d) dense-long
+
+  pub dense-front : (scratch s : List ℕ) → s ≡ onto dense scratch → take (4 * d) s ≡ dense
+  dense-front scratch s e = rw e (take-at dense (drop (length dense) scratch) (4 * d) dense-long)
+
+  module _ (t : VectorType) (takes : counted t ≡ true) where
+    pub sparse-through : resultOf Float32Sparse t d body ≡ made Float32Dense t d dense
+    unfolding resultOf made denseBody
+    sparse-through = counted-by (λ t. resultOf Float32Sparse t d body ≡ made Float32Dense t d dense) refl refl t takes
+
+    -- the dims alone tell its length
+    pub through-size : fits Float32Sparse d (length body) ≡ true → length (made Float32Sparse t d body) ≡ length (resultOf Float32Sparse t d body)
+    through-size fit =
+        let first = made-size Float32Sparse d body fit inside t in
+        let second = made-size Float32Dense d dense dense-fits refl t in
+        let same = counted-by (λ t. sizeOf Float32Sparse t d body ≡ sizeOf Float32Dense t d dense) refl refl t takes in
+        rw sparse-through (first ∙ same ∙ sym second)
