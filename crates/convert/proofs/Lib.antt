@@ -2,7 +2,6 @@
 pub mod Answered
 pub mod Bodies
 pub mod ByKind
-pub mod Bytewise
 pub mod Determined
 pub mod Fitting
 pub mod Lengths

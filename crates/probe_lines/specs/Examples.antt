@@ -2,13 +2,17 @@
 use mathlib.Core.Path.{_≡_, refl}
 use mathlib.Core.List.{List, [], _∷_}
 use Prim.Native.String.{String}
-use lib.Ieee.{toBits}
+use lib.Ieee.{toBits, ofInt, sub, div, eq, lt}
 use Rattle.rounding.specs.Root.{root}
 use Rattle.rounding.specs.Narrow.{narrowed}
 use Rattle.rounding.specs.Truncate.{truncated}
 use Rattle.vector_types.specs.Search.{firstFrom}
 use Rattle.vector_types.specs.Read.{readOf, strictOf}
 use Rattle.vector_types.specs.Write.{writeOf}
+use Rattle.vector_types.specs.Parts.{bodyOf}
+use Rattle.elements.specs.Bytes.{bytesOf, numberAt, put}
+use Rattle.convert.specs.Dense.{spread}
+use Rattle.convert.specs.Convert.{convertOf}
 use Rattle.lines.specs.Text.{word, same}
 use Rattle.lines.specs.Hex.{digitOf, numberFrom, patternOf, pairOf, hexBytes, hexOf}
 use Rattle.lines.specs.Decimal.{decimalOf, numeralOf}
@@ -62,6 +66,19 @@ blobs =
     ∷ example "write\t3\t\taa" "X"
     ∷ []
 
+-- to sparse, where -0.0 is dropped; to 1-bit, where NaN is no 1; from sparse to 1-bit; from 1-bit; to Float8
+abbrev pub conversions : List Example
+conversions =
+    example "conv\t9\t0000803f00000080" "C\t9\t2\t0000803f00000000"
+    ∷ example "conv\t3\t0000003f00000000000080bf0000c07f" "C\t3\t4\t01"
+    ∷ example "conv\t3\t0000803f010000000300000009" "C\t3\t3\t02"
+    ∷ example "conv\t2\taa0e03" "C\t2\t2\t000000000000f0bf000000000000f03f"
+    ∷ example "conv\t4\t0000803f0000004000004040" "C\t4\t3\t007fff008180003c0000803f"
+    ∷ example "conv\t2\t05" "R\t2"
+    ∷ example "conv\t5\t" "X"
+    ∷ example "conv\t9" "X"
+    ∷ []
+
 abbrev pub Holds : List Example → Type 0
 Holds [] = Unit
 Holds (e ∷ es) = (answerOf (word (e .line)) ≡ word (e .answer)) × Holds es
@@ -69,11 +86,13 @@ Holds (e ∷ es) = (answerOf (word (e .line)) ≡ word (e .answer)) × Holds es
 abbrev pub Printed : String → String → Type 0
 Printed input output = printed (word input) ≡ word output
 
-pub examples-hold : Holds floats × Holds blobs × Printed "trunc\t40400000\n\ntrunc\t40400000" "1\tF\t03\n2\tX\n3\tF\t03\n"
+pub examples-hold : Holds floats × Holds blobs × Holds conversions × Printed "trunc\t40400000\n\ntrunc\t40400000" "1\tF\t03\n2\tX\n3\tF\t03\n"
 unfolding repliesFrom replyOf lastUnlessEmpty partsOf same answerOf decimalOf numeralOf patternOf numberFrom digitOf pairOf hexBytes hexOf
-    root narrowed truncated toBits readOf strictOf writeOf firstFrom
+    root narrowed truncated toBits readOf strictOf writeOf firstFrom bodyOf
+    convertOf spread bytesOf numberAt put ofInt sub div eq lt
 examples-hold = (
   (refl, (refl, (refl, (refl, (refl, (refl, (refl, (refl, (refl, (refl, (refl, (refl, (refl, tt))))))))))))),
   (refl, (refl, (refl, (refl, (refl, (refl, (refl, (refl, (refl, (refl, (refl, (refl, (refl, (refl, (refl, (refl, tt)))))))))))))))),
+  (refl, (refl, (refl, (refl, (refl, (refl, (refl, (refl, tt)))))))),
   refl,
 )
