@@ -1,14 +1,13 @@
 -- How long a dense body is that was made of another: of a sparse one, if its indices are below the dims.
 use mathlib.Core.Path.{_≡_}
-use mathlib.Core.Bool.{false, _&&_}
+use mathlib.Core.Bool.{false}
 use mathlib.Core.List.{List}
 use Prim.Native.Nat.{ℕ, _*_}
 use native.Mathlib.Omega.{arith}
 use lib.ListN.{length}
 use lib.Ieee.{Format}
 use Rattle.elements.specs.Bytes.{width}
-use Rattle.vector_types.specs.Layout.{is, outside}
-use Rattle.vector_types.specs.Search.{some}
+use Rattle.vector_types.specs.Layout.{strays}
 use Rattle.vector_types.specs.declared.VectorType.{VectorType}
 use Rattle.vector_types.specs.declared.VectorType.the-variants.{Float32Dense, Float64Dense, Float32Sparse, Float1Bit, Float8}
 use Rattle.convert.specs.Dense.{count}
@@ -16,7 +15,7 @@ use Rattle.convert.specs.Elements.{element, denseBody}
 use Rattle.convert.proofs.Pieces.{length-floats}
 use Rattle.convert.proofs.Spread.{length-spread}
 
-pub length-dense : (f : Format) (k : VectorType) (d : ℕ) (body : List ℕ) → (is 9 k && some (outside body (count body) d) (count body)) ≡ false
+pub length-dense : (f : Format) (k : VectorType) (d : ℕ) (body : List ℕ) → strays k d body ≡ false
     → length (denseBody f k d body) ≡ width f * d
 unfolding denseBody
 length-dense f Float32Dense d body h = length-floats f (element f Float32Dense d body) d

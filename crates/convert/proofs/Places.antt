@@ -1,14 +1,13 @@
 -- Places that pass a test, the pieces of these, and how long a sparse body made of them is.
 use mathlib.Core.Path.{_≡_, refl}
-use mathlib.Core.Logic.{_⊎_, inl, inr}
 use mathlib.Core.Bool.{Bool, true, false, cond}
 use mathlib.Core.List.{List, [], _∷_, _++_, append-assoc, append-nil}
 use Prim.Native.Nat.{ℕ, zero, suc, _+_, _-_, _*_, _<_, _≤_}
-use native.Mathlib.Nat.{add-zero, add-suc, eq-or-lt-of-le}
+use native.Mathlib.Nat.{add-zero, add-suc}
 use native.Mathlib.Numerals.{add-one}
 use native.Mathlib.Omega.{arith}
-use lib.ListN.{length, getD, drop, length-append, length-drop, List·getD-append}
-use lib.Seq.{length-take-le, getD-append-seam}
+use lib.ListN.{length, drop, length-append, length-drop}
+use lib.Seq.{length-take-le}
 use lib.Ieee.{binary32, toBits}
 use Rattle.elements.specs.Bytes.{bytesOf}
 use Rattle.elements.proofs.Numbers.{length-bytesOf}
@@ -19,16 +18,6 @@ use Rattle.convert.specs.Pieces.{placesOf, each}
 use Rattle.convert.specs.Elements.{element}
 use Rattle.convert.specs.Sparse.{stored, valueBytes, sparseBody}
 use Rattle.convert.proofs.Bodies.{float32-within}
-
--- a place after others that are below it
-one-below : (is : List ℕ) (n j : ℕ) (b : Bool) → (j < length is → getD is j 0 < n) → j < length (is ++ cond b (n ∷ []) [])
-    → getD (is ++ cond b (n ∷ []) []) j 0 < suc n
-one-below is n j false lower h = rw append-nil (omega (arith, lower (rw append-nil at h)))
-one-below is n j true lower h = by (eq-or-lt-of-le (omega (arith, rw length-append at h)))
-  where
-    by : (j ≡ length is) ⊎ (j < length is) → getD (is ++ (n ∷ [])) j 0 < suc n
-    by (inl e) = rw (e, getD-append-seam) (omega arith)
-    by (inr l) = rw (List·getD-append is (n ∷ []) 0 j l) (omega (arith, lower l))
 
 -- ---- places: one more or none for each step
 module _ (p : ℕ → Bool) where
@@ -57,10 +46,6 @@ module _ (p : ℕ → Bool) where
 
   pub places-room : (n m : ℕ) → n < m → length (placesOf p n) + length (cond (p n) (n ∷ []) []) ≤ length (placesOf p m)
   places-room n m h = rw (← length-next n) (places-rise (n + 1) m (omega arith))
-
-  pub places-below : (n j : ℕ) → j < length (placesOf p n) → getD (placesOf p n) j 0 < n
-  unfolding placesOf
-  places-below (suc n) j h = one-below (placesOf p n) n j (p n) (places-below n j) h
 
 -- ---- the pieces of places, which have w bytes each
 pub each-append : (g : ℕ → List ℕ) (is js : List ℕ) → each g (is ++ js) ≡ each g is ++ each g js

@@ -9,7 +9,7 @@ use lib.Seq.{take-at}
 use lib.Ieee.{Format, binary32, binary64}
 use borrow.Author.Tests.{eq-eqb, not-true}
 use Rattle.promises.specs.Onto.{onto}
-use Rattle.vector_types.specs.Layout.{ceil, is, counted, fits, outside}
+use Rattle.vector_types.specs.Layout.{ceil, is, counted, fits, outside, strays}
 use Rattle.vector_types.specs.Search.{some}
 use Rattle.vector_types.specs.declared.VectorType.{VectorType}
 use Rattle.vector_types.specs.declared.VectorType.the-variants.{Float32Dense, Float64Dense, Float32Sparse, Float1Bit, Float8}
@@ -51,7 +51,7 @@ sizeOf k Float1Bit d body = ceil d 8
 sizeOf k Float8 d body = 4 * ceil d 4 + 8
 
 module _ (k : VectorType) (d : ℕ) (body : List ℕ) (fit : fits k d (length body) ≡ true)
-    (inside : (is 9 k && some (outside body (count body) d) (count body)) ≡ false) where
+    (inside : strays k d body ≡ false) where
   made-size : (t : VectorType) → length (made k t d body) ≡ sizeOf k t d body
   unfolding made
   made-size Float32Dense = length-dense binary32 k d body inside

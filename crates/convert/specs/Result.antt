@@ -11,7 +11,7 @@ use Rattle.convert.specs.Quantized.{quantizedBody}
 use Rattle.convert.specs.declared.result.Way.{Way}
 use Rattle.convert.specs.declared.result.Way.the-variants.{Copied, Straight, Through}
 
--- how a pair is converted, from a kind, to a kind
+-- how a pair is converted: from the first kind to the second
 abbrev pub wayOf : VectorType → VectorType → Way
 wayOf Float32Dense Float32Dense = Copied
 wayOf Float32Dense Float64Dense = Straight

@@ -6,9 +6,9 @@ ghost use lib.ListN.{length};
 ghost use lib.ListN.{replicate};
 ghost use lib.Ieee.{binary32, binary64};
 ghost use Rattle.promises.specs.Onto.{onto};
-ghost use Rattle.vector_types.specs.Layout.{mostDims, is, fits, outside};
-ghost use Rattle.vector_types.specs.Search.{some};
-ghost use Rattle.convert.specs.Dense.{count, spreadBody};
+ghost use Rattle.vector_types.specs.Layout.{mostDims, is, fits, strays};
+ghost use Rattle.vector_types.specs.declared.VectorType.the-variants.{Float32Sparse};
+ghost use Rattle.convert.specs.Dense.{spreadBody};
 ghost use Rattle.convert.specs.Elements.{element, floatsOf};
 use crate::element::double;
 use crate::element::single;
@@ -61,7 +61,7 @@ pub(crate) fn put_zeros(n: usize, out: &mut [u8])
 pub(crate) fn spread32(dims: usize, body: &[u8], out: &mut [u8])
     requires { ⌜ dims ≤ mostDims ⌝ }
     requires { ⌜ length (now body) % 8 ≡ 0 ⌝ }
-    requires { ⌜ some (outside (now body) (count (now body)) dims) (count (now body)) ≡ false ⌝ }
+    requires { ⌜ strays Float32Sparse dims (now body) ≡ false ⌝ }
     requires { ⌜ 4 * dims ≤ length (now out) ⌝ }
     ensures { λ _. ⌜ now (out .exit) ≡ onto (spreadBody binary32 dims (now (body .entry))) (now (out .entry)) ⌝ }
 {
@@ -79,7 +79,7 @@ pub(crate) fn spread32(dims: usize, body: &[u8], out: &mut [u8])
 pub(crate) fn spread64(dims: usize, body: &[u8], out: &mut [u8])
     requires { ⌜ dims ≤ mostDims ⌝ }
     requires { ⌜ length (now body) % 8 ≡ 0 ⌝ }
-    requires { ⌜ some (outside (now body) (count (now body)) dims) (count (now body)) ≡ false ⌝ }
+    requires { ⌜ strays Float32Sparse dims (now body) ≡ false ⌝ }
     requires { ⌜ 8 * dims ≤ length (now out) ⌝ }
     ensures { λ _. ⌜ now (out .exit) ≡ onto (spreadBody binary64 dims (now (body .entry))) (now (out .entry)) ⌝ }
 {

@@ -1,12 +1,11 @@
 // Which way a pair is converted, how long the result is, and putting it.
 ghost use mathlib.Core.Path.{_≡_};
 ghost use mathlib.Core.Bool.{false, true, _&&_, _||_};
-ghost use Prim.Native.Nat.{_*_, _/_, _≤_};
+ghost use Prim.Native.Nat.{_*_, _≤_};
 ghost use lib.ListN.{length};
 ghost use lib.Ieee.{binary32, binary64};
 ghost use Rattle.promises.specs.Onto.{onto};
-ghost use Rattle.vector_types.specs.Layout.{mostDims, is, counted, fits, outside};
-ghost use Rattle.vector_types.specs.Search.{some};
+ghost use Rattle.vector_types.specs.Layout.{mostDims, is, counted, fits, strays};
 ghost use Rattle.vector_types.specs.Read.{readOf};
 ghost use Rattle.vector_types.specs.Parts.{bodyOf};
 ghost use Rattle.vector_types.specs.declared.ReadAnswer.the-variants.{View as Seen};
@@ -135,7 +134,7 @@ fn is_counted(kind: VectorType) -> bool
 fn made_length(kind: VectorType, target: VectorType, dims: usize, body: &[u8]) -> usize
     requires { ⌜ dims ≤ mostDims ⌝ }
     requires { ⌜ fits kind dims (length (now body)) ≡ true ⌝ }
-    requires { ⌜ (is 9 kind && some (outside (now body) (length (now body) / 8) dims) (length (now body) / 8)) ≡ false ⌝ }
+    requires { ⌜ strays kind dims (now body) ≡ false ⌝ }
     requires { ⌜ (is 9 kind && is 9 target) ≡ false ⌝ }
     ensures { λ r. ⌜ r ≡ length (made kind target dims (now (body .entry))) ⌝ }
 {
@@ -152,7 +151,7 @@ fn made_length(kind: VectorType, target: VectorType, dims: usize, body: &[u8]) -
 fn put_dense32(kind: VectorType, dims: usize, body: &[u8], out: &mut [u8])
     requires { ⌜ dims ≤ mostDims ⌝ }
     requires { ⌜ fits kind dims (length (now body)) ≡ true ⌝ }
-    requires { ⌜ (is 9 kind && some (outside (now body) (length (now body) / 8) dims) (length (now body) / 8)) ≡ false ⌝ }
+    requires { ⌜ strays kind dims (now body) ≡ false ⌝ }
     requires { ⌜ 4 * dims ≤ length (now out) ⌝ }
     ensures { λ _. ⌜ now (out .exit) ≡ onto (denseBody binary32 kind dims (now (body .entry))) (now (out .entry)) ⌝ }
 {
@@ -166,7 +165,7 @@ fn put_dense32(kind: VectorType, dims: usize, body: &[u8], out: &mut [u8])
 fn put_dense64(kind: VectorType, dims: usize, body: &[u8], out: &mut [u8])
     requires { ⌜ dims ≤ mostDims ⌝ }
     requires { ⌜ fits kind dims (length (now body)) ≡ true ⌝ }
-    requires { ⌜ (is 9 kind && some (outside (now body) (length (now body) / 8) dims) (length (now body) / 8)) ≡ false ⌝ }
+    requires { ⌜ strays kind dims (now body) ≡ false ⌝ }
     requires { ⌜ 8 * dims ≤ length (now out) ⌝ }
     ensures { λ _. ⌜ now (out .exit) ≡ onto (denseBody binary64 kind dims (now (body .entry))) (now (out .entry)) ⌝ }
 {
@@ -189,7 +188,7 @@ fn put_made(
 )
     requires { ⌜ dims ≤ mostDims ⌝ }
     requires { ⌜ fits kind dims (length (now body)) ≡ true ⌝ }
-    requires { ⌜ (is 9 kind && some (outside (now body) (length (now body) / 8) dims) (length (now body) / 8)) ≡ false ⌝ }
+    requires { ⌜ strays kind dims (now body) ≡ false ⌝ }
     requires { ⌜ (is 9 kind && (is 9 target || counted target)) ≡ false ⌝ }
     requires { ⌜ size ≡ length (made kind target dims (now body)) ⌝ }
     requires { ⌜ size ≤ length (now out) ⌝ }
@@ -234,7 +233,7 @@ fn convert_through(
 ) -> ConvertAnswer
     requires { ⌜ dims ≤ mostDims ⌝ }
     requires { ⌜ fits Float32Sparse dims (length (now body)) ≡ true ⌝ }
-    requires { ⌜ some (outside (now body) (length (now body) / 8) dims) (length (now body) / 8) ≡ false ⌝ }
+    requires { ⌜ strays Float32Sparse dims (now body) ≡ false ⌝ }
     requires { ⌜ counted target ≡ true ⌝ }
     ensures { λ r. ⌜ r ≡ answerOf Float32Sparse dims (now (body .entry)) target (length (now (scratch .entry))) (length (now (out .entry))) ⌝ }
     ensures { λ _. ⌜ now (scratch .exit) ≡ scratchBy Float32Sparse dims (now (body .entry)) target (now (scratch .entry)) (length (now (out .entry))) ⌝ }
@@ -270,7 +269,7 @@ fn convert_body(
 ) -> ConvertAnswer
     requires { ⌜ dims ≤ mostDims ⌝ }
     requires { ⌜ fits kind dims (length (now body)) ≡ true ⌝ }
-    requires { ⌜ (is 9 kind && some (outside (now body) (length (now body) / 8) dims) (length (now body) / 8)) ≡ false ⌝ }
+    requires { ⌜ strays kind dims (now body) ≡ false ⌝ }
     requires { ⌜ (is 9 kind && counted target) ≡ false ⌝ }
     ensures { λ r. ⌜ r ≡ answerWith target dims (resultOf kind target dims (now (body .entry))) (length (now (out .entry))) ⌝ }
     ensures { λ _. ⌜ now (out .exit) ≡ outWith (resultOf kind target dims (now (body .entry))) (now (out .entry)) ⌝ }
@@ -297,7 +296,7 @@ fn convert_made(
 ) -> ConvertAnswer
     requires { ⌜ dims ≤ mostDims ⌝ }
     requires { ⌜ fits kind dims (length (now body)) ≡ true ⌝ }
-    requires { ⌜ (is 9 kind && some (outside (now body) (length (now body) / 8) dims) (length (now body) / 8)) ≡ false ⌝ }
+    requires { ⌜ strays kind dims (now body) ≡ false ⌝ }
     requires { ⌜ (is 9 kind && (is 9 target || counted target)) ≡ false ⌝ }
     ensures { λ r. ⌜ r ≡ answerWith target dims (made kind target dims (now (body .entry))) (length (now (out .entry))) ⌝ }
     ensures { λ _. ⌜ now (out .exit) ≡ outWith (made kind target dims (now (body .entry))) (now (out .entry)) ⌝ }

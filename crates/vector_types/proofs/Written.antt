@@ -12,7 +12,7 @@ use Rattle.elements.specs.Bytes.{bytesOf, u32At}
 use Rattle.elements.proofs.Numbers.{numberAt-left, numberAt-right, numberAt-bytesOf}
 use Rattle.vector_types.specs.Answers.{Given, none, given, firstOf, unless, seen, written, unwritten, short}
 use Rattle.vector_types.specs.Search.{some}
-use Rattle.vector_types.specs.Layout.{longest, mostDims, ceil, is, counted, fits, outside, byByte}
+use Rattle.vector_types.specs.Layout.{longest, mostDims, ceil, counted, fits, byByte, strays}
 use Rattle.vector_types.specs.Read.{readOf}
 use Rattle.vector_types.specs.Parts.{bodyOf, shownLength}
 use Rattle.vector_types.specs.Write.{filler, trailingBits, trailingBytes, tailOf, blobOf, writeRefusals, writeOf, leftOf}
@@ -32,7 +32,7 @@ pub record Writable (k : VectorType) (d : ℕ) (body : List ℕ) : Type 0 where
   pub few : d ≤ mostDims
   pub fit : fits k d (length body) ≡ true
   pub short : length (blobOf k d body) ≤ longest
-  pub inside : (is 9 k && some (outside body (length body / 8) d) (length body / 8)) ≡ false
+  pub inside : strays k d body ≡ false
   pub filled : (counted k && eqb d 0) ≡ false
 
 pub writable : (k : VectorType) (d : ℕ) (body : List ℕ) → firstOf (writeRefusals k d body) ≡ none → Writable k d body

@@ -1,4 +1,4 @@
--- Document 01's examples of reading, and examples of strict reading and of writing: one table each, and one statement about all of them, which antt computes.
+-- Document 01's examples of reading, and blobs that the two readers answer differently: a table each, with one statement, which antt computes.
 use mathlib.Core.Path.{_≡_, refl}
 use mathlib.Core.List.{List, [], _∷_}
 use Prim.Native.Nat.{ℕ}

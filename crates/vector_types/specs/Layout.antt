@@ -82,6 +82,10 @@ indexAt s k j = u32At s (4 * k + 4 * j)
 abbrev pub outside : List ℕ → ℕ → ℕ → ℕ → Bool
 outside s k d j = leb d (indexAt s k j)
 
+-- whether a sparse body of a vector of d elements has an index that is not below d; another kind has none
+abbrev pub strays : VectorType → ℕ → List ℕ → Bool
+strays k d body = is 9 k && some (outside body (length body / 8) d) (length body / 8)
+
 -- a row of the table, the limits apart: when a blob is accepted, its dims, and how long its body is, which are its first bytes
 pub record Row : Type 0 where
   pub accepted : Bool

@@ -1,5 +1,5 @@
 -- What the writer answers and leaves: the form of each kind, and document 01's refusals in the writer's order.
-use Prim.Native.Nat.{ℕ, _+_, _-_, _*_, _/_, _%_}
+use Prim.Native.Nat.{ℕ, _+_, _-_, _*_, _%_}
 use mathlib.Core.Bool.{Bool, cond, not, _&&_}
 use mathlib.Core.List.{List, [], _∷_, _++_}
 use lib.Dec.{ltb, eqb}
@@ -7,8 +7,7 @@ use lib.ListN.{length}
 use Rattle.promises.specs.Onto.{onto}
 use Rattle.elements.specs.Bytes.{bytesOf}
 use Rattle.vector_types.specs.Answers.{Test, test, firstOf, unless, written, unwritten, short}
-use Rattle.vector_types.specs.Search.{some}
-use Rattle.vector_types.specs.Layout.{longest, mostDims, ceil, is, counted, fits, outside}
+use Rattle.vector_types.specs.Layout.{longest, mostDims, ceil, counted, fits, strays}
 use Rattle.vector_types.specs.declared.VectorType.{VectorType}
 use Rattle.vector_types.specs.declared.VectorType.the-variants.{Float32Dense, Float64Dense, Float32Sparse, Float1Bit, Float8}
 use Rattle.vector_types.specs.declared.writing.Size.{Size}
@@ -52,11 +51,10 @@ blobOf k d body = body ++ tailOf k d
 unfoldable pub writeRefusals : VectorType → ℕ → List ℕ → List Test
 unfolding fits blobOf
 writeRefusals k d body =
-    let entries = length body / 8 in
     test 9 (ltb mostDims d)
     ∷ test 7 (not (fits k d (length body)))
     ∷ test 1 (ltb longest (length (blobOf k d body)))
-    ∷ test 8 (is 9 k && some (outside body entries d) entries)
+    ∷ test 8 (strays k d body)
     ∷ test 16 (counted k && eqb d 0)
     ∷ []
 

@@ -109,7 +109,7 @@ fn float8(blob: &[u8]) -> ReadAnswer
     show(VectorType::Float8, Dims(dims), length)
 }
 
-// The first of the count indices in s, from `at` on, that is not below dims, or count.
+// The first of the count indices of a sparse body that is not below dims, or count.
 pub(crate) fn first_outside(s: &[u8], count: usize, dims: usize) -> usize
     requires { ⌜ 8 * count ≤ length (now s) ⌝ }
     ensures { λ r. ⌜ r ≡ first (outside (now (s .entry)) count dims) count ⌝ }

@@ -1,13 +1,12 @@
 // Writing a blob from its kind, dims and body.
 ghost use mathlib.Core.Path.{_≡_};
-ghost use Prim.Native.Nat.{_/_, _≤_};
+ghost use Prim.Native.Nat.{_≤_};
 ghost use mathlib.Core.Bool.{_&&_};
 ghost use lib.Dec.{eqb};
 ghost use lib.ListN.{length};
 ghost use Rattle.promises.specs.Onto.{onto};
 ghost use Rattle.vector_types.specs.Answers.{refusal};
-ghost use Rattle.vector_types.specs.Search.{some};
-ghost use Rattle.vector_types.specs.Layout.{mostDims, is, counted, fits, outside};
+ghost use Rattle.vector_types.specs.Layout.{mostDims, counted, fits, strays};
 ghost use Rattle.vector_types.specs.Write.{filler, trailingBits, trailingBytes, countOf, tailOf, blobOf, sizeOf, writeOf, leftOf};
 ghost use Rattle.vector_types.specs.declared.VectorType.the-variants.{Float32Sparse};
 ghost use Rattle.vector_types.specs.declared.writing.Size.the-variants.{Refused};
@@ -88,7 +87,7 @@ fn tail_length(kind: VectorType, dims: Dims) -> usize
 
 // Whether an index of a sparse body is not below dims.
 fn is_outside(kind: VectorType, dims: Dims, body: &[u8]) -> bool
-    ensures { λ r. ⌜ r ≡ (is 9 kind && some (outside (now (body .entry)) (length (now (body .entry)) / 8) (dims .0)) (length (now (body .entry)) / 8)) ⌝ }
+    ensures { λ r. ⌜ r ≡ strays kind (dims .0) (now (body .entry)) ⌝ }
 {
     match kind {
         VectorType::Float32Sparse => {
