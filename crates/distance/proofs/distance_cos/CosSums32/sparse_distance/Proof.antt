@@ -1,0 +1,31 @@
+use borrow.Author.Needs.{needs}
+use Rattle.distance.proofs.distance_cos.CosSums32.sparse_distance.Statement.{statement}
+use Rattle.distance.proofs.distance_cos.CosSums32.sparse_distance.Tie as tie
+use Rattle.distance.proofs.distance_cos.CosSums32.sparse_distance.Reads as reads
+use Rattle.distance.proofs.distance_cos.CosSums32.sparse_distance.Lts as lts
+use Rattle.distance.proofs.distance_cos.CosSums32.angle.Reads as angle-reads
+use Rattle.rounding.proofs.widen.Reads as widen-reads
+
+-- src/distance_cos.rt:105:13
+returns : tie.Need-returns
+returns c = ?
+
+-- src/distance_cos.rt:108:13
+returns-2 : tie.Need-returns-2
+returns-2 c = ?
+
+-- src/distance_cos.rt:110:25
+angle-requires : tie.Need-angle-requires
+angle-requires c κs = search needs
+
+-- src/distance_cos.rt:110:9
+widen-requires : tie.Need-widen-requires
+widen-requires c κs = search needs
+
+-- src/distance_cos.rt:101:5
+returns-3 : tie.Need-returns-3
+returns-3 c = ?
+
+pub sparse-distance-spec : {M : Type 1} → statement M
+sparse-distance-spec =
+    tie.close (tie.spec returns returns-2 angle-requires widen-requires returns-3)

@@ -1,0 +1,51 @@
+-- What a distance of two blobs answers: the reader's refusal of the first, then of the second, then 12, 13, 14; else the distance.
+use Prim.Native.Nat.{ℕ}
+use mathlib.Core.Bool.{cond}
+use mathlib.Core.List.{List}
+use mathlib.Core.Option.{Option, none, some}
+use lib.Dec.{eqb}
+use lib.Ieee.{Float}
+use Rattle.vector_types.specs.Answers.{refusal}
+use Rattle.vector_types.specs.Layout.{byteOf, is}
+use Rattle.vector_types.specs.Read.{readOf}
+use Rattle.vector_types.specs.Parts.{bodyOf}
+use Rattle.vector_types.specs.declared.View.{View}
+use Rattle.vector_types.specs.declared.ReadAnswer.{ReadAnswer}
+use Rattle.vector_types.specs.declared.ReadAnswer.the-variants.{View as Seen, Refused as Unread}
+use Rattle.distance.specs.Values.{valueOf}
+use Rattle.distance.specs.declared.Distance.{Distance}
+use Rattle.distance.specs.declared.Which.{Which}
+use Rattle.distance.specs.declared.Which.the-variants.{First, Second, Neither}
+use Rattle.distance.specs.declared.DistanceAnswer.{DistanceAnswer}
+use Rattle.distance.specs.declared.DistanceAnswer.the-variants.{Measured, Refused}
+
+-- document 01's number for each answer, 0 where nothing is refused
+abbrev pub distanceNumber : DistanceAnswer → ℕ
+distanceNumber (Measured x) = 0
+distanceNumber (Refused r w) = r .number
+
+-- a refusal of the pair, which names no blob
+abbrev pub refuses : ℕ → DistanceAnswer
+refuses n = Refused (refusal n) Neither
+
+-- a distance that there is not
+abbrev pub answered : Option Float → DistanceAnswer
+answered none = refuses 14
+answered (some x) = Measured x
+
+-- of two views and their bodies
+unfoldable pub pairOf : Distance → View → View → List ℕ → List ℕ → DistanceAnswer
+unfolding valueOf
+pairOf m v w a b =
+    cond (eqb (v .dims .0) (w .dims .0))
+    (cond (is (byteOf (w .kind)) (v .kind)) (answered (valueOf m (v .kind) (v .dims .0) a b)) (refuses 13))
+    (refuses 12)
+
+abbrev pub distanceIn : Distance → ReadAnswer → ReadAnswer → List ℕ → List ℕ → DistanceAnswer
+distanceIn m (Unread r) q a b = Refused r First
+distanceIn m (Seen v) (Unread r) a b = Refused r Second
+distanceIn m (Seen v) (Seen w) a b = pairOf m v w a b
+
+unfoldable pub distanceOf : Distance → List ℕ → List ℕ → DistanceAnswer
+unfolding pairOf
+distanceOf m s t = distanceIn m (readOf s) (readOf t) (bodyOf s) (bodyOf t)

@@ -1,0 +1,137 @@
+// The distances of two blobs: cosine, L2, dot and Jaccard.
+mod bits;
+mod distance_cos;
+mod distance_dot;
+mod distance_l2;
+mod float8;
+mod jaccard;
+mod sparse;
+mod table;
+
+ghost use mathlib.Core.Path.{_≡_};
+ghost use mathlib.Core.Bool.{true};
+ghost use mathlib.Core.Option.{some};
+ghost use Prim.Native.Nat.{_≤_};
+ghost use lib.ListN.{length};
+ghost use Rattle.vector_types.specs.Layout.{mostDims, fits};
+ghost use Rattle.vector_types.specs.Read.{readOf};
+ghost use Rattle.vector_types.specs.Parts.{bodyOf};
+ghost use Rattle.vector_types.specs.declared.ReadAnswer.the-variants.{View as Seen};
+ghost use Rattle.distance.specs.Values.{valueOf, existsFor};
+ghost use Rattle.distance.specs.Answer.{refuses, pairOf, distanceOf};
+ghost use Rattle.distance.specs.declared.Distance.the-variants.{Cos, L2, Dot, Jaccard};
+use distance_cos::measure_cos;
+use distance_dot::measure_dot;
+use distance_l2::measure_l2;
+use jaccard::measure_jaccard;
+use table::exists;
+use table::is_same_kind;
+use vector_types::ReadAnswer;
+use vector_types::Refusal;
+use vector_types::VectorType;
+use vector_types::View;
+
+pub enum Distance {
+    Cos,
+    L2,
+    Dot,
+    Jaccard,
+}
+
+// Which of the two blobs a refusal is about.
+pub enum Which {
+    First,
+    Second,
+    Neither,
+}
+
+// A distance, or why there is none. NaN is a distance: that of vectors which have no likeness to measure.
+pub enum DistanceAnswer {
+    Measured(f64),
+    Refused(Refusal, Which),
+}
+
+// The distance of two bodies of one kind and dims.
+fn measure(distance: Distance, kind: VectorType, dims: usize, a: &[u8], b: &[u8]) -> f64
+    requires { ⌜ dims ≤ mostDims ⌝ }
+    requires { ⌜ fits kind dims (length (now a)) ≡ true ⌝ }
+    requires { ⌜ fits kind dims (length (now b)) ≡ true ⌝ }
+    requires { ⌜ existsFor distance kind ≡ true ⌝ }
+    ensures { λ r. ⌜ some r ≡ valueOf distance kind dims (now (a .entry)) (now (b .entry)) ⌝ }
+{
+    match distance {
+        Distance::Cos => measure_cos(kind, dims, a, b),
+        Distance::L2 => measure_l2(kind, dims, a, b),
+        Distance::Dot => measure_dot(kind, dims, a, b),
+        Distance::Jaccard => measure_jaccard(kind, dims, a, b),
+    }
+}
+
+fn refuse(number: u8) -> DistanceAnswer
+    ensures { λ r. ⌜ r ≡ refuses number ⌝ }
+{
+    DistanceAnswer::Refused(Refusal { number }, Which::Neither)
+}
+
+// The distance of two accepted blobs.
+fn pair(distance: Distance, first: &[u8], v: View, second: &[u8], w: View) -> DistanceAnswer
+    requires { ⌜ readOf (now first) ≡ Seen v ⌝ }
+    requires { ⌜ readOf (now second) ≡ Seen w ⌝ }
+    ensures { λ r. ⌜ r ≡ pairOf distance v w (bodyOf (now (first .entry))) (bodyOf (now (second .entry))) ⌝ }
+{
+    let dims = v.dims;
+    let others = w.dims;
+    if dims.0 != others.0 {
+        return refuse(12);
+    }
+    let kind = v.kind;
+    let other = w.kind;
+    if !is_same_kind(kind, other) {
+        return refuse(13);
+    }
+    if !exists(distance, kind) {
+        return refuse(14);
+    }
+    let m = v.length;
+    let n = w.length;
+    let a = &first[..m];
+    let b = &second[..n];
+    DistanceAnswer::Measured(measure(distance, kind, dims.0, a, b))
+}
+
+// A distance of two blobs, or the first refusal in the order of the rules.
+pub fn vector_distance(distance: Distance, first: &[u8], second: &[u8]) -> DistanceAnswer
+    ensures { λ r. ⌜ r ≡ distanceOf distance (now (first .entry)) (now (second .entry)) ⌝ }
+{
+    match vector_types::read(first) {
+        ReadAnswer::Refused(refusal) => DistanceAnswer::Refused(refusal, Which::First),
+        ReadAnswer::View(v) => match vector_types::read(second) {
+            ReadAnswer::Refused(refusal) => DistanceAnswer::Refused(refusal, Which::Second),
+            ReadAnswer::View(w) => pair(distance, first, v, second, w),
+        },
+    }
+}
+
+pub fn vector_distance_cos(first: &[u8], second: &[u8]) -> DistanceAnswer
+    ensures { λ r. ⌜ r ≡ distanceOf Cos (now (first .entry)) (now (second .entry)) ⌝ }
+{
+    vector_distance(Distance::Cos, first, second)
+}
+
+pub fn vector_distance_l2(first: &[u8], second: &[u8]) -> DistanceAnswer
+    ensures { λ r. ⌜ r ≡ distanceOf L2 (now (first .entry)) (now (second .entry)) ⌝ }
+{
+    vector_distance(Distance::L2, first, second)
+}
+
+pub fn vector_distance_dot(first: &[u8], second: &[u8]) -> DistanceAnswer
+    ensures { λ r. ⌜ r ≡ distanceOf Dot (now (first .entry)) (now (second .entry)) ⌝ }
+{
+    vector_distance(Distance::Dot, first, second)
+}
+
+pub fn vector_distance_jaccard(first: &[u8], second: &[u8]) -> DistanceAnswer
+    ensures { λ r. ⌜ r ≡ distanceOf Jaccard (now (first .entry)) (now (second .entry)) ⌝ }
+{
+    vector_distance(Distance::Jaccard, first, second)
+}
