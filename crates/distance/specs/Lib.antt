@@ -9,3 +9,4 @@ pub mod Turns
 pub mod Values
 pub mod Table
 pub mod Answer
+pub mod Examples
