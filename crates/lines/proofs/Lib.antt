@@ -5,6 +5,7 @@ pub mod Spelled
 pub mod Writing
 pub mod Pairs
 pub mod Parting
+pub mod Fields
 pub mod Pieces
 pub mod Whole
 pub mod Standing

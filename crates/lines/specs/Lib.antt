@@ -2,6 +2,7 @@ pub mod Text
 pub mod Hex
 pub mod Decimal
 pub mod Parts
+pub mod Fields
 pub mod Stream
 pub mod Printed
 pub mod Served

@@ -7,6 +7,7 @@ ghost use Rattle.lines.specs.Text.{tab};
 ghost use Rattle.promises.specs.Onto.{onto};
 ghost use Rattle.lines.specs.Decimal.{decimalOf, numeralOf};
 ghost use Rattle.lines.specs.Printed.{headOf};
+ghost use Rattle.lines.specs.Fields.{other};
 use crate::hex::Found;
 use crate::hex::number;
 
@@ -54,4 +55,13 @@ pub fn put_head(n: u64, out: &mut [u8]) -> usize
     let digits = put_decimal(n, out);
     out[digits] = b'\t';
     digits + 1
+}
+
+// Puts X, the answer to a line that asks for nothing, at the start of out, and answers its length.
+pub fn put_other(out: &mut [u8]) -> usize
+    requires { ⌜ 1 ≤ length (now out) ⌝ }
+    ensures { λ r. ⌜ r ≡ length other ⌝ }
+    ensures { λ _. ⌜ now (out .exit) ≡ onto other (now (out .entry)) ⌝ }
+{
+    bytes::copy(b"X", out)
 }

@@ -36,22 +36,13 @@ use Rattle.convert.specs.declared.ConvertAnswer.the-variants.{Converted, Refuse
 use Rattle.vector_types.proofs.Views.{told}
 use Rattle.vector_types.proofs.Strict.{strict-plain}
 use Rattle.vector_types.proofs.Written.{writable, written-blob}
-use Rattle.probe_lines.specs.Line.{two, three}
-use Rattle.probe_lines.specs.Blobs.{other, spelled, readerOf, kindOf, madeText, writtenBy, writeText, newBody, convertedText, convertedBy, convText}
+use Rattle.lines.specs.Fields.{two, three, other, spelled}
+use Rattle.lines.proofs.Fields.{two-fields}
+use Rattle.probe_lines.specs.Blobs.{readerOf, kindOf, madeText, writtenBy, writeText, newBody, convertedText, convertedBy, convText}
 use Rattle.probe_lines.specs.declared.blobs.Reader.{Reader}
 use Rattle.probe_lines.specs.declared.blobs.Reader.the-variants.{Plain, Strict}
 use Rattle.probe_lines.specs.declared.blobs.Kind.{Kind}
 use Rattle.probe_lines.specs.declared.blobs.Kind.the-variants.{Known, Unknown}
-use Rattle.probe_lines.proofs.Fields.{two-fields}
-
--- the text w, of n bytes, is put at the start of l, which is o then
-abbrev pub Puts : List ℕ → List ℕ → List ℕ → ℕ → Type 0
-Puts w l o n = (n ≡ length w) × (o ≡ onto w l)
-
--- a text w put after v, to the part that is left
-pub puts-then : (v w l o ys : List ℕ) (n m : ℕ) → Puts v l o n → Puts w (take (length o - n) (drop n o)) ys m
-    → Puts (v ++ w) l (putMid n (length o - n) o ys) (n + m)
-puts-then v w l o ys n m p q = (rw length-append (omega arith), onto-then v w l o ys n (p .1) (sym (p .0)) (q .1))
 
 -- ---- what is shown and what is written
 plain-within : (s : List ℕ) (v : View) → readOf s ≡ Seen v → (v .length ≤ length s) × (v .length ≤ longest)
@@ -100,39 +91,6 @@ module _ (t : VectorType) (scratch : ℕ) (made : List ℕ) (v : View) where
       → (v .length ≤ length made) × (take (v .length) (leftOut s t scratch made) ≡ newBody t (readOf s) (bodyOf s))
   unfolding convertOf leftOut
   converted-room s e = made-in (readOf s) (bodyOf s) e
-
--- ---- a field of which n bytes are spelled
-module _ (answer : List ℕ → List ℕ) (field : List ℕ) where
-  pub spelled-part : (n : ℕ) → n ≡ length (hexBytes field) → (2 * n ≡ length field → ⊥) → other ≡ spelled answer field
-  unfolding spelled
-  spelled-part n e less = rw (ne-eqb (2 * length (hexBytes field)) (length field) (λ all. less (rw e all)))
-
-  pub spelled-all : (n : ℕ) (l o : List ℕ) → Puts (hexBytes field) l o n → 2 * n ≡ length field → answer (take n o) ≡ spelled answer field
-  unfolding spelled
-  spelled-all n l o p all =
-      let text = hexBytes field in
-      rw (p .1, take-at text (drop (length text) l) n (sym (p .0)), eq-eqb (2 * length text) (length field) (rw (p .0) at all))
-
-  -- a tab is no digit
-  pub spelled-tab : indexOf tab field < length field → spelled answer field ≡ other
-  unfolding digitOf
-  spelled-tab less =
-      let few = blob-none tab field (lit≤ tt) less in
-      sym (spelled-part (length (hexBytes field)) refl (λ all. omega (arith, few, all)))
-
--- ---- fields: a text that has one field only, and one that has more
-pub three-short : (g : List ℕ → List ℕ → List ℕ → List ℕ) (s : List ℕ) → indexOf tab s ≡ length s → three g (fieldsOf s) ≡ other
-unfolding three two
-three-short g s all = rw (parts-last tab s all)
-
--- the text after the first field, as it is lent
-abbrev pub after : ℕ → List ℕ → List ℕ
-after end s = take (length s - (end + 1)) (drop (end + 1) s)
-
-pub three-fields : (g : List ℕ → List ℕ → List ℕ → List ℕ) (s : List ℕ) (end : ℕ) → end ≡ indexOf tab s → end < length s
-    → two (g (take end s)) (fieldsOf (after end s)) ≡ three g (fieldsOf s)
-unfolding three
-three-fields g s end e less = rw (tail-lent, parts-at tab s end e less)
 
 written-tab : (kind : Kind) (number : Found) (s : List ℕ) → indexOf tab s < length s → writtenBy kind number s ≡ other
 written-tab (Known k) (Number d) s less = spelled-tab (madeText k d) s less

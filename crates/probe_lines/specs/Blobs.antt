@@ -1,13 +1,13 @@
 -- The answers to lines about one blob. With | for a tab they are
 --     V|K|N|H    W|H    C|K|N|H    R|number
 -- where K is a type byte, N are dims, and H is a body or a blob in hexadecimal.
-use Prim.Native.Nat.{ℕ, _*_}
+use Prim.Native.Nat.{ℕ}
 use mathlib.Core.Bool.{cond}
 use mathlib.Core.List.{List, [], _++_}
-use lib.Dec.{eqb}
-use lib.ListN.{length, take}
+use lib.ListN.{take}
 use Rattle.lines.specs.Text.{word, same}
-use Rattle.lines.specs.Hex.{hexBytes, hexOf}
+use Rattle.lines.specs.Hex.{hexOf}
+use Rattle.lines.specs.Fields.{other, spelled}
 use Rattle.lines.specs.Printed.{headOf}
 use Rattle.lines.specs.Decimal.{decimalOf, numeralOf}
 use Rattle.lines.specs.declared.hex.Found.{Found}
@@ -33,9 +33,6 @@ use Rattle.probe_lines.specs.declared.blobs.Reader.the-variants.{Plain, 
 use Rattle.probe_lines.specs.declared.blobs.Kind.{Kind}
 use Rattle.probe_lines.specs.declared.blobs.Kind.the-variants.{Known, Unknown}
 
-abbrev pub other : List ℕ
-other = word "X"
-
 abbrev pub refusalText : ℕ → List ℕ
 refusalText n = word "R\t" ++ decimalOf n
 
@@ -60,10 +57,6 @@ newText (Converted v) body = vectorText (word "C\t") v body
 newText (Unconverted r) body = refusalText (r .number)
 newText (ShortScratch need) body = refusalText 17
 newText (ShortOut need) body = refusalText 15
-
--- the answer to the bytes that a field spells; X unless all of it does
-unfoldable pub spelled : (List ℕ → List ℕ) → List ℕ → List ℕ
-spelled answer field = cond (eqb (2 * length (hexBytes field)) (length field)) (answer (hexBytes field)) other
 
 abbrev pub readerOf : Reader → List ℕ → ReadAnswer
 readerOf Plain s = readOf s

@@ -15,9 +15,10 @@ use Rattle.rounding.specs.Truncate.{truncated}
 use Rattle.lines.specs.Text.{word, same}
 use Rattle.lines.specs.Hex.{patternOf}
 use Rattle.lines.specs.Parts.{fieldsOf}
+use Rattle.lines.specs.Fields.{other, one, two, three}
 use Rattle.lines.specs.declared.hex.Found.{Found}
 use Rattle.lines.specs.declared.hex.Found.the-variants.{Number, Nothing}
-use Rattle.probe_lines.specs.Blobs.{other, readText, writeText, convText}
+use Rattle.probe_lines.specs.Blobs.{readText, writeText, convText}
 use Rattle.probe_lines.specs.declared.Verb.{Verb}
 use Rattle.probe_lines.specs.declared.Verb.the-variants.{Root, Float, Read, Write, Convert, Other}
 use Rattle.probe_lines.specs.declared.blobs.Reader.the-variants.{Plain, Strict}
@@ -50,22 +51,6 @@ byFound r Nothing = other
 
 unfoldable pub computedOf : Work → List ℕ → List ℕ
 computedOf work field = byFound (rowOf work) (patternOf (rowOf work .takes) field)
-
--- exactly one field, exactly two, exactly three
-unfoldable pub one : (List ℕ → List ℕ) → List (List ℕ) → List ℕ
-one answer [] = other
-one answer (f ∷ []) = answer f
-one answer (f ∷ (g ∷ fs)) = other
-
-unfoldable pub two : (List ℕ → List ℕ → List ℕ) → List (List ℕ) → List ℕ
-unfolding one
-two answer [] = other
-two answer (f ∷ fs) = one (answer f) fs
-
-unfoldable pub three : (List ℕ → List ℕ → List ℕ → List ℕ) → List (List ℕ) → List ℕ
-unfolding two
-three answer [] = other
-three answer (f ∷ fs) = two (answer f) fs
 
 unfoldable pub ofWidth : List ℕ → List ℕ → List ℕ
 unfolding computedOf

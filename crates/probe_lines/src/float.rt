@@ -3,9 +3,10 @@ ghost use mathlib.Core.Path.{_≡_};
 ghost use Prim.Native.Nat.{_≤_, _<_, _^_};
 ghost use lib.ListN.{length};
 ghost use Rattle.promises.specs.Onto.{onto};
+ghost use Rattle.lines.specs.Fields.{other};
 ghost use Rattle.probe_lines.specs.Line.{rowOf, floatOf, computedOf};
-ghost use Rattle.probe_lines.specs.Blobs.{other};
 use lines::hex::Found;
+use lines::text::put_other;
 
 // What is asked of a float's pattern.
 pub enum Work {
@@ -71,15 +72,6 @@ fn result(work: Work, n: u64) -> u64
             rounding::truncate(x) as u64
         }
     }
-}
-
-// Puts X at the start of out, and answers its length.
-pub fn put_other(out: &mut [u8]) -> usize
-    requires { ⌜ 1 ≤ length (now out) ⌝ }
-    ensures { λ r. ⌜ r ≡ length other ⌝ }
-    ensures { λ _. ⌜ now (out .exit) ≡ onto other (now (out .entry)) ⌝ }
-{
-    bytes::copy(b"X", out)
 }
 
 // Puts F, a tab and n in `width` digits at the start of out, and answers their length.

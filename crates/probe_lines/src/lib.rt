@@ -10,15 +10,16 @@ ghost use Prim.Native.Nat.{_*_, _≤_};
 ghost use lib.ListN.{length};
 ghost use Rattle.promises.specs.Onto.{onto};
 ghost use Rattle.lines.specs.Parts.{fieldsOf};
+ghost use Rattle.lines.specs.Fields.{two};
 ghost use Rattle.probe_lines.specs.Limits.{limit, scratchRoom, blobRoom};
-ghost use Rattle.probe_lines.specs.Line.{answerOf, verbOf, two, ofWidth};
+ghost use Rattle.probe_lines.specs.Line.{answerOf, verbOf, ofWidth};
 use blobs::Reader;
 use blobs::convert_line;
 use blobs::read_line;
 use blobs::write_line;
 use float::Work;
 use float::computed;
-use float::put_other;
+use lines::text::put_other;
 
 // What a line asks for, by its first field.
 pub enum Verb {

@@ -10,9 +10,9 @@ ghost use Rattle.lines.specs.Served.{heldAnswer, heldReply, saidOf, servedOf, l
 ghost use Rattle.probe_lines.specs.Limits.{limit, longest, scratchRoom, blobRoom};
 ghost use Rattle.probe_lines.specs.Line.{answerOf};
 use crate::answer;
-use crate::float::put_other;
 use lines::stream::Held;
 use lines::stream::Served;
+use lines::text::put_other;
 
 // The answer to the line of which this is kept.
 fn answer_held(

@@ -8,10 +8,11 @@ use lib.Seq.{length-take-le}
 use Rattle.bytes.specs.Bytes.{indexOf}
 use Rattle.lines.specs.Text.{tab}
 use Rattle.lines.specs.Parts.{fieldsOf}
+use Rattle.lines.proofs.Fields.{answered}
 use Rattle.probe_lines.specs.Line.{answerTo, answerOf}
 use Rattle.probe_lines.specs.declared.Verb.{Verb}
 use Rattle.probe_lines.specs.declared.Verb.the-variants.{Root, Float, Read, Write, Convert, Other}
-use Rattle.probe_lines.proofs.Fields.{answer-short, answer-fields, last-computed, last-read, answered}
+use Rattle.probe_lines.proofs.Fields.{answer-short, answer-fields, last-computed, last-read}
 use borrow.Author.Needs.{needs}
 use Rattle.probe_lines.proofs.answer.Statement.{statement}
 use Rattle.probe_lines.proofs.answer.Tie as tie

@@ -10,10 +10,11 @@ use Rattle.bytes.specs.Bytes.{indexOf}
 use Rattle.lines.specs.Text.{word, same, tab}
 use Rattle.lines.specs.Parts.{fieldsOf}
 use Rattle.lines.proofs.Same.{tested}
-use Rattle.probe_lines.specs.Line.{computedOf, two, ofWidth}
-use Rattle.probe_lines.specs.Blobs.{other}
+use Rattle.lines.specs.Fields.{two, other}
+use Rattle.lines.proofs.Fields.{two-short, answered}
+use Rattle.probe_lines.specs.Line.{computedOf, ofWidth}
 use Rattle.probe_lines.specs.declared.float.Work.the-variants.{Root32, Root64}
-use Rattle.probe_lines.proofs.Fields.{two-short, root-fields, answered}
+use Rattle.probe_lines.proofs.Fields.{root-fields}
 use borrow.Author.Needs.{needs}
 use Rattle.probe_lines.proofs.root.Statement.{statement}
 use Rattle.probe_lines.proofs.root.Tie as tie

@@ -5,12 +5,12 @@ use mathlib.Core.List.{List, [], _∷_}
 use Prim.Native.Nat.{ℕ}
 use lib.ListN.{drop}
 use Rattle.lines.specs.Text.{word}
+use Rattle.lines.proofs.Fields.{named, told}
 use Rattle.probe_lines.specs.Line.{verbOf}
 use Rattle.probe_lines.specs.declared.Verb.{Verb}
 use Rattle.probe_lines.specs.declared.Verb.the-variants.{Root, Float, Read, Write, Convert, Other}
 use Rattle.probe_lines.specs.declared.blobs.Reader.the-variants.{Plain, Strict}
 use Rattle.probe_lines.specs.declared.float.Work.the-variants.{Narrow, Widen, Trunc}
-use Rattle.probe_lines.proofs.Fields.{named, told}
 use borrow.Author.Needs.{needs}
 use Rattle.probe_lines.proofs.verb_of.Statement.{statement}
 use Rattle.probe_lines.proofs.verb_of.Tie as tie

@@ -4,10 +4,10 @@ use lib.ListN.{length, take}
 use lib.Seq.{length-take-le}
 use Rattle.bytes.specs.Bytes.{indexOf}
 use Rattle.lines.specs.Text.{tab}
+use Rattle.lines.proofs.Fields.{answered, two-short, after}
 use Rattle.probe_lines.specs.declared.blobs.Kind.{Kind}
 use Rattle.probe_lines.specs.Blobs.{convertedBy, convText}
-use Rattle.probe_lines.proofs.Fields.{answered, two-short}
-use Rattle.probe_lines.proofs.BlobTexts.{after, conv-fields}
+use Rattle.probe_lines.proofs.BlobTexts.{conv-fields}
 use borrow.Author.Needs.{needs}
 use native.Mathlib.Omega.{arith}
 use Rattle.probe_lines.proofs.blobs.convert_line.Statement.{statement}

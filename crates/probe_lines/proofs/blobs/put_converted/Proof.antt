@@ -8,8 +8,8 @@ use Rattle.vector_types.specs.Read.{readOf}
 use Rattle.vector_types.specs.Parts.{bodyOf}
 use Rattle.convert.specs.Convert.{convertOf}
 use Rattle.convert.specs.declared.ConvertAnswer.{ConvertAnswer}
+use Rattle.lines.proofs.Fields.{answered}
 use Rattle.probe_lines.specs.Blobs.{vectorText, newText, newBody, convertedText}
-use Rattle.probe_lines.proofs.Fields.{answered}
 use Rattle.probe_lines.proofs.BlobTexts.{converted-room}
 use borrow.Author.Needs.{needs}
 use native.Mathlib.Omega.{arith}

@@ -2,8 +2,8 @@
 use mathlib.Core.Path.{_≡_, refl, sym, ap, _∙_}
 use Rattle.vector_types.specs.declared.ReadAnswer.{ReadAnswer}
 use Rattle.vector_types.specs.declared.ReadAnswer.the-variants.{View, Refused}
+use Rattle.lines.proofs.Fields.{answered}
 use Rattle.probe_lines.specs.Blobs.{viewText, readerOf}
-use Rattle.probe_lines.proofs.Fields.{answered}
 use Rattle.probe_lines.proofs.BlobTexts.{seen-within}
 use borrow.Author.Needs.{needs}
 use native.Mathlib.Omega.{arith}

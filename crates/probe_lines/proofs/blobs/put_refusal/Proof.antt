@@ -1,8 +1,8 @@
 -- `blobs::put_refusal` meets its contract: the number is written after R and a tab.
 use Rattle.lines.specs.Text.{word}
 use Rattle.lines.specs.Decimal.{decimalOf}
-use Rattle.probe_lines.proofs.BlobTexts.{puts-then}
 use borrow.Author.Needs.{needs}
+use Rattle.lines.proofs.Fields.{puts-then}
 use Rattle.probe_lines.proofs.blobs.put_refusal.Statement.{statement}
 use Rattle.probe_lines.proofs.blobs.put_refusal.Tie as tie
 

@@ -8,9 +8,8 @@ use Rattle.vector_types.specs.Layout.{byteOf}
 use Rattle.lines.specs.Hex.{hexOf}
 use Rattle.lines.specs.Printed.{headOf}
 use Rattle.promises.proofs.Onto.{copied}
+use Rattle.lines.proofs.Fields.{answered, puts-then}
 use Rattle.probe_lines.specs.Blobs.{vectorText}
-use Rattle.probe_lines.proofs.Fields.{answered}
-use Rattle.probe_lines.proofs.BlobTexts.{puts-then}
 use borrow.Author.Needs.{needs}
 use native.Mathlib.Omega.{arith}
 use Rattle.probe_lines.proofs.blobs.put_vector.Statement.{statement}

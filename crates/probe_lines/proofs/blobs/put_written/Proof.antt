@@ -9,9 +9,9 @@ use Rattle.lines.specs.Hex.{hexOf}
 use Rattle.vector_types.specs.Layout.{longest}
 use Rattle.vector_types.specs.Write.{blobOf, writeOf}
 use Rattle.vector_types.specs.declared.WriteAnswer.{WriteAnswer}
+use Rattle.lines.proofs.Fields.{answered, puts-then}
 use Rattle.probe_lines.specs.Blobs.{blobText, madeText}
-use Rattle.probe_lines.proofs.Fields.{answered}
-use Rattle.probe_lines.proofs.BlobTexts.{puts-then, written-room}
+use Rattle.probe_lines.proofs.BlobTexts.{written-room}
 use borrow.Author.Needs.{needs}
 use native.Mathlib.Omega.{arith}
 use Rattle.probe_lines.proofs.blobs.put_written.Statement.{statement}

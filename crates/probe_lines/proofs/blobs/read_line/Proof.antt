@@ -1,9 +1,8 @@
 -- `blobs::read_line` meets its contract: X, or what the reader shows of the bytes that the field spells.
 use mathlib.Core.Path.{sym}
 use lib.Seq.{length-take-le}
+use Rattle.lines.proofs.Fields.{answered, spelled-part, spelled-all}
 use Rattle.probe_lines.specs.Blobs.{shownText, readText}
-use Rattle.probe_lines.proofs.Fields.{answered}
-use Rattle.probe_lines.proofs.BlobTexts.{spelled-part, spelled-all}
 use borrow.Author.Needs.{needs}
 use native.Mathlib.Omega.{arith}
 use Rattle.probe_lines.proofs.blobs.read_line.Statement.{statement}

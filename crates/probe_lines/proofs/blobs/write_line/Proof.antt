@@ -8,11 +8,11 @@ use Rattle.bytes.specs.Bytes.{indexOf}
 use Rattle.lines.specs.Text.{tab}
 use Rattle.lines.specs.Parts.{fieldsOf}
 use Rattle.lines.specs.declared.hex.Found.{Found}
+use Rattle.lines.specs.Fields.{two, three}
+use Rattle.lines.proofs.Fields.{answered, two-short, after, three-short, three-fields}
 use Rattle.probe_lines.specs.declared.blobs.Kind.{Kind}
-use Rattle.probe_lines.specs.Line.{two, three}
 use Rattle.probe_lines.specs.Blobs.{writeText, writtenBy}
-use Rattle.probe_lines.proofs.Fields.{answered, two-short}
-use Rattle.probe_lines.proofs.BlobTexts.{after, three-short, three-fields, write-fields}
+use Rattle.probe_lines.proofs.BlobTexts.{write-fields}
 use borrow.Author.Needs.{needs}
 use native.Mathlib.Omega.{arith}
 use Rattle.probe_lines.proofs.blobs.write_line.Statement.{statement}

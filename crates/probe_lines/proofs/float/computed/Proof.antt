@@ -5,8 +5,9 @@ use native.Mathlib.Omega.{arith}
 use Rattle.lines.specs.Hex.{patternOf}
 use Rattle.lines.specs.declared.hex.Found.the-variants.{Number}
 use Rattle.lines.proofs.Digits.{pattern-below}
+use Rattle.lines.proofs.Fields.{answered}
 use Rattle.probe_lines.specs.Line.{rowOf, floatOf, byFound, computedOf}
-use Rattle.probe_lines.proofs.Fields.{wide, answered}
+use Rattle.probe_lines.proofs.Fields.{wide}
 use borrow.Author.Needs.{needs}
 use Rattle.probe_lines.proofs.float.computed.Statement.{statement}
 use Rattle.probe_lines.proofs.float.computed.Tie as tie
