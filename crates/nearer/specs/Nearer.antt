@@ -1,0 +1,94 @@
+-- The nearer of two candidates to a probe, which is the first vector of each pair: the refusals in their order, then the lesser distance.
+use Prim.Native.Nat.{ℕ}
+use mathlib.Core.Bool.{Bool, cond, _&&_, _||_}
+use mathlib.Core.List.{List, [], _++_}
+use mathlib.Core.Option.{Option, none, some}
+use lib.Dec.{eqb}
+use lib.Ieee.{Float, le, isNan}
+use Rattle.vector_types.specs.Answers.{refusal, firstOf, unless}
+use Rattle.vector_types.specs.Read.{readOf}
+use Rattle.vector_types.specs.Parts.{bodyOf}
+use Rattle.vector_types.specs.declared.Refusal.{Refusal}
+use Rattle.vector_types.specs.declared.View.{View}
+use Rattle.vector_types.specs.declared.ReadAnswer.{ReadAnswer}
+use Rattle.vector_types.specs.declared.ReadAnswer.the-variants.{View as Seen, Refused as Unread}
+use Rattle.distance.specs.Values.{valueOf}
+use Rattle.distance.specs.Answer.{mismatches}
+use Rattle.distance.specs.declared.Distance.{Distance}
+use Rattle.distance.specs.declared.DistanceAnswer.{DistanceAnswer}
+use Rattle.distance.specs.declared.DistanceAnswer.the-variants.{Measured, Refused as Unmeasured}
+use Rattle.nearer.specs.declared.Candidate.{Candidate}
+use Rattle.nearer.specs.declared.Candidate.the-variants.{First, Second}
+use Rattle.nearer.specs.declared.Among.{Among}
+use Rattle.nearer.specs.declared.Among.the-variants.{Probe, First as TheFirst, Second as TheSecond, Neither}
+use Rattle.nearer.specs.declared.NearerAnswer.{NearerAnswer}
+use Rattle.nearer.specs.declared.NearerAnswer.the-variants.{Nearer, Refused}
+
+-- document 01's number for each answer, 0 where nothing is refused
+abbrev pub nearerNumber : NearerAnswer → ℕ
+nearerNumber (Nearer n) = 0
+nearerNumber (Refused r w) = r .number
+
+-- a candidate and its distance, and a refusal that is about none of the three
+abbrev pub near : Candidate → Float → NearerAnswer
+near c x = Nearer (record { candidate = c; distance = x })
+
+abbrev pub refusesAll : Refusal → NearerAnswer
+refusesAll r = Refused r Neither
+
+-- of the distances x and y: NaN loses to all else, a tie gives the first, and two NaNs give neither
+unfoldable pub chosen : Float → Float → NearerAnswer
+chosen x y =
+    cond (isNan x && isNan y) (refusesAll (refusal 18))
+    (cond (isNan y || le x y) (near First x)
+    (near Second y))
+
+-- where the distance does not exist for the kind, neither does
+abbrev pub decided : Option Float → Option Float → NearerAnswer
+decided none q = refusesAll (refusal 14)
+decided (some x) none = refusesAll (refusal 14)
+decided (some x) (some y) = chosen x y
+
+-- of the views and bodies of probe, first and second: 12 and 13 for the first, then for the second, then 14, then 18
+unfoldable pub comparedOf : Distance → View → View → View → List ℕ → List ℕ → List ℕ → NearerAnswer
+unfolding chosen valueOf
+comparedOf m v w u p a b =
+    unless (firstOf (mismatches v w ++ mismatches v u)) refusesAll
+    (decided (valueOf m (v .kind) (v .dims .0) p a) (valueOf m (v .kind) (v .dims .0) p b))
+
+-- by what the two pairs answer, each on its own: the same (`compared-by`, proofs/Compared.antt)
+abbrev pub afterAbsent : Refusal → DistanceAnswer → NearerAnswer
+afterAbsent r (Measured y) = refusesAll r
+afterAbsent r (Unmeasured s w) = refusesAll s
+
+abbrev pub decidedBy : DistanceAnswer → DistanceAnswer → NearerAnswer
+decidedBy (Measured x) (Measured y) = chosen x y
+decidedBy (Measured x) (Unmeasured s w) = refusesAll s
+decidedBy (Unmeasured r w) q = cond (eqb (r .number) 14) (afterAbsent r q) (refusesAll r)
+
+-- of what reading each answers
+abbrev pub nearerIn : Distance → ReadAnswer → ReadAnswer → ReadAnswer → List ℕ → List ℕ → List ℕ → NearerAnswer
+nearerIn m (Unread r) q s p a b = Refused r Probe
+nearerIn m (Seen v) (Unread r) s p a b = Refused r TheFirst
+nearerIn m (Seen v) (Seen w) (Unread r) p a b = Refused r TheSecond
+nearerIn m (Seen v) (Seen w) (Seen u) p a b = comparedOf m v w u p a b
+
+unfoldable pub nearerOf : Distance → List ℕ → List ℕ → List ℕ → NearerAnswer
+unfolding comparedOf
+nearerOf m probe first second =
+    nearerIn m (readOf probe) (readOf first) (readOf second) (bodyOf probe) (bodyOf first) (bodyOf second)
+
+-- of the two candidates, the one that is meant
+abbrev pub ofBoth : {A : Type 0} → Candidate → A → A → A
+ofBoth First x y = x
+ofBoth Second x y = y
+
+-- the nearer one's part is its body; on a refusal it is empty
+abbrev pub partOf : NearerAnswer → List ℕ → List ℕ → List ℕ
+partOf (Nearer n) first second = bodyOf (ofBoth (n .candidate) first second)
+partOf (Refused r w) first second = []
+
+-- and it stands at the start of that one; where it is empty, of the first
+abbrev pub placeOf : NearerAnswer → ℕ × ℕ → ℕ × ℕ → ℕ × ℕ
+placeOf (Nearer n) first second = ofBoth (n .candidate) first second
+placeOf (Refused r w) first second = first

@@ -1,0 +1,122 @@
+// What vecdist answers to a line.
+ghost use mathlib.Core.Path.{_≡_};
+ghost use Prim.Native.Nat.{_+_, _*_, _≤_};
+ghost use lib.ListN.{length};
+ghost use Rattle.promises.specs.Onto.{onto};
+ghost use Rattle.vecdist_lines.specs.Line.{askedOf, nameOf, answerText, askedBy, answerOf};
+ghost use Rattle.vecdist_lines.specs.declared.Asked.the-variants.{Known};
+use distance::Distance;
+use distance::DistanceAnswer;
+use distance::Which;
+use lines::text::put_other;
+
+// As many bytes as a line may have before its newline.
+pub const LIMIT: usize = 32768;
+
+// The distance that a field names, if any.
+pub enum Asked {
+    Known(Distance),
+    Unknown,
+}
+
+fn asked_of(field: &[u8]) -> Asked
+    ensures { λ r. ⌜ r ≡ askedOf (now (field .entry)) ⌝ }
+{
+    if check::same(field, b"cos") {
+        return Asked::Known(Distance::Cos);
+    }
+    if check::same(field, b"l2") {
+        return Asked::Known(Distance::L2);
+    }
+    if check::same(field, b"dot") {
+        return Asked::Known(Distance::Dot);
+    }
+    if check::same(field, b"jac") {
+        return Asked::Known(Distance::Jaccard);
+    }
+    Asked::Unknown
+}
+
+// Puts the name of the blob that a refusal is about.
+fn put_name(which: Which, out: &mut [u8]) -> usize
+    requires { ⌜ 1 ≤ length (now out) ⌝ }
+    ensures { λ r. ⌜ r ≡ length (nameOf which) ⌝ }
+    ensures { λ _. ⌜ now (out .exit) ≡ onto (nameOf which) (now (out .entry)) ⌝ }
+{
+    match which {
+        Which::First => bytes::copy(b"a", out),
+        Which::Second => bytes::copy(b"b", out),
+        Which::Neither => bytes::copy(b"-", out),
+    }
+}
+
+// Puts an answer at the start of out.
+fn put_answer(answer: DistanceAnswer, out: &mut [u8]) -> usize
+    requires { ⌜ 32 ≤ length (now out) ⌝ }
+    ensures { λ r. ⌜ r ≡ length (answerText answer) ⌝ }
+    ensures { λ _. ⌜ now (out .exit) ≡ onto (answerText answer) (now (out .entry)) ⌝ }
+{
+    match answer {
+        DistanceAnswer::Measured(x) => {
+            let head = bytes::copy(b"D\t", out);
+            head + lines::hex::put_hex(16, elements::bits64(x), &mut out[head..])
+        }
+        DistanceAnswer::Refused(refusal, which) => {
+            let head = bytes::copy(b"R\t", out);
+            let told = head + lines::text::put_head(refusal.number as u64, &mut out[head..]);
+            told + put_name(which, &mut out[told..])
+        }
+    }
+}
+
+// The answer to D|A|B, of which D is found and these are A and B. The bytes that they spell are put
+// into `spelled`, one after the other.
+fn answer_pair(
+    asked: Asked,
+    first: &[u8],
+    second: &[u8],
+    spelled: &mut [u8],
+    out: &mut [u8],
+) -> usize
+    requires { ⌜ length (now first) + length (now second) ≤ 2 * length (now spelled) ⌝ }
+    requires { ⌜ 32 ≤ length (now out) ⌝ }
+    ensures { λ r. ⌜ r ≡ length (askedBy asked (now (first .entry)) (now (second .entry))) ⌝ }
+    ensures { λ _. ⌜ now (out .exit) ≡ onto (askedBy asked (now (first .entry)) (now (second .entry))) (now (out .entry)) ⌝ }
+{
+    let Asked::Known(distance) = asked else {
+        return put_other(out);
+    };
+    let m = lines::hex::bytes(first, spelled);
+    if 2 * m != first.len() {
+        return put_other(out);
+    }
+    let n = lines::hex::bytes(second, &mut spelled[m..]);
+    if 2 * n != second.len() {
+        return put_other(out);
+    }
+    let end = m + n;
+    put_answer(
+        distance::vector_distance(distance, &spelled[..m], &spelled[m..end]),
+        out,
+    )
+}
+
+// Puts the answer to a line at the start of out, and answers its length; `spelled` is room to work in.
+pub fn answer(line: &[u8], spelled: &mut [u8], out: &mut [u8]) -> usize
+    requires { ⌜ length (now line) ≤ 2 * length (now spelled) ⌝ }
+    requires { ⌜ 32 ≤ length (now out) ⌝ }
+    ensures { λ r. ⌜ r ≡ length (answerOf (now (line .entry))) ⌝ }
+    ensures { λ _. ⌜ now (out .exit) ≡ onto (answerOf (now (line .entry))) (now (out .entry)) ⌝ }
+{
+    let end = lines::text::field_end(line);
+    if end == line.len() {
+        return put_other(out);
+    }
+    let asked = asked_of(&line[..end]);
+    let rest = &line[end + 1..];
+    let stop = lines::text::field_end(rest);
+    if stop == rest.len() {
+        return put_other(out);
+    }
+    answer_pair(asked, &rest[..stop], &rest[stop + 1..], spelled, out)
+}
