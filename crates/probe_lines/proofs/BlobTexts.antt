@@ -1,25 +1,19 @@
--- Laws of the answers about blobs: texts put one after another, what a view, a written blob and a converted one measure, fields that spell bytes, and the fields of write and conv.
-use mathlib.Core.Path.{_≡_, refl, sym, ap}
+-- Laws of the answers about blobs: what a view, a written blob and a converted one measure, and the fields of write and conv.
+use mathlib.Core.Path.{_≡_, refl, ap}
 use mathlib.Core.Bool.{Bool, true, false, cond, _&&_}
-use mathlib.Core.List.{List, _++_}
-use Prim.Native.Nat.{ℕ, suc, _+_, _-_, _*_, _<_, _≤_}
+use mathlib.Core.List.{List}
+use Prim.Native.Nat.{ℕ, suc, _*_, _<_, _≤_}
 use native.Mathlib.Omega.{arith}
-use lib.Dec.{lit≤, ltb}
-use lib.ListN.{length, take, drop, length-append}
+use lib.Dec.{ltb}
+use lib.ListN.{length, take, drop}
 use lib.Seq.{take-at}
-use borrow.Rule.Slice.PartMut.{putMid}
-use borrow.Author.Tests.{eq-eqb, ne-eqb, ltb-false}
+use borrow.Author.Tests.{ltb-false}
 use Rattle.bytes.specs.Bytes.{indexOf}
-use Rattle.promises.specs.Onto.{onto}
-use Rattle.promises.proofs.Onto.{onto-then, tail-lent}
 use Rattle.lines.specs.Text.{tab}
-use Rattle.lines.specs.Hex.{digitOf, hexBytes}
 use Rattle.lines.specs.Decimal.{numeralOf}
 use Rattle.lines.specs.Parts.{fieldsOf}
 use Rattle.lines.specs.declared.hex.Found.{Found}
 use Rattle.lines.specs.declared.hex.Found.the-variants.{Number, Nothing}
-use Rattle.lines.proofs.Pairs.{blob-none}
-use Rattle.lines.proofs.Parting.{parts-at, parts-last}
 use Rattle.vector_types.specs.Layout.{longest}
 use Rattle.vector_types.specs.Read.{readOf}
 use Rattle.vector_types.specs.Parts.{bodyOf}
@@ -36,8 +30,8 @@ use Rattle.convert.specs.declared.ConvertAnswer.the-variants.{Converted, Refuse
 use Rattle.vector_types.proofs.Views.{told}
 use Rattle.vector_types.proofs.Strict.{strict-plain}
 use Rattle.vector_types.proofs.Written.{writable, written-blob}
-use Rattle.lines.specs.Fields.{two, three, other, spelled}
-use Rattle.lines.proofs.Fields.{two-fields}
+use Rattle.lines.specs.Fields.{two, other}
+use Rattle.lines.proofs.Fields.{after, spelled-tab, two-fields}
 use Rattle.probe_lines.specs.Blobs.{readerOf, kindOf, madeText, writtenBy, writeText, newBody, convertedText, convertedBy, convText}
 use Rattle.probe_lines.specs.declared.blobs.Reader.{Reader}
 use Rattle.probe_lines.specs.declared.blobs.Reader.the-variants.{Plain, Strict}

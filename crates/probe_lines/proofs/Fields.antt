@@ -1,24 +1,22 @@
--- Laws of a line's answer by its fields: what a row asks of the widths, a last field that a tab in it makes X, and a field that is one of several words.
-use mathlib.Core.Path.{_≡_, refl, sym, ap, _∙_}
+-- Laws of a line's answer by its fields: what a row asks of the widths, and a last field that a tab in it makes X.
+use mathlib.Core.Path.{_≡_, refl}
 use mathlib.Core.Bool.{Bool, true, false, cond}
-use mathlib.Core.List.{List, [], _∷_}
+use mathlib.Core.List.{List, []}
 use Prim.Native.Nat.{ℕ, _+_, _-_, _*_, _<_, _≤_}
 use native.Mathlib.Omega.{arith}
-use native.Mathlib.Decide.{decLt}
 use borrow.Author.Tests.{ne-eqb}
 use lib.Dec.{lit≤}
 use lib.ListN.{length, take, drop}
 use Rattle.bytes.specs.Bytes.{indexOf}
-use Rattle.lines.specs.Text.{tab, same}
-use Rattle.promises.specs.Onto.{onto}
+use Rattle.lines.specs.Text.{tab}
 use Rattle.lines.specs.Hex.{digitOf, hexBytes}
-use Rattle.lines.specs.Parts.{partsOf, fieldsOf}
+use Rattle.lines.specs.Parts.{fieldsOf}
 use Rattle.lines.proofs.Digits.{pattern-none}
 use Rattle.lines.proofs.Pairs.{blob-none}
-use Rattle.lines.proofs.Same.{tested}
 use Rattle.promises.proofs.Onto.{tail-lent}
-use Rattle.lines.proofs.Parting.{index-le, parts-at, parts-last, parts-some}
+use Rattle.lines.proofs.Parting.{parts-at, parts-last}
 use Rattle.lines.specs.Fields.{one, two, three, other, spelled}
+use Rattle.lines.proofs.Fields.{one-field, two-fields}
 use Rattle.probe_lines.specs.Line.{rowOf, computedOf, ofWidth, verbOf, answerTo, answerBy, answerOf}
 use Rattle.probe_lines.specs.Blobs.{readText}
 use Rattle.probe_lines.specs.declared.Verb.{Verb}

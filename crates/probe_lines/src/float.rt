@@ -3,7 +3,6 @@ ghost use mathlib.Core.Path.{_≡_};
 ghost use Prim.Native.Nat.{_≤_, _<_, _^_};
 ghost use lib.ListN.{length};
 ghost use Rattle.promises.specs.Onto.{onto};
-ghost use Rattle.lines.specs.Fields.{other};
 ghost use Rattle.probe_lines.specs.Line.{rowOf, floatOf, computedOf};
 use lines::hex::Found;
 use lines::text::put_other;
