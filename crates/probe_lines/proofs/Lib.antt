@@ -2,4 +2,3 @@
 pub mod Fields
 pub mod BlobTexts
 pub mod Determined
-pub mod Stream

@@ -1,5 +1,4 @@
 pub mod Limits
 pub mod Blobs
 pub mod Line
-pub mod Printed
 pub mod Examples

@@ -1,14 +1,10 @@
 -- The sizes of lines and replies.
-use Prim.Native.Nat.{ℕ, _+_, _*_}
+use Prim.Native.Nat.{ℕ, _*_}
 use Rattle.vector_types.specs.Layout.{longest as longestBlob, mostDims}
 
 -- as many bytes as a line may have before its newline, so that blobs at the limits can be put to it; no answer has more
 abbrev pub limit : ℕ
 limit = 1100000
-
--- the longest reply: twenty digits, a tab, the answer and a newline
-abbrev pub longest : ℕ
-longest = limit + 22
 
 -- room for the bytes that a line spells, for the elements that a conversion goes through, and for the longest blob
 abbrev pub spelledRoom : ℕ

@@ -1,10 +1,7 @@
 // What vecprobe answers to a line, by its first field.
 mod blobs;
 mod float;
-mod replies;
 
-pub use replies::finish;
-pub use replies::serve;
 ghost use mathlib.Core.Path.{_≡_};
 ghost use Prim.Native.Nat.{_*_, _≤_};
 ghost use lib.ListN.{length};
@@ -84,9 +81,6 @@ fn root(rest: &[u8], out: &mut [u8]) -> usize
 
 // As many bytes as a line may have before its newline; no answer has more.
 pub const LIMIT: usize = 1100000;
-
-// The longest reply: twenty digits, a tab, the answer and a newline.
-pub const LONGEST: usize = LIMIT + 22;
 
 // Room for the bytes that a line spells in hexadecimal, for the elements that a conversion goes
 // through, and for the longest blob.

@@ -1,0 +1,60 @@
+-- `serve_end` is safe: the reply is within out.
+use mathlib.Core.Path.{sym}
+use Prim.Native.Nat.{_≤_}
+use native.Mathlib.Omega.{arith}
+use lib.ListN.{length}
+use lib.Seq.{length-take-le}
+use Rattle.lines.specs.Served.{lastSaid}
+use Rattle.promises.proofs.Onto.{onto-within}
+use Rattle.probe_lines.specs.Line.{answerOf}
+use borrow.Author.Needs.{needs}
+use Rattle.replies.proofs.running.serve_end.Statement.{statement}
+use Rattle.replies.proofs.running.serve_end.Tie as tie
+
+finish-requires : tie.Need-finish-requires
+finish-requires c κs = search needs
+
+fits : (c : tie.After-finish) → c .finish .result ≤ length (c .finish .last .1 .1 .1 .1 .1 .0)
+fits c =
+    let a = c .before .before .before .before .before .before .before .before .before .before .args in
+    let f = c .finish in
+    let same = f .kept .1 .1 .1 .1 .1 .0 in
+    omega (arith, f .ensures .0, same, onto-within (lastSaid answerOf (a .kept .now) (a .held)) (a .out .now) (f .last .1 .1 .1 .1 .1 .0) (f .ensures .1) same)
+
+slice-reshare-prefix-write-all : tie.Need-slice-reshare-prefix-write-all
+slice-reshare-prefix-write-all c = omega (arith, fits (c .before .before .before .before .before .before .before .before))
+
+slice-aggregate-write-all : tie.Need-slice-aggregate-write-all
+slice-aggregate-write-all c = sym (length-take-le _ _ (omega (arith, fits (c .before .before .before .before .before .before .before .before .before))))
+
+write-all-requires : tie.Need-write-all-requires
+write-all-requires c κs = search needs
+
+same-length : tie.Need-same-length
+same-length c = search needs
+
+same-length-2 : tie.Need-same-length-2
+same-length-2 c = search needs
+
+same-length-3 : tie.Need-same-length-3
+same-length-3 c = search needs
+
+same-length-4 : tie.Need-same-length-4
+same-length-4 c = search needs
+
+returns : tie.Need-returns
+returns c = search needs
+
+pub serve-end-spec : {M : Type 1} → statement M
+serve-end-spec =
+    tie.close
+    (tie.spec
+    finish-requires
+    slice-reshare-prefix-write-all
+    slice-aggregate-write-all
+    write-all-requires
+    same-length
+    same-length-2
+    same-length-3
+    same-length-4
+    returns)

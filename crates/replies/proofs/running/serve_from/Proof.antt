@@ -1,0 +1,75 @@
+-- `serve_from` meets its contract: one call of `serve` is a step of the loop.
+use Prim.Native.Nat.{_+_}
+use native.Mathlib.Omega.{arith}
+use lib.ListN.{length}
+use Rattle.lines.specs.Output.{Stepped}
+use Rattle.lines.specs.declared.output.Step.{Step}
+use Rattle.lines.proofs.Serving.{stepped}
+use Rattle.probe_lines.specs.Line.{answerOf}
+use borrow.Author.Needs.{needs}
+use Rattle.replies.proofs.running.serve_from.Statement.{statement}
+use Rattle.replies.proofs.running.serve_from.Tie as tie
+
+sub-serve : tie.Need-sub-serve
+sub-serve c = search needs
+
+part-serve-start : tie.Need-part-serve-start
+part-serve-start c = search needs
+
+part-serve-end : tie.Need-part-serve-end
+part-serve-end c = search needs
+
+serve-requires : tie.Need-serve-requires
+serve-requires c κs = search needs
+
+-- a step of the loop, by what `serve` says of the line and of out
+abbrev step : tie.After-serve → Step
+step c = let r = c .serve .result in record { held = r .held; at = r .at; filled = c .before .before .before .before .before .before .before .before .before .before .before .before .args .start + r .said }
+
+steps : (c : tie.After-serve) → let a = c .before .before .before .before .before .before .before .before .before .before .before .before .args in
+    Stepped (length (a .chunk .now)) (a .at) (length (a .kept .now)) (a .held) (length (a .out .now)) (step c)
+steps c =
+    let s = c .serve in
+    let start = c .before .before .before .before .before .before .before .before .before .before .before .before in
+    let a = start .args in
+    stepped answerOf (a .kept .now) (a .chunk .now) (a .out .now) (s .last .1 .1 .1 .1 .1 .1 .1 .0) (a .at) (a .start) (a .held) (s .result)
+    (s .ensures .0) (s .ensures .1 .1) (s .kept .1 .1 .1 .1 .1 .1 .1 .0) (omega (arith, start .pre)) (omega (arith, start .pre))
+
+add-filled : tie.Need-add-filled
+add-filled c =
+    let here = c .before .before .before .before .before .before .before .before .before .before .before .before in
+    omega (arith, steps here .fits, here .before .before .before .before .before .before .before .before .before .before .before .before .good)
+
+same-length : tie.Need-same-length
+same-length c = search needs
+
+same-length-2 : tie.Need-same-length-2
+same-length-2 c = search needs
+
+same-length-3 : tie.Need-same-length-3
+same-length-3 c = search needs
+
+same-length-4 : tie.Need-same-length-4
+same-length-4 c = search needs
+
+same-length-5 : tie.Need-same-length-5
+same-length-5 c = search needs
+
+returns : tie.Need-returns
+returns c = steps (c .before .before .before .before .before .before .before .before .before .before .before .before)
+
+pub serve-from-spec : {M : Type 1} → statement M
+serve-from-spec =
+    tie.close
+    (tie.spec
+    sub-serve
+    part-serve-start
+    part-serve-end
+    serve-requires
+    add-filled
+    same-length
+    same-length-2
+    same-length-3
+    same-length-4
+    same-length-5
+    returns)
