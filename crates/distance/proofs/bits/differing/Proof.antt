@@ -1,13 +1,11 @@
 -- The count is the tally of the bytes before, which a turn takes by eight and then by one.
-use Prim.Native.Nat.{_+_, _*_, _-_, _/_, _≤_}
-use mathlib.Core.Path.{_≡_, refl}
+use Prim.Native.Nat.{_*_, _-_, _/_, _≤_}
+use mathlib.Core.Path.{_≡_}
 use native.Mathlib.Omega.{arith}
-use borrow.Author.Needs.{needs}
 use lib.Bits.{differ}
 use lib.ListN.{length}
-use Rattle.float_laws.specs.Running.{total}
 use Rattle.distance.specs.OneBit.{differing}
-use Rattle.distance.proofs.Counts.{Counted, counted-le, counted-more, one-byte, xor-digits}
+use Rattle.distance.proofs.Counts.{Counted, counted-none, counted-le, counted-byte, counted-word, xor-digits}
 use Rattle.distance.proofs.bits.differing.Statement.{statement}
 use Rattle.distance.proofs.bits.differing.Tie as tie
 
@@ -24,28 +22,21 @@ abbrev μ-loop2 : tie.MeasureT-loop2
 μ-loop2 a b size words count₀ k i₀ count i = size - i
 
 loop-holds : tie.Need-loop-holds Inv-loop μ-loop Inv-loop2 μ-loop2
-unfolding total
-loop-holds c = (
-  omega arith,
-  record {
-    left = λ k. c .before .shared-slice-known .given k .fits;
-    right = λ k. c .shared-slice-known2 .given k .fits;
-    count = refl;
-  },
-)
+loop-holds c =
+    let v = c .before in
+    (omega arith, counted-none differ _ _ (λ k. v .shared-slice-known .given k .fits) (λ k. c .shared-slice-known2 .given k .fits))
 
 add-count : tie.Need-add-count Inv-loop μ-loop Inv-loop2 μ-loop2
 add-count c =
     let v = c .before in
-    let inv = v .before .before .loop .inv in
-    omega (arith, counted-le xor-digits (counted-more xor-digits (inv .1) 8 _ _ (v .u64-at .ensures) (c .u64-at2 .ensures)))
+    let loop = v .before .before .loop in
+    omega (arith, counted-le xor-digits (counted-word xor-digits (loop .k) (v .u64-at .ensures) (c .u64-at2 .ensures) (loop .inv .1)))
 
 loop-again : tie.Need-loop-again Inv-loop μ-loop Inv-loop2 μ-loop2
 loop-again c =
     let v = c .before in
     let loop = v .before .before .loop in
-    let next : 8 * (loop .k + 1) ≡ 8 * loop .k + 8 = omega arith in
-    (omega arith, rw next (counted-more xor-digits (loop .inv .1) 8 _ _ (v .u64-at .ensures) (c .u64-at2 .ensures)))
+    (omega arith, counted-word xor-digits (loop .k) (v .u64-at .ensures) (c .u64-at2 .ensures) (loop .inv .1))
 
 loop2-holds : tie.Need-loop2-holds Inv-loop μ-loop Inv-loop2 μ-loop2
 loop2-holds c =
@@ -56,12 +47,12 @@ loop2-holds c =
 add-count-2 : tie.Need-add-count-2 Inv-loop μ-loop Inv-loop2 μ-loop2
 add-count-2 c =
     let inv = c .before .before .before .loop2 .inv in
-    omega (arith, counted-le xor-digits (counted-more xor-digits (inv .1) 1 _ _ (one-byte _ _) (one-byte _ _)))
+    omega (arith, counted-le xor-digits (counted-byte xor-digits (inv .1)))
 
 loop2-again : tie.Need-loop2-again Inv-loop μ-loop Inv-loop2 μ-loop2
 loop2-again c =
     let inv = c .before .before .before .loop2 .inv in
-    (omega arith, counted-more xor-digits (inv .1) 1 _ _ (one-byte _ _) (one-byte _ _))
+    (omega arith, counted-byte xor-digits (inv .1))
 
 returns : tie.Need-returns Inv-loop μ-loop Inv-loop2 μ-loop2
 unfolding differing

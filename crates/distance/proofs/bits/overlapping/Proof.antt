@@ -1,11 +1,10 @@
 -- Each count is the tally of the bytes before, which a turn takes by eight and then by one.
-use Prim.Native.Nat.{_+_, _*_, _-_, _/_, _≤_, min, max}
-use mathlib.Core.Path.{_≡_, refl}
+use Prim.Native.Nat.{_*_, _-_, _/_, _≤_, min, max}
+use mathlib.Core.Path.{_≡_}
 use native.Mathlib.Omega.{arith}
 use lib.ListN.{length}
-use Rattle.float_laws.specs.Running.{total}
 use Rattle.distance.specs.OneBit.{overlapOf}
-use Rattle.distance.proofs.Counts.{Counted, counted-le, counted-more, one-byte, and-digits, or-digits}
+use Rattle.distance.proofs.Counts.{Counted, counted-none, counted-le, counted-byte, counted-word, and-digits, or-digits}
 use Rattle.distance.proofs.bits.overlapping.Statement.{statement}
 use Rattle.distance.proofs.bits.overlapping.Tie as tie
 
@@ -22,32 +21,33 @@ abbrev μ-loop2 : tie.MeasureT-loop2
 μ-loop2 a b size words both₀ either₀ k i₀ both either i = size - i
 
 loop-holds : tie.Need-loop-holds Inv-loop μ-loop Inv-loop2 μ-loop2
-unfolding total
 loop-holds c =
     let v = c .before in (
       omega arith,
-      record { left = λ k. v .shared-slice-known .given k .fits; right = λ k. c .shared-slice-known2 .given k .fits; count = refl },
-      record { left = λ k. v .shared-slice-known .given k .fits; right = λ k. c .shared-slice-known2 .given k .fits; count = refl },
+      counted-none min _ _ (λ k. v .shared-slice-known .given k .fits) (λ k. c .shared-slice-known2 .given k .fits),
+      counted-none max _ _ (λ k. v .shared-slice-known .given k .fits) (λ k. c .shared-slice-known2 .given k .fits),
     )
 
 add-both : tie.Need-add-both Inv-loop μ-loop Inv-loop2 μ-loop2
 add-both c =
     let v = c .before in
-    let inv = v .before .before .loop .inv in
-    omega (arith, counted-le and-digits (counted-more and-digits (inv .1) 8 _ _ (v .u64-at .ensures) (c .u64-at2 .ensures)))
+    let loop = v .before .before .loop in
+    omega (arith, counted-le and-digits (counted-word and-digits (loop .k) (v .u64-at .ensures) (c .u64-at2 .ensures) (loop .inv .1)))
 
 add-either : tie.Need-add-either Inv-loop μ-loop Inv-loop2 μ-loop2
 add-either c =
     let v = c .before in
-    let inv = v .before .before .loop .inv in
-    omega (arith, counted-le or-digits (counted-more or-digits (inv .2) 8 _ _ (v .u64-at .ensures) (c .u64-at2 .ensures)))
+    let loop = v .before .before .loop in
+    omega (arith, counted-le or-digits (counted-word or-digits (loop .k) (v .u64-at .ensures) (c .u64-at2 .ensures) (loop .inv .2)))
 
 loop-again : tie.Need-loop-again Inv-loop μ-loop Inv-loop2 μ-loop2
 loop-again c =
     let v = c .before in
-    let loop = v .before .before .loop in
-    let next : 8 * (loop .k + 1) ≡ 8 * loop .k + 8 = omega arith in
-    (omega arith, rw next (counted-more and-digits (loop .inv .1) 8 _ _ (v .u64-at .ensures) (c .u64-at2 .ensures)), rw next (counted-more or-digits (loop .inv .2) 8 _ _ (v .u64-at .ensures) (c .u64-at2 .ensures)))
+    let loop = v .before .before .loop in (
+      omega arith,
+      counted-word and-digits (loop .k) (v .u64-at .ensures) (c .u64-at2 .ensures) (loop .inv .1),
+      counted-word or-digits (loop .k) (v .u64-at .ensures) (c .u64-at2 .ensures) (loop .inv .2),
+    )
 
 loop2-holds : tie.Need-loop2-holds Inv-loop μ-loop Inv-loop2 μ-loop2
 loop2-holds c =
@@ -58,17 +58,17 @@ loop2-holds c =
 add-both-2 : tie.Need-add-both-2 Inv-loop μ-loop Inv-loop2 μ-loop2
 add-both-2 c =
     let inv = c .before .before .before .loop2 .inv in
-    omega (arith, counted-le and-digits (counted-more and-digits (inv .1) 1 _ _ (one-byte _ _) (one-byte _ _)))
+    omega (arith, counted-le and-digits (counted-byte and-digits (inv .1)))
 
 add-either-2 : tie.Need-add-either-2 Inv-loop μ-loop Inv-loop2 μ-loop2
 add-either-2 c =
     let inv = c .before .before .before .loop2 .inv in
-    omega (arith, counted-le or-digits (counted-more or-digits (inv .2) 1 _ _ (one-byte _ _) (one-byte _ _)))
+    omega (arith, counted-le or-digits (counted-byte or-digits (inv .2)))
 
 loop2-again : tie.Need-loop2-again Inv-loop μ-loop Inv-loop2 μ-loop2
 loop2-again c =
     let inv = c .before .before .before .loop2 .inv in
-    (omega arith, counted-more and-digits (inv .1) 1 _ _ (one-byte _ _) (one-byte _ _), counted-more or-digits (inv .2) 1 _ _ (one-byte _ _) (one-byte _ _))
+    (omega arith, counted-byte and-digits (inv .1), counted-byte or-digits (inv .2))
 
 returns : tie.Need-returns Inv-loop μ-loop Inv-loop2 μ-loop2
 unfolding overlapOf

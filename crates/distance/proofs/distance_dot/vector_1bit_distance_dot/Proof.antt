@@ -1,4 +1,4 @@
--- The count of the whole bytes of dims is at most 8 * 8192.
+-- The count of the whole bytes of dims, which is at most how many bits these have.
 use Prim.Native.Nat.{_*_}
 use native.Mathlib.Omega.{arith}
 use borrow.Author.Needs.{needs}
@@ -12,8 +12,9 @@ use Rattle.distance.proofs.distance_dot.vector_1bit_distance_dot.Tie as
 bit-dot-requires : tie.Need-bit-dot-requires
 unfolding differing
 bit-dot-requires c κs =
-    let v = c .before .before .before in
-    (omega arith, omega (arith, c .differing .ensures, tally-le xor-digits (v .args .a .now) (v .args .b .now) (8 * length (v .args .a .now))))
+    let a = c .before .before .before .args in
+    let few = tally-le xor-digits (a .a .now) (a .b .now) (8 * length (a .a .now)) in
+    (omega arith, omega (arith, c .differing .ensures))
 
 returns : tie.Need-returns
 unfolding dotOf

@@ -1,5 +1,7 @@
 -- The counts of the whole bytes of dims.
+use mathlib.Core.Path.{ap, _∙_}
 use borrow.Author.Needs.{needs}
+use Rattle.distance.specs.OneBit.{bitJaccard}
 use Rattle.distance.specs.Values.{jaccardOf}
 use Rattle.distance.proofs.jaccard.vector_1bit_distance_jaccard.Statement.{statement}
 use Rattle.distance.proofs.jaccard.vector_1bit_distance_jaccard.Tie as tie
@@ -8,7 +10,7 @@ returns : tie.Need-returns
 unfolding jaccardOf
 returns c =
     let v = c .before in
-    rw (← v .before .before .before .pre .1 .0, ← v .overlapping .ensures) (c .bit-jaccard .ensures)
+    rw (← v .before .before .before .pre .1 .0) (c .bit-jaccard .ensures ∙ ap bitJaccard (v .overlapping .ensures))
 
 pub vector-1bit-distance-jaccard-spec : {M : Type 1} → statement M
 vector-1bit-distance-jaccard-spec =
