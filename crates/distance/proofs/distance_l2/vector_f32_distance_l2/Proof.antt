@@ -24,11 +24,10 @@ loop-holds c = (omega arith, squares-none _ _ binary32)
 
 loop-again : tie.Need-loop-again Inv-loop μ-loop
 unfolding element
-loop-again c = (
-  omega arith,
-  squares-more _ _ _ _ _ (c .before .before .f32-at .ensures) (c .before .f32-at2 .ensures) binary32 _ _
-      (c .before .before .before .before .loop .inv .1) (c .l2-step32 .ensures),
-)
+loop-again c =
+    let p = c .before .before .f32-at .ensures in
+    let q = c .before .f32-at2 .ensures in
+    (omega arith, squares-more _ _ _ _ _ p q binary32 _ _ (c .before .before .before .before .loop .inv .1) (c .l2-step32 .ensures))
 
 returns : tie.Need-returns Inv-loop μ-loop
 unfolding l2Of
