@@ -1,5 +1,5 @@
--- The cases of a cosine by its tests, and the angle by a root: what both widths cite.
-use mathlib.Core.Path.{_≡_, refl}
+-- The angle by its root, in either width, and each case of a dense and of a sparse cosine by its tests.
+use mathlib.Core.Path.{_≡_}
 use mathlib.Core.Bool.{true, false, _&&_, _||_}
 use lib.Ieee.{Float, nan, Format, binary32, sub, mul, div}
 use Rattle.float_laws.specs.Zero.{plusZero}
@@ -17,13 +17,14 @@ module _ (f : Format) (s : Products) where
   unfolding denseCosine
   dense-zero p = rw p
 
-  pub dense-one : (isZero (s .norm1) && isZero (s .norm2)) ≡ false → isZero (s .dot) ≡ true → one ≡ denseCosine f s
-  unfolding denseCosine
-  dense-one p q = rw (p, q)
+  module _ (p : (isZero (s .norm1) && isZero (s .norm2)) ≡ false) where
+    pub dense-one : isZero (s .dot) ≡ true → one ≡ denseCosine f s
+    unfolding denseCosine
+    dense-one q = rw (p, q)
 
-  pub dense-angle : (isZero (s .norm1) && isZero (s .norm2)) ≡ false → isZero (s .dot) ≡ false → angle f s ≡ denseCosine f s
-  unfolding denseCosine
-  dense-angle p q = rw (p, q)
+    pub dense-angle : isZero (s .dot) ≡ false → angle f s ≡ denseCosine f s
+    unfolding denseCosine
+    dense-angle q = rw (p, q)
 
 module _ (s : Products) where
   pub sparse-nan : (isZero (s .norm1) || isZero (s .norm2)) ≡ true → nan ≡ sparseCosine s
