@@ -1,1 +1,4 @@
 pub mod Sums
+pub mod Existing
+pub mod Paired
+pub mod Determined
