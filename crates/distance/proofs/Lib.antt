@@ -1,3 +1,6 @@
 pub mod Sums
 pub mod Counts
 pub mod Cosines
+pub mod Existing
+pub mod Paired
+pub mod Determined

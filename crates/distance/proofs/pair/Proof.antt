@@ -1,74 +1,76 @@
+-- Each return is a path of `pairOf`; the two bodies fit what is measured.
+use mathlib.Core.Path.{_≡_, sym, _∙_}
+use mathlib.Core.Bool.{true}
+use Rattle.vector_types.specs.Layout.{byteOf, is}
+use Rattle.vector_types.proofs.Views.{told}
+use Rattle.vector_types.proofs.Rewritten.{body-is}
+use Rattle.distance.proofs.Paired.{dims-differ, kinds-differ, unmeasured, measured, body-length, body-fits, other-fits}
+use borrow.Author.Tests.{not-true, not-false}
 use borrow.Author.Needs.{needs}
 use Rattle.distance.proofs.pair.Statement.{statement}
 use Rattle.distance.proofs.pair.Tie as tie
-use Rattle.distance.proofs.pair.Reads as reads
-use Rattle.distance.proofs.pair.Lts as lts
-use Rattle.distance.proofs.measure.Reads as measure-reads
-use Rattle.distance.proofs.refuse.Reads as refuse-reads
-use Rattle.distance.proofs.table.exists.Reads as exists-reads
-use Rattle.distance.proofs.table.is_same_kind.Reads as is-same-kind-reads
 
--- src/lib.rt:85:9
-refuse-requires : tie.Need-refuse-requires
-refuse-requires c κs = search needs
-
--- src/lib.rt:85:9
 returns : tie.Need-returns
-returns c = ?
+returns c =
+    let a = c .before .before .before .before .before .before .before .before .args in
+    c .refuse .ensures ∙ sym (dims-differ (a .distance) (a .v) (a .w) _ _ (c .before .if1 .taken))
 
--- src/lib.rt:89:9
-is-same-kind-requires : tie.Need-is-same-kind-requires
-is-same-kind-requires c κs = search needs
-
--- src/lib.rt:90:9
-refuse-requires-2 : tie.Need-refuse-requires-2
-refuse-requires-2 c κs = search needs
-
--- src/lib.rt:90:9
 returns-2 : tie.Need-returns-2
-returns-2 c = ?
+returns-2 c =
+    let a = c .before .before .before .before .before .before .before .before .before .before .args in
+    let s = c .before .before in
+    c .refuse2 .ensures
+    ∙ sym (kinds-differ (a .distance) (a .v) (a .w) _ _ (s .before .if1 .left) (sym (s .is-same-kind .ensures) ∙ not-true _ (c .before .if2 .taken)))
 
--- src/lib.rt:92:9
-exists-requires : tie.Need-exists-requires
-exists-requires c κs = search needs
+-- the kinds of the two are one
+alike : (c : tie.Else2) → let a = c .before .before .before .before .before .before .before .before .before .args in is (byteOf (a .w .kind)) (a .v .kind) ≡ true
+alike c = sym (c .before .is-same-kind .ensures) ∙ not-false _ (c .if2 .left)
 
--- src/lib.rt:93:9
-refuse-requires-3 : tie.Need-refuse-requires-3
-refuse-requires-3 c κs = search needs
-
--- src/lib.rt:93:9
 returns-3 : tie.Need-returns-3
-returns-3 c = ?
+returns-3 c =
+    let s = c .before .before .before in
+    let a = s .before .before .before .before .before .before .before .before .before .args in
+    c .refuse3 .ensures
+    ∙ sym (unmeasured (a .distance) (a .v) (a .w) _ _ (s .before .before .if1 .left) (alike s) (sym (c .before .before .exists .ensures) ∙ not-true _ (c .before .if3 .taken)))
 
--- src/lib.rt:97:9
 slice-aggregate-a : tie.Need-slice-aggregate-a
-slice-aggregate-a c = ?
+slice-aggregate-a c =
+    let a = c .before .before .before .before .before .before .before .before .before .before .before .before in
+    sym (body-length (a .args .first .now) (a .args .v) (a .pre .0))
 
--- src/lib.rt:98:9
 slice-aggregate-b : tie.Need-slice-aggregate-b
-slice-aggregate-b c = ?
+slice-aggregate-b c =
+    let a = c .before .before .before .before .before .before .before .before .before .before .before .before .before in
+    sym (body-length (a .args .second .now) (a .args .w) (a .pre .1))
 
--- src/lib.rt:99:30
 measure-requires : tie.Need-measure-requires
-measure-requires c κs = ?
+measure-requires c κs =
+    let s = c .before .before .before .before in
+    let a = s .before .before .before .before .before .before .before .before .before in
+    let first = a .args .first .now in
+    let v = a .args .v in (
+      told first v (a .pre .0) .few,
+      (
+        body-fits first v (a .pre .0),
+        (
+          other-fits (a .args .second .now) v (a .args .w) (a .pre .1) (s .before .before .if1 .left) (alike s),
+          sym (c .before .before .before .exists .ensures) ∙ not-false _ (c .before .before .if3 .left),
+        ),
+      ),
+    )
 
--- src/lib.rt:77:1
 returns-4 : tie.Need-returns-4
-returns-4 c = ?
+returns-4 c =
+    let s = c .before .before .before .before .before in
+    let a = s .before .before .before .before .before .before .before .before .before in
+    rw (body-is (a .args .first .now) (a .args .v) (a .pre .0), body-is (a .args .second .now) (a .args .w) (a .pre .1))
+    (sym (measured (a .args .distance) (a .args .v) (a .args .w) _ _ (s .before .before .if1 .left) (alike s) _ (c .measure .ensures)))
 
 pub pair-spec : {M : Type 1} → statement M
 pair-spec =
     tie.close
     (tie.spec
-    refuse-requires
-    returns
-    is-same-kind-requires
-    refuse-requires-2
-    returns-2
-    exists-requires
-    refuse-requires-3
-    returns-3
-    slice-aggregate-a
-    slice-aggregate-b
-    measure-requires
-    returns-4)
+    (λ c κs. search needs) returns
+    (λ c κs. search needs) (λ c κs. search needs) returns-2
+    (λ c κs. search needs) (λ c κs. search needs) returns-3
+    slice-aggregate-a slice-aggregate-b measure-requires returns-4)
