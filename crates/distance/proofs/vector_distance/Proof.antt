@@ -5,8 +5,8 @@ use borrow.Author.Needs.{needs}
 use Rattle.distance.proofs.vector_distance.Statement.{statement}
 use Rattle.distance.proofs.vector_distance.Tie as tie
 
-pair-requires : tie.Need-pair-requires
-pair-requires c κs =
+measure-views-requires : tie.Need-measure-views-requires
+measure-views-requires c κs =
     let u = c .before .before .before .before .before in
     (sym (u .before .before .read .ensures) ∙ u .v .given .1, sym (c .before .before .before .read2 .ensures) ∙ c .before .w .given .1)
 
@@ -25,7 +25,7 @@ unfolding distanceOf
 returns-3 c =
     let u = c .before .before .before .before .before .before in
     rw (sym (u .before .before .read .ensures) ∙ u .v .given .1, sym (c .before .before .before .before .read2 .ensures) ∙ c .before .before .w .given .1)
-    (c .pair .ensures)
+    (c .measure-views .ensures)
 
 pub vector-distance-spec : {M : Type 1} → statement M
 vector-distance-spec =
@@ -33,5 +33,5 @@ vector-distance-spec =
     (tie.spec
     (λ c κs. search needs)
     (λ c. search needs) (λ c. search needs) (λ c κs. search needs)
-    (λ c. search needs) (λ c. search needs) pair-requires
+    (λ c. search needs) (λ c. search needs) measure-views-requires
     returns returns-2 returns-3)

@@ -7,8 +7,8 @@ use Rattle.vector_types.proofs.Rewritten.{body-is}
 use Rattle.distance.proofs.Paired.{dims-differ, kinds-differ, unmeasured, measured, body-length, body-fits, other-fits}
 use borrow.Author.Tests.{not-true, not-false}
 use borrow.Author.Needs.{needs}
-use Rattle.distance.proofs.pair.Statement.{statement}
-use Rattle.distance.proofs.pair.Tie as tie
+use Rattle.distance.proofs.measure_views.Statement.{statement}
+use Rattle.distance.proofs.measure_views.Tie as tie
 
 returns : tie.Need-returns
 returns c =
@@ -66,8 +66,8 @@ returns-4 c =
     rw (body-is (a .args .first .now) (a .args .v) (a .pre .0), body-is (a .args .second .now) (a .args .w) (a .pre .1))
     (sym (measured (a .args .distance) (a .args .v) (a .args .w) _ _ (s .before .before .if1 .left) (alike s) _ (c .measure .ensures)))
 
-pub pair-spec : {M : Type 1} → statement M
-pair-spec =
+pub measure-views-spec : {M : Type 1} → statement M
+measure-views-spec =
     tie.close
     (tie.spec
     (λ c κs. search needs) returns
