@@ -4,3 +4,4 @@ pub mod Cosines
 pub mod Existing
 pub mod Paired
 pub mod Determined
+pub mod Merging
