@@ -1,11 +1,10 @@
--- The five whole-number sums of two bodies: over no pair and over one pair more, and room for each, since a sum of n terms of at most c is at most n * c.
+-- The five whole-number sums of two Float8 bodies, over no pair and over one pair more. Each term is at most 65,025, so n terms are at most n * 65,025.
 use mathlib.Core.Path.{_≡_, refl, _∙_}
 use Prim.Native.Nat.{ℕ, zero, suc, _+_, _*_, _≤_, _<_, zero-le}
 use native.Mathlib.Nat.{mul-le-mul, le-of-suc-le-suc}
 use native.Mathlib.Numerals.{add-one}
 use native.Mathlib.Omega.{arith}
 use mathlib.Core.List.{List}
-use lib.ListN.{getD}
 use Rattle.float_laws.specs.Running.{total}
 use Rattle.elements.specs.Bytes.{AreBytes}
 use Rattle.distance.specs.Float8.{byteAt, totalsOf}
@@ -53,16 +52,15 @@ pub record AtMost (m : ℕ) (t : Totals) : Type 0 where
   pub squares2 : t .squares2 ≤ m
   pub products : t .products ≤ m
 
-module _ (a b : List ℕ) (A : AreBytes a) (B : AreBytes b) where
-  pub totals-at-most : (n : ℕ) → AtMost (n * 65025) (totalsOf a b n)
-  unfolding totalsOf
-  totals-at-most n = record {
-    sum1 = total-at-most 65025 n (λ i. omega (arith, A i));
-    sum2 = total-at-most 65025 n (λ i. omega (arith, B i));
-    squares1 = total-at-most 65025 n (λ i. product-at-most (A i) (A i));
-    squares2 = total-at-most 65025 n (λ i. product-at-most (B i) (B i));
-    products = total-at-most 65025 n (λ i. product-at-most (A i) (B i));
-  }
+pub totals-at-most : (a b : List ℕ) → AreBytes a → AreBytes b → (n : ℕ) → AtMost (n * 65025) (totalsOf a b n)
+unfolding totalsOf
+totals-at-most a b A B n = record {
+  sum1 = total-at-most 65025 n (λ i. omega (arith, A i));
+  sum2 = total-at-most 65025 n (λ i. omega (arith, B i));
+  squares1 = total-at-most 65025 n (λ i. product-at-most (A i) (A i));
+  squares2 = total-at-most 65025 n (λ i. product-at-most (B i) (B i));
+  products = total-at-most 65025 n (λ i. product-at-most (A i) (B i));
+}
 
 -- t has the sums over n pairs of bytes, with room for one pair more
 pub record Kept (a b : List ℕ) (n : ℕ) (t : Totals) : Type 0 where
