@@ -5,3 +5,5 @@ pub mod Existing
 pub mod Paired
 pub mod Determined
 pub mod Merging
+pub mod Totalled
+pub mod Exact
