@@ -1,11 +1,11 @@
 -- What a distance of two blobs answers: the reader's refusal of the first, then of the second, then 12, 13, 14; else the distance.
 use Prim.Native.Nat.{ℕ}
-use mathlib.Core.Bool.{cond}
-use mathlib.Core.List.{List}
+use mathlib.Core.Bool.{not}
+use mathlib.Core.List.{List, [], _∷_}
 use mathlib.Core.Option.{Option, none, some}
 use lib.Dec.{eqb}
 use lib.Ieee.{Float}
-use Rattle.vector_types.specs.Answers.{refusal}
+use Rattle.vector_types.specs.Answers.{refusal, Test, test, firstOf, unless}
 use Rattle.vector_types.specs.Layout.{byteOf, is}
 use Rattle.vector_types.specs.Read.{readOf}
 use Rattle.vector_types.specs.Parts.{bodyOf}
@@ -33,13 +33,17 @@ abbrev pub answered : Option Float → DistanceAnswer
 answered none = refuses 14
 answered (some x) = Measured x
 
+-- what refuses a pair of views, whatever is to be measured
+abbrev pub mismatches : View → View → List Test
+mismatches v w =
+    test 12 (not (eqb (v .dims .0) (w .dims .0)))
+    ∷ test 13 (not (is (byteOf (w .kind)) (v .kind)))
+    ∷ []
+
 -- of two views and their bodies
 unfoldable pub pairOf : Distance → View → View → List ℕ → List ℕ → DistanceAnswer
 unfolding valueOf
-pairOf m v w a b =
-    cond (eqb (v .dims .0) (w .dims .0))
-    (cond (is (byteOf (w .kind)) (v .kind)) (answered (valueOf m (v .kind) (v .dims .0) a b)) (refuses 13))
-    (refuses 12)
+pairOf m v w a b = unless (firstOf (mismatches v w)) (λ r. Refused r Neither) (answered (valueOf m (v .kind) (v .dims .0) a b))
 
 abbrev pub distanceIn : Distance → ReadAnswer → ReadAnswer → List ℕ → List ℕ → DistanceAnswer
 distanceIn m (Unread r) q a b = Refused r First

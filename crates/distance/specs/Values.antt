@@ -60,7 +60,7 @@ valueOf L2 k d a b = l2Of k d a b
 valueOf Dot k d a b = some (dotOf k d a b)
 valueOf Jaccard k d a b = some (jaccardOf k d a b)
 
--- which of the four exists for which of the five: all but L2 of Float1Bit (`exists-exactly`, proofs/Table.antt)
+-- which of the four exists for which of the five: all but L2 of Float1Bit (`exists-exactly`, proofs/Existing.antt)
 abbrev pub existsFor : Distance → VectorType → Bool
 existsFor Cos k = true
 existsFor L2 Float32Dense = true

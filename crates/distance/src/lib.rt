@@ -73,8 +73,14 @@ fn refuse(number: u8) -> DistanceAnswer
     DistanceAnswer::Refused(Refusal { number }, Which::Neither)
 }
 
-// The distance of two accepted blobs.
-fn pair(distance: Distance, first: &[u8], v: View, second: &[u8], w: View) -> DistanceAnswer
+// The distance of two accepted blobs, of which these are the views.
+pub fn measure_views(
+    distance: Distance,
+    first: &[u8],
+    v: View,
+    second: &[u8],
+    w: View,
+) -> DistanceAnswer
     requires { ⌜ readOf (now first) ≡ Seen v ⌝ }
     requires { ⌜ readOf (now second) ≡ Seen w ⌝ }
     ensures { λ r. ⌜ r ≡ pairOf distance v w (bodyOf (now (first .entry))) (bodyOf (now (second .entry))) ⌝ }
@@ -107,7 +113,7 @@ pub fn vector_distance(distance: Distance, first: &[u8], second: &[u8]) -> Dista
         ReadAnswer::Refused(refusal) => DistanceAnswer::Refused(refusal, Which::First),
         ReadAnswer::View(v) => match vector_types::read(second) {
             ReadAnswer::Refused(refusal) => DistanceAnswer::Refused(refusal, Which::Second),
-            ReadAnswer::View(w) => pair(distance, first, v, second, w),
+            ReadAnswer::View(w) => measure_views(distance, first, v, second, w),
         },
     }
 }

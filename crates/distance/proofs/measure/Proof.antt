@@ -1,74 +1,41 @@
+-- Each arm is its distance; an L2 that exists is not of 1-bit vectors.
+use mathlib.Core.Path.{sym, ap, _∙_}
+use mathlib.Core.Option.{some}
+use Rattle.distance.specs.Values.{existsFor, valueOf}
+use Rattle.distance.specs.declared.Distance.{Distance}
+use Rattle.distance.proofs.Existing.{l2-exists}
 use borrow.Author.Needs.{needs}
 use Rattle.distance.proofs.measure.Statement.{statement}
 use Rattle.distance.proofs.measure.Tie as tie
-use Rattle.distance.proofs.measure.Reads as reads
-use Rattle.distance.proofs.measure.Lts as lts
-use Rattle.distance.proofs.distance_cos.measure_cos.Reads as measure-cos-reads
-use Rattle.distance.proofs.distance_dot.measure_dot.Reads as measure-dot-reads
-use Rattle.distance.proofs.distance_l2.measure_l2.Reads as measure-l2-reads
-use Rattle.distance.proofs.jaccard.measure_jaccard.Reads as measure-jaccard-reads
 
--- src/lib.rt:63:26
-enum-told : tie.Need-enum-told
-enum-told c = search needs
-
--- src/lib.rt:63:26
-measure-cos-requires : tie.Need-measure-cos-requires
-measure-cos-requires c κs = search needs
-
--- src/lib.rt:64:25
-enum-told-2 : tie.Need-enum-told-2
-enum-told-2 c = search needs
-
--- src/lib.rt:64:25
 measure-l2-requires : tie.Need-measure-l2-requires
-measure-l2-requires c κs = ?
+measure-l2-requires c κs =
+    let a = c .before .before .before .before in
+    let e = ap (λ (m : Distance). existsFor m (a .args .kind)) (c .enum-told2 .given .1) in
+    (a .pre .0, (a .pre .1 .0, (a .pre .1 .1 .0, l2-exists (a .args .kind) (sym e ∙ a .pre .1 .1 .1))))
 
--- src/lib.rt:65:26
-enum-told-3 : tie.Need-enum-told-3
-enum-told-3 c = search needs
-
--- src/lib.rt:65:26
-measure-dot-requires : tie.Need-measure-dot-requires
-measure-dot-requires c κs = search needs
-
--- src/lib.rt:66:30
-enum-told-4 : tie.Need-enum-told-4
-enum-told-4 c = search needs
-
--- src/lib.rt:66:30
-measure-jaccard-requires : tie.Need-measure-jaccard-requires
-measure-jaccard-requires c κs = search needs
-
--- src/lib.rt:55:1
 returns : tie.Need-returns
-returns c = ?
+unfolding valueOf
+returns c = rw (c .before .enum-told .given .1) (ap some (c .measure-cos .ensures))
 
--- src/lib.rt:55:1
 returns-2 : tie.Need-returns-2
-returns-2 c = ?
+unfolding valueOf
+returns-2 c = rw (c .before .enum-told2 .given .1) (c .measure-l2 .ensures)
 
--- src/lib.rt:55:1
 returns-3 : tie.Need-returns-3
-returns-3 c = ?
+unfolding valueOf
+returns-3 c = rw (c .before .enum-told3 .given .1) (ap some (c .measure-dot .ensures))
 
--- src/lib.rt:55:1
 returns-4 : tie.Need-returns-4
-returns-4 c = ?
+unfolding valueOf
+returns-4 c = rw (c .before .enum-told4 .given .1) (ap some (c .measure-jaccard .ensures))
 
 pub measure-spec : {M : Type 1} → statement M
 measure-spec =
     tie.close
     (tie.spec
-    enum-told
-    measure-cos-requires
-    enum-told-2
-    measure-l2-requires
-    enum-told-3
-    measure-dot-requires
-    enum-told-4
-    measure-jaccard-requires
-    returns
-    returns-2
-    returns-3
-    returns-4)
+    (λ c. search needs) (λ c κs. search needs)
+    (λ c. search needs) measure-l2-requires
+    (λ c. search needs) (λ c κs. search needs)
+    (λ c. search needs) (λ c κs. search needs)
+    returns returns-2 returns-3 returns-4)

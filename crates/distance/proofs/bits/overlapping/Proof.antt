@@ -1,100 +1,81 @@
+-- Each count is the tally of the bytes before, which a turn takes by eight and then by one.
+use Prim.Native.Nat.{_*_, _-_, _/_, _≤_, min, max}
+use mathlib.Core.Path.{_≡_}
+use native.Mathlib.Omega.{arith}
+use lib.ListN.{length}
+use Rattle.distance.specs.OneBit.{overlapOf}
+use Rattle.distance.proofs.Counts.{Counted, counted-none, counted-le, counted-byte, counted-word, and-digits, or-digits}
 use Rattle.distance.proofs.bits.overlapping.Statement.{statement}
 use Rattle.distance.proofs.bits.overlapping.Tie as tie
-use Rattle.distance.proofs.bits.overlapping.Reads as reads
-use Rattle.distance.proofs.bits.overlapping.Lts as lts
-use Rattle.elements.proofs.u64_at.Reads as u64-at-reads
 
 abbrev Inv-loop : tie.InvT-loop
-Inv-loop a b size words both₀ either₀ k₀ both either k = ?
+Inv-loop a b size words both₀ either₀ k₀ both either k = (k ≤ words) × Counted min a b (8 * k) both × Counted max a b (8 * k) either
 
 abbrev μ-loop : tie.MeasureT-loop
-μ-loop a b size words both₀ either₀ k₀ both either k = ?
+μ-loop a b size words both₀ either₀ k₀ both either k = words - k
 
 abbrev Inv-loop2 : tie.InvT-loop2
-Inv-loop2 a b size words both₀ either₀ k i₀ both either i = ?
+Inv-loop2 a b size words both₀ either₀ k i₀ both either i = (i ≤ size) × Counted min a b i both × Counted max a b i either
 
 abbrev μ-loop2 : tie.MeasureT-loop2
-μ-loop2 a b size words both₀ either₀ k i₀ both either i = ?
+μ-loop2 a b size words both₀ either₀ k i₀ both either i = size - i
 
--- src/bits.rt:47:5
 loop-holds : tie.Need-loop-holds Inv-loop μ-loop Inv-loop2 μ-loop2
-loop-holds c = ?
+loop-holds c =
+    let v = c .before in (
+      omega arith,
+      counted-none min _ _ (λ k. v .shared-slice-known .given k .fits) (λ k. c .shared-slice-known2 .given k .fits),
+      counted-none max _ _ (λ k. v .shared-slice-known .given k .fits) (λ k. c .shared-slice-known2 .given k .fits),
+    )
 
--- src/bits.rt:48:37
-mul-u64-at : tie.Need-mul-u64-at Inv-loop μ-loop Inv-loop2 μ-loop2
-mul-u64-at c = ?
-
--- src/bits.rt:48:13
-u64-at-requires : tie.Need-u64-at-requires Inv-loop μ-loop Inv-loop2 μ-loop2
-u64-at-requires c κs = ?
-
--- src/bits.rt:49:37
-mul-u64-at-2 : tie.Need-mul-u64-at-2 Inv-loop μ-loop Inv-loop2 μ-loop2
-mul-u64-at-2 c = ?
-
--- src/bits.rt:49:13
-u64-at-requires-2 : tie.Need-u64-at-requires-2 Inv-loop μ-loop Inv-loop2 μ-loop2
-u64-at-requires-2 c κs = ?
-
--- src/bits.rt:50:9
 add-both : tie.Need-add-both Inv-loop μ-loop Inv-loop2 μ-loop2
-add-both c = ?
+add-both c =
+    let v = c .before in
+    let loop = v .before .before .loop in
+    omega (arith, counted-le and-digits (counted-word and-digits (loop .k) (v .u64-at .ensures) (c .u64-at2 .ensures) (loop .inv .1)))
 
--- src/bits.rt:51:9
 add-either : tie.Need-add-either Inv-loop μ-loop Inv-loop2 μ-loop2
-add-either c = ?
+add-either c =
+    let v = c .before in
+    let loop = v .before .before .loop in
+    omega (arith, counted-le or-digits (counted-word or-digits (loop .k) (v .u64-at .ensures) (c .u64-at2 .ensures) (loop .inv .2)))
 
--- src/bits.rt:52:9
-add-k : tie.Need-add-k Inv-loop μ-loop Inv-loop2 μ-loop2
-add-k c = ?
-
--- src/bits.rt:47:5
-loop-less : tie.Need-loop-less Inv-loop μ-loop Inv-loop2 μ-loop2
-loop-less c = ?
-
--- src/bits.rt:47:5
 loop-again : tie.Need-loop-again Inv-loop μ-loop Inv-loop2 μ-loop2
-loop-again c = ?
+loop-again c =
+    let v = c .before in
+    let loop = v .before .before .loop in (
+      omega arith,
+      counted-word and-digits (loop .k) (v .u64-at .ensures) (c .u64-at2 .ensures) (loop .inv .1),
+      counted-word or-digits (loop .k) (v .u64-at .ensures) (c .u64-at2 .ensures) (loop .inv .2),
+    )
 
--- src/bits.rt:54:17
-mul-i : tie.Need-mul-i Inv-loop μ-loop Inv-loop2 μ-loop2
-mul-i c = ?
-
--- src/bits.rt:55:5
 loop2-holds : tie.Need-loop2-holds Inv-loop μ-loop Inv-loop2 μ-loop2
-loop2-holds c = ?
+loop2-holds c =
+    let loop = c .before .loop in
+    let all : loop .k ≡ length (c .before .before .before .before .args .a .now) / 8 = omega arith in
+    (omega arith, rw (← all) (loop .inv .1), rw (← all) (loop .inv .2))
 
--- src/bits.rt:56:17
-shared-slice-read-x : tie.Need-shared-slice-read-x Inv-loop μ-loop Inv-loop2 μ-loop2
-shared-slice-read-x c = ?
-
--- src/bits.rt:57:17
-shared-slice-read-y : tie.Need-shared-slice-read-y Inv-loop μ-loop Inv-loop2 μ-loop2
-shared-slice-read-y c = ?
-
--- src/bits.rt:58:9
 add-both-2 : tie.Need-add-both-2 Inv-loop μ-loop Inv-loop2 μ-loop2
-add-both-2 c = ?
+add-both-2 c =
+    let inv = c .before .before .before .loop2 .inv in
+    omega (arith, counted-le and-digits (counted-byte and-digits (inv .1)))
 
--- src/bits.rt:59:9
 add-either-2 : tie.Need-add-either-2 Inv-loop μ-loop Inv-loop2 μ-loop2
-add-either-2 c = ?
+add-either-2 c =
+    let inv = c .before .before .before .loop2 .inv in
+    omega (arith, counted-le or-digits (counted-byte or-digits (inv .2)))
 
--- src/bits.rt:60:9
-add-i : tie.Need-add-i Inv-loop μ-loop Inv-loop2 μ-loop2
-add-i c = ?
-
--- src/bits.rt:55:5
-loop2-less : tie.Need-loop2-less Inv-loop μ-loop Inv-loop2 μ-loop2
-loop2-less c = ?
-
--- src/bits.rt:55:5
 loop2-again : tie.Need-loop2-again Inv-loop μ-loop Inv-loop2 μ-loop2
-loop2-again c = ?
+loop2-again c =
+    let inv = c .before .before .before .loop2 .inv in
+    (omega arith, counted-byte and-digits (inv .1), counted-byte or-digits (inv .2))
 
--- src/bits.rt:37:1
 returns : tie.Need-returns Inv-loop μ-loop Inv-loop2 μ-loop2
-returns c = ?
+unfolding overlapOf
+returns c =
+    let loop = c .before .loop2 in
+    let all : loop .i ≡ length (c .before .before .before .before .before .before .args .a .now) = omega arith in
+    rw (← all, loop .inv .1 .count, loop .inv .2 .count)
 
 pub overlapping-spec : {M : Type 1} → statement M
 overlapping-spec =
@@ -105,22 +86,22 @@ overlapping-spec =
     Inv-loop2
     μ-loop2
     loop-holds
-    mul-u64-at
-    u64-at-requires
-    mul-u64-at-2
-    u64-at-requires-2
+    (λ c. omega arith)
+    (λ c κs. omega arith)
+    (λ c. omega arith)
+    (λ c κs. omega arith)
     add-both
     add-either
-    add-k
-    loop-less
+    (λ c. omega arith)
+    (λ c. omega arith)
     loop-again
-    mul-i
+    (λ c. omega arith)
     loop2-holds
-    shared-slice-read-x
-    shared-slice-read-y
+    (λ c. omega arith)
+    (λ c. omega arith)
     add-both-2
     add-either-2
-    add-i
-    loop2-less
+    (λ c. omega arith)
+    (λ c. omega arith)
     loop2-again
     returns)

@@ -1,102 +1,43 @@
+-- Each turn of the loop is a turn of the merge.
+use Prim.Native.Nat.{_+_, _-_}
+use native.Mathlib.Omega.{arith}
+use borrow.Author.Needs.{needs}
+use lib.Ieee.{binary32}
+use Rattle.convert.specs.Dense.{count}
+use Rattle.distance.specs.Dense.{noProducts}
+use Rattle.distance.specs.Sparse.{entriesOf, productsRule, sparseProducts}
+use Rattle.distance.specs.Sums.{products32}
+use Rattle.distance.proofs.Merging.{Merging, merging-none, merging-done, merging-both, merging-left, merging-right}
 use Rattle.distance.proofs.distance_cos.sparse_sums.Statement.{statement}
 use Rattle.distance.proofs.distance_cos.sparse_sums.Tie as tie
-use Rattle.distance.proofs.distance_cos.sparse_sums.Reads as reads
-use Rattle.distance.proofs.distance_cos.sparse_sums.Lts as lts
-use Rattle.distance.proofs.distance_cos.CosSums32.left.Reads as left-reads
-use Rattle.distance.proofs.distance_cos.CosSums32.new.Reads as new-reads
-use Rattle.distance.proofs.distance_cos.CosSums32.right.Reads as right-reads
-use Rattle.distance.proofs.distance_cos.CosSums32.step.Reads as step-reads
-use Rattle.distance.proofs.sparse.next_turn.Reads as next-turn-reads
 
 abbrev Inv-loop : tie.InvT-loop
-Inv-loop a b left right sums₀ i₀ j₀ sums i j = ?
+Inv-loop a b left right sums₀ i₀ j₀ sums i j = Merging (productsRule binary32) (entriesOf a) (entriesOf b) noProducts (products32 sums) i j
 
 abbrev μ-loop : tie.MeasureT-loop
-μ-loop a b left right sums₀ i₀ j₀ sums i j = ?
+μ-loop a b left right sums₀ i₀ j₀ sums i j = (count a - i) + (count b - j)
 
--- src/distance_cos.rt:194:9
-new-requires : tie.Need-new-requires Inv-loop μ-loop
-new-requires c κs = ?
-
--- src/distance_cos.rt:197:5
 loop-holds : tie.Need-loop-holds Inv-loop μ-loop
-loop-holds c = ?
+loop-holds c = merging-none (c .new .ensures)
 
--- src/distance_cos.rt:198:15
-next-turn-requires : tie.Need-next-turn-requires Inv-loop μ-loop
-next-turn-requires c κs = ?
-
--- src/distance_cos.rt:199:27
-enum-told : tie.Need-enum-told Inv-loop μ-loop
-enum-told c = ?
-
--- src/distance_cos.rt:199:27
 returns : tie.Need-returns Inv-loop μ-loop
-returns c = ?
+unfolding sparseProducts
+returns c = merging-done (c .before .before .before .loop .inv) (c .before .before .next-turn .ensures) (c .enum-told .given .1)
 
--- src/distance_cos.rt:200:24
-enum-known-x : tie.Need-enum-known-x Inv-loop μ-loop
-enum-known-x c = ?
-
--- src/distance_cos.rt:201:17
-step-requires : tie.Need-step-requires Inv-loop μ-loop
-step-requires c κs = ?
-
--- src/distance_cos.rt:202:17
-add-i : tie.Need-add-i Inv-loop μ-loop
-add-i c = ?
-
--- src/distance_cos.rt:203:17
-add-j : tie.Need-add-j Inv-loop μ-loop
-add-j c = ?
-
--- src/distance_cos.rt:197:5
-loop-less : tie.Need-loop-less Inv-loop μ-loop
-loop-less c = ?
-
--- src/distance_cos.rt:197:5
 loop-again : tie.Need-loop-again Inv-loop μ-loop
-loop-again c = ?
+loop-again c =
+    let t = c .before .before in
+    merging-both (t .before .before .before .loop .inv) (t .before .before .next-turn .ensures) (t .x .given .1) (c .step .ensures)
 
--- src/distance_cos.rt:205:24
-enum-known-x-2 : tie.Need-enum-known-x-2 Inv-loop μ-loop
-enum-known-x-2 c = ?
-
--- src/distance_cos.rt:206:17
-left-requires : tie.Need-left-requires Inv-loop μ-loop
-left-requires c κs = ?
-
--- src/distance_cos.rt:207:17
-add-i-2 : tie.Need-add-i-2 Inv-loop μ-loop
-add-i-2 c = ?
-
--- src/distance_cos.rt:197:5
-loop-less-2 : tie.Need-loop-less-2 Inv-loop μ-loop
-loop-less-2 c = ?
-
--- src/distance_cos.rt:197:5
 loop-again-2 : tie.Need-loop-again-2 Inv-loop μ-loop
-loop-again-2 c = ?
+loop-again-2 c =
+    let t = c .before .before in
+    merging-left (t .before .before .before .loop .inv) (t .before .before .next-turn .ensures) (t .x2 .given .1) (c .left .ensures)
 
--- src/distance_cos.rt:209:25
-enum-known-y : tie.Need-enum-known-y Inv-loop μ-loop
-enum-known-y c = ?
-
--- src/distance_cos.rt:210:17
-right-requires : tie.Need-right-requires Inv-loop μ-loop
-right-requires c κs = ?
-
--- src/distance_cos.rt:211:17
-add-j-2 : tie.Need-add-j-2 Inv-loop μ-loop
-add-j-2 c = ?
-
--- src/distance_cos.rt:197:5
-loop-less-3 : tie.Need-loop-less-3 Inv-loop μ-loop
-loop-less-3 c = ?
-
--- src/distance_cos.rt:197:5
 loop-again-3 : tie.Need-loop-again-3 Inv-loop μ-loop
-loop-again-3 c = ?
+loop-again-3 c =
+    let t = c .before .before in
+    merging-right (t .before .before .before .loop .inv) (t .before .before .next-turn .ensures) (t .y .given .1) (c .right .ensures)
 
 pub sparse-sums-spec : {M : Type 1} → statement M
 sparse-sums-spec =
@@ -104,24 +45,24 @@ sparse-sums-spec =
     (tie.spec
     Inv-loop
     μ-loop
-    new-requires
+    (λ c κs. search needs)
     loop-holds
-    next-turn-requires
-    enum-told
+    (λ c κs. search needs)
+    (λ c. search needs)
     returns
-    enum-known-x
-    step-requires
-    add-i
-    add-j
-    loop-less
+    (λ c. search needs)
+    (λ c κs. search needs)
+    (λ c. omega (arith, loop-again c))
+    (λ c. omega (arith, loop-again c))
+    (λ c. omega (arith, loop-again c))
     loop-again
-    enum-known-x-2
-    left-requires
-    add-i-2
-    loop-less-2
+    (λ c. search needs)
+    (λ c κs. search needs)
+    (λ c. omega (arith, loop-again-2 c))
+    (λ c. omega (arith, loop-again-2 c))
     loop-again-2
-    enum-known-y
-    right-requires
-    add-j-2
-    loop-less-3
+    (λ c. search needs)
+    (λ c κs. search needs)
+    (λ c. omega (arith, loop-again-3 c))
+    (λ c. omega (arith, loop-again-3 c))
     loop-again-3)

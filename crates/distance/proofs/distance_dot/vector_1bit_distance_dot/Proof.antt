@@ -1,27 +1,27 @@
+-- The count of the whole bytes of dims, which is at most how many bits these have.
+use Prim.Native.Nat.{_*_}
+use native.Mathlib.Omega.{arith}
 use borrow.Author.Needs.{needs}
+use lib.ListN.{length}
+use Rattle.distance.specs.OneBit.{differing}
+use Rattle.distance.specs.Values.{dotOf}
+use Rattle.distance.proofs.Counts.{tally-le, xor-digits}
 use Rattle.distance.proofs.distance_dot.vector_1bit_distance_dot.Statement.{statement}
 use Rattle.distance.proofs.distance_dot.vector_1bit_distance_dot.Tie as tie
-use Rattle.distance.proofs.distance_dot.vector_1bit_distance_dot.Reads as reads
-use Rattle.distance.proofs.distance_dot.vector_1bit_distance_dot.Lts as lts
-use Rattle.distance.proofs.bits.differing.Reads as differing-reads
-use Rattle.distance.proofs.distance_dot.bit_dot.Reads as bit-dot-reads
 
--- src/distance_dot.rt:105:9
-differing-requires : tie.Need-differing-requires
-differing-requires c κs = search needs
-
--- src/distance_dot.rt:106:13
-cast-bit-dot : tie.Need-cast-bit-dot
-cast-bit-dot c = search needs
-
--- src/distance_dot.rt:106:5
 bit-dot-requires : tie.Need-bit-dot-requires
-bit-dot-requires c κs = ?
+unfolding differing
+bit-dot-requires c κs =
+    let a = c .before .before .before .args in
+    let few = tally-le xor-digits (a .a .now) (a .b .now) (8 * length (a .a .now)) in
+    (omega arith, omega (arith, c .differing .ensures))
 
--- src/distance_dot.rt:99:1
 returns : tie.Need-returns
-returns c = ?
+unfolding dotOf
+returns c =
+    let v = c .before in
+    rw (← v .before .before .before .pre .1 .0, ← v .differing .ensures) (c .bit-dot .ensures)
 
 pub vector-1bit-distance-dot-spec : {M : Type 1} → statement M
 vector-1bit-distance-dot-spec =
-    tie.close (tie.spec differing-requires cast-bit-dot bit-dot-requires returns)
+    tie.close (tie.spec (λ c κs. search needs) (λ c. search needs) bit-dot-requires returns)

@@ -1,55 +1,39 @@
+-- The loop adds one pair a turn.
+use mathlib.Core.Path.{_≡_, ap}
+use Prim.Native.Nat.{_-_, _≤_}
+use native.Mathlib.Omega.{arith}
+use borrow.Author.Needs.{needs}
+use lib.Ieee.{ofBits}
+use Rattle.convert.specs.Elements.{element}
+use Rattle.vector_types.specs.declared.VectorType.the-variants.{Float64Dense}
+use Rattle.distance.specs.Dense.{dots, dotBy}
+use Rattle.distance.specs.Values.{elements, dotOf}
+use Rattle.distance.proofs.Sums.{dots-none, dots-more}
 use Rattle.distance.proofs.distance_dot.vector_f64_distance_dot.Statement.{statement}
 use Rattle.distance.proofs.distance_dot.vector_f64_distance_dot.Tie as tie
-use Rattle.distance.proofs.distance_dot.vector_f64_distance_dot.Reads as reads
-use Rattle.distance.proofs.distance_dot.vector_f64_distance_dot.Lts as lts
-use Rattle.distance.proofs.distance_dot.dot_step.Reads as dot-step-reads
-use Rattle.elements.proofs.f64_at.Reads as f64-at-reads
 
 abbrev Inv-loop : tie.InvT-loop
-Inv-loop dims a b sum₀ i₀ sum i = ?
+Inv-loop dims a b sum₀ i₀ sum i = (i ≤ dims) × (sum ≡ dots (elements Float64Dense dims a) (elements Float64Dense dims b) i)
 
 abbrev μ-loop : tie.MeasureT-loop
-μ-loop dims a b sum₀ i₀ sum i = ?
+μ-loop dims a b sum₀ i₀ sum i = dims - i
 
--- src/distance_dot.rt:52:5
 loop-holds : tie.Need-loop-holds Inv-loop μ-loop
-loop-holds c = ?
+unfolding ofBits
+loop-holds c = (omega arith, dots-none _ _)
 
--- src/distance_dot.rt:53:37
-mul-f64-at : tie.Need-mul-f64-at Inv-loop μ-loop
-mul-f64-at c = ?
-
--- src/distance_dot.rt:53:13
-f64-at-requires : tie.Need-f64-at-requires Inv-loop μ-loop
-f64-at-requires c κs = ?
-
--- src/distance_dot.rt:54:37
-mul-f64-at-2 : tie.Need-mul-f64-at-2 Inv-loop μ-loop
-mul-f64-at-2 c = ?
-
--- src/distance_dot.rt:54:13
-f64-at-requires-2 : tie.Need-f64-at-requires-2 Inv-loop μ-loop
-f64-at-requires-2 c κs = ?
-
--- src/distance_dot.rt:55:9
-dot-step-requires : tie.Need-dot-step-requires Inv-loop μ-loop
-dot-step-requires c κs = ?
-
--- src/distance_dot.rt:56:9
-add-i : tie.Need-add-i Inv-loop μ-loop
-add-i c = ?
-
--- src/distance_dot.rt:52:5
-loop-less : tie.Need-loop-less Inv-loop μ-loop
-loop-less c = ?
-
--- src/distance_dot.rt:52:5
 loop-again : tie.Need-loop-again Inv-loop μ-loop
-loop-again c = ?
+unfolding element
+loop-again c =
+    let l = c .before .before .before .before .loop in
+    (omega arith, dots-more _ _ (l .i) _ _ (c .before .before .f64-at .ensures) (c .before .f64-at2 .ensures) _ _ (l .inv .1) (c .dot-step .ensures))
 
--- src/distance_dot.rt:44:1
 returns : tie.Need-returns Inv-loop μ-loop
-returns c = ?
+unfolding dotOf
+returns c =
+    let l = c .before .loop in
+    let all : l .i ≡ c .before .before .before .before .args .dims = omega arith in
+    ap dotBy (rw all at (l .inv .1))
 
 pub vector-f64-distance-dot-spec : {M : Type 1} → statement M
 vector-f64-distance-dot-spec =
@@ -58,12 +42,12 @@ vector-f64-distance-dot-spec =
     Inv-loop
     μ-loop
     loop-holds
-    mul-f64-at
-    f64-at-requires
-    mul-f64-at-2
-    f64-at-requires-2
-    dot-step-requires
-    add-i
-    loop-less
+    (λ c. search needs)
+    (λ c κs. search needs)
+    (λ c. search needs)
+    (λ c κs. search needs)
+    (λ c κs. search needs)
+    (λ c. search needs)
+    (λ c. search needs)
     loop-again
     returns)

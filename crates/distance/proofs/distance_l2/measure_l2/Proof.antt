@@ -1,84 +1,56 @@
+-- Each arm is the distance of its kind, and the body is as long as the kind has it; there is no arm for 1-bit vectors.
+use mathlib.Core.Path.{ap, sym, _∙_}
+use mathlib.Core.Bool.{true≢false}
+use mathlib.Core.Option.{some}
+use Rattle.vector_types.specs.Layout.{is}
+use Rattle.convert.proofs.Bodies.{float32-length, float64-length, float8-length}
+use Rattle.distance.specs.Values.{l2Of}
 use borrow.Author.Needs.{needs}
 use Rattle.distance.proofs.distance_l2.measure_l2.Statement.{statement}
 use Rattle.distance.proofs.distance_l2.measure_l2.Tie as tie
-use Rattle.distance.proofs.distance_l2.measure_l2.Reads as reads
-use Rattle.distance.proofs.distance_l2.measure_l2.Lts as lts
-use Rattle.distance.proofs.distance_l2.vector_f32_distance_l2.Reads as vector-f32-distance-l2-reads
-use Rattle.distance.proofs.distance_l2.vector_f32_sparse_distance_l2.Reads as vector-f32-sparse-distance-l2-reads
-use Rattle.distance.proofs.distance_l2.vector_f64_distance_l2.Reads as vector-f64-distance-l2-reads
-use Rattle.distance.proofs.distance_l2.vector_f8_distance_l2.Reads as vector-f8-distance-l2-reads
 
--- src/distance_l2.rt:143:37
-enum-told : tie.Need-enum-told
-enum-told c = search needs
-
--- src/distance_l2.rt:143:37
 vector-f32-distance-l2-requires : tie.Need-vector-f32-distance-l2-requires
-vector-f32-distance-l2-requires c κs = ?
+vector-f32-distance-l2-requires c κs =
+    let a = c .before .before .before .before in
+    let e = c .enum-told .given .1 in
+    (a .pre .0, (float32-length _ _ e (a .pre .1 .0), float32-length _ _ e (a .pre .1 .1 .0)))
 
--- src/distance_l2.rt:144:37
-enum-told-2 : tie.Need-enum-told-2
-enum-told-2 c = search needs
-
--- src/distance_l2.rt:144:37
 vector-f64-distance-l2-requires : tie.Need-vector-f64-distance-l2-requires
-vector-f64-distance-l2-requires c κs = ?
+vector-f64-distance-l2-requires c κs =
+    let a = c .before .before .before .before in
+    let e = c .enum-told2 .given .1 in
+    (a .pre .0, (float64-length _ _ e (a .pre .1 .0), float64-length _ _ e (a .pre .1 .1 .0)))
 
--- src/distance_l2.rt:145:38
-enum-told-3 : tie.Need-enum-told-3
-enum-told-3 c = search needs
-
--- src/distance_l2.rt:145:38
-vector-f32-sparse-distance-l2-requires : tie.Need-vector-f32-sparse-distance-l2-requires
-vector-f32-sparse-distance-l2-requires c κs = search needs
-
--- src/distance_l2.rt:146:31
-enum-told-4 : tie.Need-enum-told-4
-enum-told-4 c = search needs
-
--- src/distance_l2.rt:146:31
 vector-f8-distance-l2-requires : tie.Need-vector-f8-distance-l2-requires
-vector-f8-distance-l2-requires c κs = ?
+vector-f8-distance-l2-requires c κs =
+    let a = c .before .before .before .before in
+    let e = c .enum-told4 .given .1 in
+    (a .pre .0, (float8-length _ _ e (a .pre .1 .0), float8-length _ _ e (a .pre .1 .1 .0)))
 
--- src/distance_l2.rt:148:34
-enum-told-5 : tie.Need-enum-told-5
-enum-told-5 c = search needs
-
--- src/distance_l2.rt:135:1
 returns : tie.Need-returns
-returns c = ?
+returns c = rw (c .before .enum-told .given .1) (c .vector-f32-distance-l2 .ensures)
 
--- src/distance_l2.rt:135:1
 returns-2 : tie.Need-returns-2
-returns-2 c = ?
+returns-2 c = rw (c .before .enum-told2 .given .1) (c .vector-f64-distance-l2 .ensures)
 
--- src/distance_l2.rt:135:1
 returns-3 : tie.Need-returns-3
-returns-3 c = ?
+unfolding l2Of
+returns-3 c = rw (c .before .enum-told3 .given .1) (ap some (c .vector-f32-sparse-distance-l2 .ensures))
 
--- src/distance_l2.rt:135:1
 returns-4 : tie.Need-returns-4
-returns-4 c = ?
+returns-4 c = rw (c .before .enum-told4 .given .1) (c .vector-f8-distance-l2 .ensures)
 
--- src/distance_l2.rt:135:1
+-- the kind is not Float1Bit
 returns-5 : tie.Need-returns-5
-returns-5 c = ?
+returns-5 c = absurd (true≢false (sym (ap (is 3) (c .enum-told5 .given .1)) ∙ c .before .before .before .before .pre .1 .1 .1))
 
 pub measure-l2-spec : {M : Type 1} → statement M
 measure-l2-spec =
     tie.close
     (tie.spec
-    enum-told
-    vector-f32-distance-l2-requires
-    enum-told-2
-    vector-f64-distance-l2-requires
-    enum-told-3
-    vector-f32-sparse-distance-l2-requires
-    enum-told-4
-    vector-f8-distance-l2-requires
-    enum-told-5
-    returns
-    returns-2
-    returns-3
-    returns-4
-    returns-5)
+    (λ c. search needs) vector-f32-distance-l2-requires
+    (λ c. search needs) vector-f64-distance-l2-requires
+    (λ c. search needs) (λ c κs. search needs)
+    (λ c. search needs) vector-f8-distance-l2-requires
+    (λ c. search needs)
+    returns returns-2 returns-3 returns-4 returns-5)

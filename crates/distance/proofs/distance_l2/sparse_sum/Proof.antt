@@ -1,96 +1,44 @@
+-- Each turn of the loop is a turn of the merge.
+use mathlib.Core.Path.{refl}
+use Prim.Native.Nat.{_+_, _-_}
+use native.Mathlib.Omega.{arith}
+use borrow.Author.Needs.{needs}
+use lib.Ieee.{binary32, ofBits}
+use Rattle.float_laws.specs.Zero.{plusZero}
+use Rattle.convert.specs.Dense.{count}
+use Rattle.distance.specs.Sparse.{entriesOf, squaresRule, sparseSquares}
+use Rattle.distance.proofs.Merging.{Merging, merging-none, merging-done, merging-both, merging-left, merging-right}
 use Rattle.distance.proofs.distance_l2.sparse_sum.Statement.{statement}
 use Rattle.distance.proofs.distance_l2.sparse_sum.Tie as tie
-use Rattle.distance.proofs.distance_l2.sparse_sum.Reads as reads
-use Rattle.distance.proofs.distance_l2.sparse_sum.Lts as lts
-use Rattle.distance.proofs.distance_l2.l2_alone.Reads as l2-alone-reads
-use Rattle.distance.proofs.distance_l2.l2_step32.Reads as l2-step32-reads
-use Rattle.distance.proofs.sparse.next_turn.Reads as next-turn-reads
 
 abbrev Inv-loop : tie.InvT-loop
-Inv-loop a b left right sum₀ i₀ j₀ sum i j = ?
+Inv-loop a b left right sum₀ i₀ j₀ sum i j = Merging (squaresRule binary32) (entriesOf a) (entriesOf b) plusZero sum i j
 
 abbrev μ-loop : tie.MeasureT-loop
-μ-loop a b left right sum₀ i₀ j₀ sum i j = ?
+μ-loop a b left right sum₀ i₀ j₀ sum i j = (count a - i) + (count b - j)
 
--- src/distance_l2.rt:89:5
 loop-holds : tie.Need-loop-holds Inv-loop μ-loop
-loop-holds c = ?
+unfolding ofBits
+loop-holds c = merging-none refl
 
--- src/distance_l2.rt:90:15
-next-turn-requires : tie.Need-next-turn-requires Inv-loop μ-loop
-next-turn-requires c κs = ?
-
--- src/distance_l2.rt:91:27
-enum-told : tie.Need-enum-told Inv-loop μ-loop
-enum-told c = ?
-
--- src/distance_l2.rt:91:27
 returns : tie.Need-returns Inv-loop μ-loop
-returns c = ?
+unfolding sparseSquares
+returns c = merging-done (c .before .before .before .loop .inv) (c .before .before .next-turn .ensures) (c .enum-told .given .1)
 
--- src/distance_l2.rt:92:24
-enum-known-x : tie.Need-enum-known-x Inv-loop μ-loop
-enum-known-x c = ?
-
--- src/distance_l2.rt:93:17
-l2-step32-requires : tie.Need-l2-step32-requires Inv-loop μ-loop
-l2-step32-requires c κs = ?
-
--- src/distance_l2.rt:94:17
-add-i : tie.Need-add-i Inv-loop μ-loop
-add-i c = ?
-
--- src/distance_l2.rt:95:17
-add-j : tie.Need-add-j Inv-loop μ-loop
-add-j c = ?
-
--- src/distance_l2.rt:89:5
-loop-less : tie.Need-loop-less Inv-loop μ-loop
-loop-less c = ?
-
--- src/distance_l2.rt:89:5
 loop-again : tie.Need-loop-again Inv-loop μ-loop
-loop-again c = ?
+loop-again c =
+    let t = c .before .before in
+    merging-both (t .before .before .before .loop .inv) (t .before .before .next-turn .ensures) (t .x .given .1) (c .l2-step32 .ensures)
 
--- src/distance_l2.rt:97:24
-enum-known-x-2 : tie.Need-enum-known-x-2 Inv-loop μ-loop
-enum-known-x-2 c = ?
-
--- src/distance_l2.rt:98:17
-l2-alone-requires : tie.Need-l2-alone-requires Inv-loop μ-loop
-l2-alone-requires c κs = ?
-
--- src/distance_l2.rt:99:17
-add-i-2 : tie.Need-add-i-2 Inv-loop μ-loop
-add-i-2 c = ?
-
--- src/distance_l2.rt:89:5
-loop-less-2 : tie.Need-loop-less-2 Inv-loop μ-loop
-loop-less-2 c = ?
-
--- src/distance_l2.rt:89:5
 loop-again-2 : tie.Need-loop-again-2 Inv-loop μ-loop
-loop-again-2 c = ?
+loop-again-2 c =
+    let t = c .before .before in
+    merging-left (t .before .before .before .loop .inv) (t .before .before .next-turn .ensures) (t .x2 .given .1) (c .l2-alone .ensures)
 
--- src/distance_l2.rt:101:25
-enum-known-y : tie.Need-enum-known-y Inv-loop μ-loop
-enum-known-y c = ?
-
--- src/distance_l2.rt:102:17
-l2-alone-requires-2 : tie.Need-l2-alone-requires-2 Inv-loop μ-loop
-l2-alone-requires-2 c κs = ?
-
--- src/distance_l2.rt:103:17
-add-j-2 : tie.Need-add-j-2 Inv-loop μ-loop
-add-j-2 c = ?
-
--- src/distance_l2.rt:89:5
-loop-less-3 : tie.Need-loop-less-3 Inv-loop μ-loop
-loop-less-3 c = ?
-
--- src/distance_l2.rt:89:5
 loop-again-3 : tie.Need-loop-again-3 Inv-loop μ-loop
-loop-again-3 c = ?
+loop-again-3 c =
+    let t = c .before .before in
+    merging-right (t .before .before .before .loop .inv) (t .before .before .next-turn .ensures) (t .y .given .1) (c .l2-alone2 .ensures)
 
 pub sparse-sum-spec : {M : Type 1} → statement M
 sparse-sum-spec =
@@ -99,22 +47,22 @@ sparse-sum-spec =
     Inv-loop
     μ-loop
     loop-holds
-    next-turn-requires
-    enum-told
+    (λ c κs. search needs)
+    (λ c. search needs)
     returns
-    enum-known-x
-    l2-step32-requires
-    add-i
-    add-j
-    loop-less
+    (λ c. search needs)
+    (λ c κs. search needs)
+    (λ c. omega (arith, loop-again c))
+    (λ c. omega (arith, loop-again c))
+    (λ c. omega (arith, loop-again c))
     loop-again
-    enum-known-x-2
-    l2-alone-requires
-    add-i-2
-    loop-less-2
+    (λ c. search needs)
+    (λ c κs. search needs)
+    (λ c. omega (arith, loop-again-2 c))
+    (λ c. omega (arith, loop-again-2 c))
     loop-again-2
-    enum-known-y
-    l2-alone-requires-2
-    add-j-2
-    loop-less-3
+    (λ c. search needs)
+    (λ c κs. search needs)
+    (λ c. omega (arith, loop-again-3 c))
+    (λ c. omega (arith, loop-again-3 c))
     loop-again-3)

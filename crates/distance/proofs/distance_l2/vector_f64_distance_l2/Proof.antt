@@ -1,75 +1,44 @@
+-- The loop adds one squared difference a turn.
+use mathlib.Core.Path.{_≡_}
+use Prim.Native.Nat.{_-_, _≤_}
+use native.Mathlib.Omega.{arith}
+use borrow.Author.Needs.{needs}
+use lib.Ieee.{binary64, ofBits}
+use Rattle.convert.specs.Elements.{element}
+use Rattle.vector_types.specs.declared.VectorType.the-variants.{Float64Dense}
+use Rattle.distance.specs.Dense.{squares}
+use Rattle.distance.specs.Values.{elements, l2Of}
+use Rattle.distance.proofs.Sums.{squares-none, squares-more}
 use Rattle.distance.proofs.distance_l2.vector_f64_distance_l2.Statement.{statement}
 use Rattle.distance.proofs.distance_l2.vector_f64_distance_l2.Tie as tie
-use Rattle.distance.proofs.distance_l2.vector_f64_distance_l2.Reads as reads
-use Rattle.distance.proofs.distance_l2.vector_f64_distance_l2.Lts as lts
-use Rattle.distance.proofs.distance_l2.l2_step64.Reads as l2-step64-reads
-use Rattle.distance.proofs.distance_l2.root_of.Reads as root-of-reads
-use Rattle.elements.proofs.f64_at.Reads as f64-at-reads
 
 abbrev Inv-loop : tie.InvT-loop
-Inv-loop dims a b sum₀ i₀ sum i = ?
+Inv-loop dims a b sum₀ i₀ sum i = (i ≤ dims) × (sum ≡ squares binary64 (elements Float64Dense dims a) (elements Float64Dense dims b) i)
 
 abbrev μ-loop : tie.MeasureT-loop
-μ-loop dims a b sum₀ i₀ sum i = ?
+μ-loop dims a b sum₀ i₀ sum i = dims - i
 
--- src/distance_l2.rt:72:5
 loop-holds : tie.Need-loop-holds Inv-loop μ-loop
-loop-holds c = ?
+unfolding ofBits
+loop-holds c = (omega arith, squares-none _ _ binary64)
 
--- src/distance_l2.rt:73:37
-mul-f64-at : tie.Need-mul-f64-at Inv-loop μ-loop
-mul-f64-at c = ?
-
--- src/distance_l2.rt:73:13
-f64-at-requires : tie.Need-f64-at-requires Inv-loop μ-loop
-f64-at-requires c κs = ?
-
--- src/distance_l2.rt:74:37
-mul-f64-at-2 : tie.Need-mul-f64-at-2 Inv-loop μ-loop
-mul-f64-at-2 c = ?
-
--- src/distance_l2.rt:74:13
-f64-at-requires-2 : tie.Need-f64-at-requires-2 Inv-loop μ-loop
-f64-at-requires-2 c κs = ?
-
--- src/distance_l2.rt:75:9
-l2-step64-requires : tie.Need-l2-step64-requires Inv-loop μ-loop
-l2-step64-requires c κs = ?
-
--- src/distance_l2.rt:76:9
-add-i : tie.Need-add-i Inv-loop μ-loop
-add-i c = ?
-
--- src/distance_l2.rt:72:5
-loop-less : tie.Need-loop-less Inv-loop μ-loop
-loop-less c = ?
-
--- src/distance_l2.rt:72:5
 loop-again : tie.Need-loop-again Inv-loop μ-loop
-loop-again c = ?
+unfolding element
+loop-again c =
+    let p = c .before .before .f64-at .ensures in
+    let q = c .before .f64-at2 .ensures in
+    (omega arith, squares-more _ _ _ _ _ p q binary64 _ _ (c .before .before .before .before .loop .inv .1) (c .l2-step64 .ensures))
 
--- src/distance_l2.rt:78:5
-root-of-requires : tie.Need-root-of-requires Inv-loop μ-loop
-root-of-requires c κs = ?
-
--- src/distance_l2.rt:64:1
 returns : tie.Need-returns Inv-loop μ-loop
-returns c = ?
+unfolding l2Of
+returns c =
+    let e : c .before .before .loop .i ≡ c .before .before .before .before .before .args .dims = omega arith in
+    rw (c .root-of .ensures, c .before .before .loop .inv .1, e)
 
 pub vector-f64-distance-l2-spec : {M : Type 1} → statement M
 vector-f64-distance-l2-spec =
     tie.close
     (tie.spec
-    Inv-loop
-    μ-loop
-    loop-holds
-    mul-f64-at
-    f64-at-requires
-    mul-f64-at-2
-    f64-at-requires-2
-    l2-step64-requires
-    add-i
-    loop-less
-    loop-again
-    root-of-requires
-    returns)
+    Inv-loop μ-loop loop-holds
+    (λ c. omega arith) (λ c κs. omega arith) (λ c. omega arith) (λ c κs. omega arith) (λ c κs. search needs) (λ c. omega arith) (λ c. omega arith)
+    loop-again (λ c κs. search needs) returns)

@@ -1,100 +1,45 @@
+-- Each turn of the loop is a turn of the merge.
+use Prim.Native.Nat.{_+_, _-_}
+use native.Mathlib.Omega.{arith}
+use borrow.Author.Needs.{needs}
+use lib.Ieee.{binary32, ofBits}
+use Rattle.convert.specs.Dense.{count}
+use Rattle.distance.specs.Dense.{noShares}
+use Rattle.distance.specs.Sparse.{entriesOf, sharesRule, sparseShares}
+use Rattle.distance.specs.Sums.{shares32}
+use Rattle.distance.proofs.Merging.{Merging, merging-none, merging-done, merging-both, merging-left, merging-right}
 use Rattle.distance.proofs.jaccard.sparse_sums.Statement.{statement}
 use Rattle.distance.proofs.jaccard.sparse_sums.Tie as tie
-use Rattle.distance.proofs.jaccard.sparse_sums.Reads as reads
-use Rattle.distance.proofs.jaccard.sparse_sums.Lts as lts
-use Rattle.distance.proofs.jaccard.JaccardSums32.new.Reads as new-reads
-use Rattle.distance.proofs.jaccard.JaccardSums32.step.Reads as step-reads
-use Rattle.distance.proofs.sparse.next_turn.Reads as next-turn-reads
 
 abbrev Inv-loop : tie.InvT-loop
-Inv-loop a b left right sums₀ i₀ j₀ sums i j = ?
+Inv-loop a b left right sums₀ i₀ j₀ sums i j = Merging (sharesRule binary32) (entriesOf a) (entriesOf b) noShares (shares32 sums) i j
 
 abbrev μ-loop : tie.MeasureT-loop
-μ-loop a b left right sums₀ i₀ j₀ sums i j = ?
+μ-loop a b left right sums₀ i₀ j₀ sums i j = (count a - i) + (count b - j)
 
--- src/jaccard.rt:157:9
-new-requires : tie.Need-new-requires Inv-loop μ-loop
-new-requires c κs = ?
-
--- src/jaccard.rt:160:5
 loop-holds : tie.Need-loop-holds Inv-loop μ-loop
-loop-holds c = ?
+loop-holds c = merging-none (c .new .ensures)
 
--- src/jaccard.rt:161:15
-next-turn-requires : tie.Need-next-turn-requires Inv-loop μ-loop
-next-turn-requires c κs = ?
-
--- src/jaccard.rt:162:27
-enum-told : tie.Need-enum-told Inv-loop μ-loop
-enum-told c = ?
-
--- src/jaccard.rt:162:27
 returns : tie.Need-returns Inv-loop μ-loop
-returns c = ?
+unfolding sparseShares
+returns c = merging-done (c .before .before .before .loop .inv) (c .before .before .next-turn .ensures) (c .enum-told .given .1)
 
--- src/jaccard.rt:163:24
-enum-known-x : tie.Need-enum-known-x Inv-loop μ-loop
-enum-known-x c = ?
-
--- src/jaccard.rt:164:17
-step-requires : tie.Need-step-requires Inv-loop μ-loop
-step-requires c κs = ?
-
--- src/jaccard.rt:165:17
-add-i : tie.Need-add-i Inv-loop μ-loop
-add-i c = ?
-
--- src/jaccard.rt:166:17
-add-j : tie.Need-add-j Inv-loop μ-loop
-add-j c = ?
-
--- src/jaccard.rt:160:5
-loop-less : tie.Need-loop-less Inv-loop μ-loop
-loop-less c = ?
-
--- src/jaccard.rt:160:5
 loop-again : tie.Need-loop-again Inv-loop μ-loop
-loop-again c = ?
+loop-again c =
+    let t = c .before .before in
+    merging-both (t .before .before .before .loop .inv) (t .before .before .next-turn .ensures) (t .x .given .1) (c .step .ensures)
 
--- src/jaccard.rt:168:24
-enum-known-x-2 : tie.Need-enum-known-x-2 Inv-loop μ-loop
-enum-known-x-2 c = ?
-
--- src/jaccard.rt:169:17
-step-requires-2 : tie.Need-step-requires-2 Inv-loop μ-loop
-step-requires-2 c κs = ?
-
--- src/jaccard.rt:170:17
-add-i-2 : tie.Need-add-i-2 Inv-loop μ-loop
-add-i-2 c = ?
-
--- src/jaccard.rt:160:5
-loop-less-2 : tie.Need-loop-less-2 Inv-loop μ-loop
-loop-less-2 c = ?
-
--- src/jaccard.rt:160:5
 loop-again-2 : tie.Need-loop-again-2 Inv-loop μ-loop
-loop-again-2 c = ?
+unfolding ofBits
+loop-again-2 c =
+    let t = c .before .before in
+    merging-left (t .before .before .before .loop .inv) (t .before .before .next-turn .ensures) (t .x2 .given .1) (c .step2 .ensures)
 
--- src/jaccard.rt:172:25
-enum-known-y : tie.Need-enum-known-y Inv-loop μ-loop
-enum-known-y c = ?
-
--- src/jaccard.rt:173:17
-step-requires-3 : tie.Need-step-requires-3 Inv-loop μ-loop
-step-requires-3 c κs = ?
-
--- src/jaccard.rt:174:17
-add-j-2 : tie.Need-add-j-2 Inv-loop μ-loop
-add-j-2 c = ?
-
--- src/jaccard.rt:160:5
-loop-less-3 : tie.Need-loop-less-3 Inv-loop μ-loop
-loop-less-3 c = ?
-
--- src/jaccard.rt:160:5
 loop-again-3 : tie.Need-loop-again-3 Inv-loop μ-loop
-loop-again-3 c = ?
+unfolding ofBits
+loop-again-3 c =
+    let t = c .before .before in
+    merging-right (t .before .before .before .loop .inv) (t .before .before .next-turn .ensures) (t .y .given .1) (c .step3 .ensures)
 
 pub sparse-sums-spec : {M : Type 1} → statement M
 sparse-sums-spec =
@@ -102,24 +47,24 @@ sparse-sums-spec =
     (tie.spec
     Inv-loop
     μ-loop
-    new-requires
+    (λ c κs. search needs)
     loop-holds
-    next-turn-requires
-    enum-told
+    (λ c κs. search needs)
+    (λ c. search needs)
     returns
-    enum-known-x
-    step-requires
-    add-i
-    add-j
-    loop-less
+    (λ c. search needs)
+    (λ c κs. search needs)
+    (λ c. omega (arith, loop-again c))
+    (λ c. omega (arith, loop-again c))
+    (λ c. omega (arith, loop-again c))
     loop-again
-    enum-known-x-2
-    step-requires-2
-    add-i-2
-    loop-less-2
+    (λ c. search needs)
+    (λ c κs. search needs)
+    (λ c. omega (arith, loop-again-2 c))
+    (λ c. omega (arith, loop-again-2 c))
     loop-again-2
-    enum-known-y
-    step-requires-3
-    add-j-2
-    loop-less-3
+    (λ c. search needs)
+    (λ c κs. search needs)
+    (λ c. omega (arith, loop-again-3 c))
+    (λ c. omega (arith, loop-again-3 c))
     loop-again-3)

@@ -1,23 +1,17 @@
+-- The counts of the whole bytes of dims.
+use mathlib.Core.Path.{ap, _∙_}
 use borrow.Author.Needs.{needs}
+use Rattle.distance.specs.OneBit.{bitJaccard}
+use Rattle.distance.specs.Values.{jaccardOf}
 use Rattle.distance.proofs.jaccard.vector_1bit_distance_jaccard.Statement.{statement}
 use Rattle.distance.proofs.jaccard.vector_1bit_distance_jaccard.Tie as tie
-use Rattle.distance.proofs.jaccard.vector_1bit_distance_jaccard.Reads as reads
-use Rattle.distance.proofs.jaccard.vector_1bit_distance_jaccard.Lts as lts
-use Rattle.distance.proofs.bits.overlapping.Reads as overlapping-reads
-use Rattle.distance.proofs.jaccard.bit_jaccard.Reads as bit-jaccard-reads
 
--- src/jaccard.rt:203:9
-overlapping-requires : tie.Need-overlapping-requires
-overlapping-requires c κs = search needs
-
--- src/jaccard.rt:204:5
-bit-jaccard-requires : tie.Need-bit-jaccard-requires
-bit-jaccard-requires c κs = search needs
-
--- src/jaccard.rt:197:1
 returns : tie.Need-returns
-returns c = ?
+unfolding jaccardOf
+returns c =
+    let v = c .before in
+    rw (← v .before .before .before .pre .1 .0) (c .bit-jaccard .ensures ∙ ap bitJaccard (v .overlapping .ensures))
 
 pub vector-1bit-distance-jaccard-spec : {M : Type 1} → statement M
 vector-1bit-distance-jaccard-spec =
-    tie.close (tie.spec overlapping-requires bit-jaccard-requires returns)
+    tie.close (tie.spec (λ c κs. search needs) (λ c κs. search needs) returns)

@@ -1,36 +1,23 @@
+-- The cell of the table is the rule's.
+use native.Mathlib.Omega.{arith}
+use Rattle.distance.proofs.Existing.{row-below, column-below, cell}
 use borrow.Author.Needs.{needs}
 use Rattle.distance.proofs.table.exists.Statement.{statement}
 use Rattle.distance.proofs.table.exists.Tie as tie
-use Rattle.distance.proofs.table.exists.Reads as reads
-use Rattle.distance.proofs.table.exists.Lts as lts
-use Rattle.distance.proofs.table.column.Reads as column-reads
-use Rattle.distance.proofs.table.row.Reads as row-reads
 
--- src/table.rt:44:9
-row-requires : tie.Need-row-requires
-row-requires c κs = search needs
-
--- src/table.rt:45:9
-column-requires : tie.Need-column-requires
-column-requires c κs = search needs
-
--- src/table.rt:46:5
 mul-result : tie.Need-mul-result
-mul-result c = ?
+mul-result c = omega (arith, c .before .row .ensures, row-below (c .before .before .args .distance))
 
--- src/table.rt:46:5
 index-1-result : tie.Need-index-1-result
-index-1-result c = ?
+index-1-result c = omega (arith, c .before .row .ensures, row-below (c .before .before .args .distance))
 
--- src/table.rt:46:5
 index-2-result : tie.Need-index-2-result
-index-2-result c = ?
+index-2-result c = omega (arith, c .column .ensures, column-below (c .before .before .args .kind))
 
--- src/table.rt:41:1
 returns : tie.Need-returns
-returns c = ?
+returns c =
+    let a = c .before .before .before .args in
+    rw (c .before .before .row .ensures, c .before .column .ensures) (cell (a .distance) (a .kind))
 
 pub exists-spec : {M : Type 1} → statement M
-exists-spec =
-    tie.close
-    (tie.spec row-requires column-requires mul-result index-1-result index-2-result returns)
+exists-spec = tie.close (tie.spec (λ c κs. search needs) (λ c κs. search needs) mul-result index-1-result index-2-result returns)

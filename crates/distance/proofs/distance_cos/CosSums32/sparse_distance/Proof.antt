@@ -1,31 +1,25 @@
+-- Each way out is a case of the definition.
+use mathlib.Core.Path.{_∙_}
 use borrow.Author.Needs.{needs}
+use lib.Ieee.{ofBits, div}
+use Rattle.distance.specs.Sums.{products32}
+use Rattle.distance.proofs.Cosines.{sparse-nan, sparse-angle}
 use Rattle.distance.proofs.distance_cos.CosSums32.sparse_distance.Statement.{statement}
 use Rattle.distance.proofs.distance_cos.CosSums32.sparse_distance.Tie as tie
-use Rattle.distance.proofs.distance_cos.CosSums32.sparse_distance.Reads as reads
-use Rattle.distance.proofs.distance_cos.CosSums32.sparse_distance.Lts as lts
-use Rattle.distance.proofs.distance_cos.CosSums32.angle.Reads as angle-reads
-use Rattle.rounding.proofs.widen.Reads as widen-reads
 
--- src/distance_cos.rt:105:13
 returns : tie.Need-returns
-returns c = ?
+unfolding div ofBits
+returns c = sparse-nan (products32 (c .before .before .args .self)) (rw (c .if1 .taken))
 
--- src/distance_cos.rt:108:13
 returns-2 : tie.Need-returns-2
-returns-2 c = ?
+unfolding div ofBits
+returns-2 c = sparse-nan (products32 (c .before .before .before .before .args .self)) (rw (c .before .before .if1 .left, c .if2 .taken))
 
--- src/distance_cos.rt:110:25
-angle-requires : tie.Need-angle-requires
-angle-requires c κs = search needs
-
--- src/distance_cos.rt:110:9
-widen-requires : tie.Need-widen-requires
-widen-requires c κs = search needs
-
--- src/distance_cos.rt:101:5
 returns-3 : tie.Need-returns-3
-returns-3 c = ?
+unfolding ofBits
+returns-3 c =
+    let e = c .before .before in
+    c .widen .ensures ∙ c .before .angle .ensures ∙ sparse-angle (products32 (e .before .before .before .before .args .self)) (rw (e .before .before .if1 .left, e .if2 .left))
 
 pub sparse-distance-spec : {M : Type 1} → statement M
-sparse-distance-spec =
-    tie.close (tie.spec returns returns-2 angle-requires widen-requires returns-3)
+sparse-distance-spec = tie.close (tie.spec returns returns-2 (λ c κs. search needs) (λ c κs. search needs) returns-3)

@@ -1,25 +1,34 @@
+-- Each way out is a case of the definition.
+use mathlib.Core.Path.{_≡_, _∙_}
+use mathlib.Core.Bool.{false, _&&_}
+use mathlib.Core.Logic.{⊎-elim}
 use borrow.Author.Needs.{needs}
+use lib.Ieee.{binary64, ofBits}
+use Rattle.distance.specs.Dense.{isZero}
+use Rattle.distance.specs.Sums.{products64}
+use Rattle.distance.proofs.Cosines.{dense-zero, dense-one, dense-angle}
 use Rattle.distance.proofs.distance_cos.CosSums64.distance.Statement.{statement}
 use Rattle.distance.proofs.distance_cos.CosSums64.distance.Tie as tie
-use Rattle.distance.proofs.distance_cos.CosSums64.distance.Reads as reads
-use Rattle.distance.proofs.distance_cos.CosSums64.distance.Lts as lts
-use Rattle.distance.proofs.distance_cos.CosSums64.angle.Reads as angle-reads
 
--- src/distance_cos.rt:149:17
+-- after the tests of the norms
+not-both : (c : tie.Joined1) → let s = c .before .before .args .self in (isZero (s .norm1) && isZero (s .norm2)) ≡ false
+unfolding ofBits
+not-both c = ⊎-elim (λ w. rw (w .0 .taken, w .2 .left)) (λ w. rw (w .left)) (c .if1 .came)
+
 returns : tie.Need-returns
-returns c = ?
+unfolding ofBits
+returns c = dense-zero binary64 (products64 (c .before .before .before .before .args .self)) (rw (c .before .before .if1 .taken, c .if2 .taken))
 
--- src/distance_cos.rt:153:13
 returns-2 : tie.Need-returns-2
-returns-2 c = ?
+unfolding ofBits
+returns-2 c =
+    dense-one binary64 (products64 (c .before .before .before .before .args .self)) (not-both (c .before .before)) (c .if3 .taken)
 
--- src/distance_cos.rt:155:9
-angle-requires : tie.Need-angle-requires
-angle-requires c κs = search needs
-
--- src/distance_cos.rt:144:5
 returns-3 : tie.Need-returns-3
-returns-3 c = ?
+unfolding ofBits
+returns-3 c =
+    let e = c .before in
+    c .angle .ensures ∙ dense-angle binary64 (products64 (e .before .before .before .before .args .self)) (not-both (e .before .before)) (e .if3 .left)
 
 pub distance-spec : {M : Type 1} → statement M
-distance-spec = tie.close (tie.spec returns returns-2 angle-requires returns-3)
+distance-spec = tie.close (tie.spec returns returns-2 (λ c κs. search needs) returns-3)

@@ -1,15 +1,16 @@
+-- A sum of 0 gives NaN; else the quotient is taken from 1.
+use lib.Ieee.{div, ofBits}
+use Rattle.distance.specs.Dense.{jaccardBy}
 use Rattle.distance.proofs.jaccard.JaccardSums64.distance.Statement.{statement}
 use Rattle.distance.proofs.jaccard.JaccardSums64.distance.Tie as tie
-use Rattle.distance.proofs.jaccard.JaccardSums64.distance.Reads as reads
-use Rattle.distance.proofs.jaccard.JaccardSums64.distance.Lts as lts
 
--- src/jaccard.rt:115:13
 returns : tie.Need-returns
-returns c = ?
+unfolding jaccardBy div ofBits
+returns c = rw (c .if1 .taken)
 
--- src/jaccard.rt:111:5
 returns-2 : tie.Need-returns-2
-returns-2 c = ?
+unfolding jaccardBy ofBits
+returns-2 c = rw (c .before .if1 .left)
 
 pub distance-spec : {M : Type 1} → statement M
 distance-spec = tie.close (tie.spec returns returns-2)
