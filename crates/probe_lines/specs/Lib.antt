@@ -1,4 +1,5 @@
 pub mod Limits
 pub mod Blobs
+pub mod Near
 pub mod Line
 pub mod Examples

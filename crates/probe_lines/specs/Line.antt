@@ -1,9 +1,10 @@
 -- What vecprobe answers to a line. With | for a tab, the lines are
 --     root|W|F    narrow|F    widen|F    trunc|F
---     read|H    strict|H    write|K|N|H    conv|K|H
+--     read|H    strict|H    write|K|N|H    conv|K|H    near|D|P|A|B
 -- where W is 32 or 64 and F is a float's pattern in lower-case hexadecimal, the highest digit first; the answer is F|, and the
 -- pattern of the result, or for trunc a number of two digits. H is a blob, or for write a body, in lower-case hexadecimal, K a
--- type byte 1, 2, 3, 4 or 9, N dims in 1 to 10 decimal digits; `Blobs` has the answers. The answer to any other line is X.
+-- type byte 1, 2, 3, 4 or 9, N dims in 1 to 10 decimal digits; `Blobs` has the answers. D is cos, l2, dot or jac, and P, A and B
+-- are blobs too; `Near` has the answers. The answer to any other line is X.
 use Prim.Native.Nat.{ℕ}
 use mathlib.Core.Bool.{cond}
 use mathlib.Core.List.{List, [], _∷_, _++_}
@@ -15,12 +16,13 @@ use Rattle.rounding.specs.Truncate.{truncated}
 use Rattle.lines.specs.Text.{word, same}
 use Rattle.lines.specs.Hex.{patternOf}
 use Rattle.lines.specs.Parts.{fieldsOf}
-use Rattle.lines.specs.Fields.{other, one, two, three}
+use Rattle.lines.specs.Fields.{other, one, two, three, four}
 use Rattle.lines.specs.declared.hex.Found.{Found}
 use Rattle.lines.specs.declared.hex.Found.the-variants.{Number, Nothing}
 use Rattle.probe_lines.specs.Blobs.{readText, writeText, convText}
+use Rattle.probe_lines.specs.Near.{nearText}
 use Rattle.probe_lines.specs.declared.Verb.{Verb}
-use Rattle.probe_lines.specs.declared.Verb.the-variants.{Root, Float, Read, Write, Convert, Other}
+use Rattle.probe_lines.specs.declared.Verb.the-variants.{Root, Float, Read, Write, Convert, Near, Other}
 use Rattle.probe_lines.specs.declared.blobs.Reader.the-variants.{Plain, Strict}
 use Rattle.probe_lines.specs.declared.float.Work.{Work}
 use Rattle.probe_lines.specs.declared.float.Work.the-variants.{Root32, Root64, Narrow, Widen, Trunc}
@@ -70,16 +72,18 @@ verbOf first =
     (cond (same first (word "strict")) (Read Strict)
     (cond (same first (word "write")) Write
     (cond (same first (word "conv")) Convert
-    Other)))))))
+    (cond (same first (word "near")) Near
+    Other))))))))
 
 -- the answer to the other fields
 unfoldable pub answerTo : Verb → List (List ℕ) → List ℕ
-unfolding computedOf one two three ofWidth readText writeText convText
+unfolding computedOf one two three four ofWidth readText writeText convText nearText
 answerTo Root fields = two ofWidth fields
 answerTo (Float work) fields = one (computedOf work) fields
 answerTo (Read reader) fields = one (readText reader) fields
 answerTo Write fields = three writeText fields
 answerTo Convert fields = two convText fields
+answerTo Near fields = four nearText fields
 answerTo Other fields = other
 
 unfoldable pub answerBy : List (List ℕ) → List ℕ

@@ -1,6 +1,7 @@
 // What vecprobe answers to a line, by its first field.
 mod blobs;
 mod float;
+mod near;
 
 ghost use mathlib.Core.Path.{_≡_};
 ghost use Prim.Native.Nat.{_*_, _≤_};
@@ -17,6 +18,7 @@ use blobs::write_line;
 use float::Work;
 use float::computed;
 use lines::text::put_other;
+use near::near_line;
 
 // What a line asks for, by its first field.
 pub enum Verb {
@@ -25,6 +27,7 @@ pub enum Verb {
     Read(Reader),
     Write,
     Convert,
+    Near,
     Other,
 }
 
@@ -54,6 +57,9 @@ fn verb_of(word: &[u8]) -> Verb
     }
     if check::same(word, b"conv") {
         return Verb::Convert;
+    }
+    if check::same(word, b"near") {
+        return Verb::Near;
     }
     Verb::Other
 }
@@ -117,6 +123,7 @@ pub fn answer(
         Verb::Read(reader) => read_line(reader, rest, spelled, out),
         Verb::Write => write_line(rest, spelled, made, out),
         Verb::Convert => convert_line(rest, spelled, scratch, made, out),
+        Verb::Near => near_line(rest, spelled, out),
         Verb::Other => put_other(out),
     }
 }

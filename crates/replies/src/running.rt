@@ -54,17 +54,11 @@ fn reply_room() -> [u8; 1200000]
 }
 
 fn cannot_read() {
-    io::write_all(
-        libc::STDERR_FILENO,
-        b"standard input cannot be read\n",
-    );
+    io::write_all(libc::STDERR_FILENO, b"standard input cannot be read\n");
 }
 
 fn cannot_write() {
-    io::write_all(
-        libc::STDERR_FILENO,
-        b"standard output cannot be written\n",
-    );
+    io::write_all(libc::STDERR_FILENO, b"standard output cannot be written\n");
 }
 
 // Serves the next bytes of a chunk; the reply goes to out from `start` on.
@@ -142,7 +136,16 @@ fn serve_chunk(
             };
         };
         let step = serve_from(
-            program, chunk, at, kept, line, spelled, scratch, made, out, start,
+            program,
+            chunk,
+            at,
+            kept,
+            line,
+            spelled,
+            scratch,
+            made,
+            out,
+            start,
         );
         line = step.held;
         at = step.at;

@@ -59,7 +59,15 @@ fn put_line(
     ensures { λ _. ⌜ now (out .exit) ≡ onto (heldAnswer (answerOf program) (now (kept .entry)) held ++ (newline ∷ [])) (now (out .entry)) ⌝ }
 {
     let room = out.len() - 1;
-    let said = answer_held(program, kept, held, spelled, scratch, made, &mut out[..room]);
+    let said = answer_held(
+        program,
+        kept,
+        held,
+        spelled,
+        scratch,
+        made,
+        &mut out[..room],
+    );
     out[said] = b'\n';
     said + 1
 }
@@ -85,7 +93,15 @@ fn reply(
 {
     let number = held.before + 1;
     let head = lines::text::put_head(number, out);
-    let line = put_line(program, kept, held, spelled, scratch, made, &mut out[head..]);
+    let line = put_line(
+        program,
+        kept,
+        held,
+        spelled,
+        scratch,
+        made,
+        &mut out[head..],
+    );
     head + line
 }
 

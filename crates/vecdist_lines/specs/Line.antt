@@ -5,10 +5,10 @@
 use Prim.Native.Nat.{ℕ}
 use mathlib.Core.Bool.{cond}
 use mathlib.Core.List.{List, _++_}
-use lib.Ieee.{binary64, toBits}
+use lib.Ieee.{Float, binary64, toBits}
 use Rattle.io.specs.Digits.{digits}
 use Rattle.lines.specs.Text.{word, same}
-use Rattle.lines.specs.Decimal.{decimalOf}
+use Rattle.lines.specs.Printed.{headOf}
 use Rattle.lines.specs.Parts.{fieldsOf}
 use Rattle.lines.specs.Fields.{other, three, spelled}
 use Rattle.distance.specs.Answer.{distanceOf}
@@ -30,15 +30,21 @@ askedOf field =
     (cond (same field (word "jac")) (Known Jaccard)
     Unknown)))
 
--- the blob that a refusal is about
+-- a distance after a mark, and a refusal with the name of the blob that it is about
+abbrev pub valueText : List ℕ → Float → List ℕ
+valueText mark x = mark ++ digits 16 16 (toBits binary64 x)
+
+abbrev pub refusalText : ℕ → List ℕ → List ℕ
+refusalText n name = word "R\t" ++ (headOf n ++ name)
+
 abbrev pub nameOf : Which → List ℕ
 nameOf First = word "a"
 nameOf Second = word "b"
 nameOf Neither = word "-"
 
 unfoldable pub answerText : DistanceAnswer → List ℕ
-answerText (Measured x) = word "D\t" ++ digits 16 16 (toBits binary64 x)
-answerText (Refused r w) = word "R\t" ++ (decimalOf (r .number) ++ (word "\t" ++ nameOf w))
+answerText (Measured x) = valueText (word "D\t") x
+answerText (Refused r w) = refusalText (r .number) (nameOf w)
 
 -- the answer to the blobs that A and B spell, where D names a distance
 abbrev pub askedBy : Asked → List ℕ → List ℕ → List ℕ

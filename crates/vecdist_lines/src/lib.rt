@@ -3,8 +3,7 @@ ghost use mathlib.Core.Path.{_≡_};
 ghost use Prim.Native.Nat.{_+_, _*_, _≤_};
 ghost use lib.ListN.{length};
 ghost use Rattle.promises.specs.Onto.{onto};
-ghost use Rattle.vecdist_lines.specs.Line.{askedOf, nameOf, answerText, askedBy, answerOf};
-ghost use Rattle.vecdist_lines.specs.declared.Asked.the-variants.{Known};
+ghost use Rattle.vecdist_lines.specs.Line.{askedOf, valueText, refusalText, answerText, askedBy, answerOf};
 use distance::Distance;
 use distance::DistanceAnswer;
 use distance::Which;
@@ -19,7 +18,7 @@ pub enum Asked {
     Unknown,
 }
 
-fn asked_of(field: &[u8]) -> Asked
+pub fn asked_of(field: &[u8]) -> Asked
     ensures { λ r. ⌜ r ≡ askedOf (now (field .entry)) ⌝ }
 {
     if check::same(field, b"cos") {
@@ -37,17 +36,27 @@ fn asked_of(field: &[u8]) -> Asked
     Asked::Unknown
 }
 
-// Puts the name of the blob that a refusal is about.
-fn put_name(which: Which, out: &mut [u8]) -> usize
-    requires { ⌜ 1 ≤ length (now out) ⌝ }
-    ensures { λ r. ⌜ r ≡ length (nameOf which) ⌝ }
-    ensures { λ _. ⌜ now (out .exit) ≡ onto (nameOf which) (now (out .entry)) ⌝ }
+// Puts a mark and the pattern of a distance in sixteen digits at the start of out.
+pub fn put_value(mark: &[u8], x: f64, out: &mut [u8]) -> usize
+    requires { ⌜ length (now mark) ≤ 4 ⌝ }
+    requires { ⌜ 32 ≤ length (now out) ⌝ }
+    ensures { λ r. ⌜ r ≡ length (valueText (now (mark .entry)) x) ⌝ }
+    ensures { λ _. ⌜ now (out .exit) ≡ onto (valueText (now (mark .entry)) x) (now (out .entry)) ⌝ }
 {
-    match which {
-        Which::First => bytes::copy(b"a", out),
-        Which::Second => bytes::copy(b"b", out),
-        Which::Neither => bytes::copy(b"-", out),
-    }
+    let head = bytes::copy(mark, out);
+    head + lines::hex::put_hex(16, elements::bits64(x), &mut out[head..])
+}
+
+// Puts R, the number of a refusal, and the name of the blob that it is about, parted by tabs.
+pub fn put_refusal(number: u8, name: &[u8], out: &mut [u8]) -> usize
+    requires { ⌜ length (now name) ≡ 1 ⌝ }
+    requires { ⌜ 32 ≤ length (now out) ⌝ }
+    ensures { λ r. ⌜ r ≡ length (refusalText number (now (name .entry))) ⌝ }
+    ensures { λ _. ⌜ now (out .exit) ≡ onto (refusalText number (now (name .entry))) (now (out .entry)) ⌝ }
+{
+    let head = bytes::copy(b"R\t", out);
+    let told = head + lines::text::put_head(number as u64, &mut out[head..]);
+    told + bytes::copy(name, &mut out[told..])
 }
 
 // Puts an answer at the start of out.
@@ -57,15 +66,12 @@ fn put_answer(answer: DistanceAnswer, out: &mut [u8]) -> usize
     ensures { λ _. ⌜ now (out .exit) ≡ onto (answerText answer) (now (out .entry)) ⌝ }
 {
     match answer {
-        DistanceAnswer::Measured(x) => {
-            let head = bytes::copy(b"D\t", out);
-            head + lines::hex::put_hex(16, elements::bits64(x), &mut out[head..])
-        }
-        DistanceAnswer::Refused(refusal, which) => {
-            let head = bytes::copy(b"R\t", out);
-            let told = head + lines::text::put_head(refusal.number as u64, &mut out[head..]);
-            told + put_name(which, &mut out[told..])
-        }
+        DistanceAnswer::Measured(x) => put_value(b"D\t", x, out),
+        DistanceAnswer::Refused(refusal, which) => match which {
+            Which::First => put_refusal(refusal.number, b"a", out),
+            Which::Second => put_refusal(refusal.number, b"b", out),
+            Which::Neither => put_refusal(refusal.number, b"-", out),
+        },
     }
 }
 
