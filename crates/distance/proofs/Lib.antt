@@ -1,3 +1,4 @@
 pub mod Sums
 pub mod Totalled
 pub mod Exact
+pub mod EitherZero
