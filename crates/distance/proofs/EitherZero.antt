@@ -2,21 +2,16 @@
 -- or both zeros, and a sum that starts from +0.0 takes no notice of a zero's sign.
 use mathlib.Core.Path.{_≡_, refl, sym, ap, ap₂, _∙_}
 use mathlib.Core.Logic.{_⊎_, inl, inr}
-use mathlib.Core.Bool.{Bool, true, false, cond, true≢false, false≢true}
-use Prim.Native.Nat.{ℕ, zero, suc, _-_, _*_}
-use native.Mathlib.Nat.{mul-pos, zero-lt-suc, le-refl}
+use mathlib.Core.Bool.{Bool, true, false, cond}
+use Prim.Native.Nat.{ℕ, zero, suc, _-_}
+use native.Mathlib.Nat.{le-refl}
 use native.Mathlib.Omega.{arith}
-use borrow.Author.Tests.{ltb-false}
-use lib.IntN.{ℤ}
 use lib.Dec.{T, eqb, ltb}
-use lib.Ieee.{Float, nan, inf, fin, Format, up, down, add, lt, eq, ne, isNan, fits}
-use lib.Ieee.Fits.{up-pos, down-pos}
-use lib.Ieee.Compare.{differs-from-itself}
-use Rattle.float_laws.specs.Zero.{signedZero, plusZero, FromZero}
+use lib.Ieee.{Float, Format, add, lt, eq, isNan, fits}
+use Rattle.float_laws.specs.Zero.{plusZero, FromZero}
 use Rattle.float_laws.specs.Running.{running, AllFit}
-use Rattle.float_laws.proofs.Value.{zero-exp, fin-unique}
+use Rattle.float_laws.proofs.Order.{nan-lt, lt-nan, lt-asym, eq-self, nan-self, Alike, level}
 use Rattle.float_laws.proofs.Running.{plusZero-fromZero, add-fromZero, add-zero-term}
-use Rattle.convert.proofs.Ranged.{lt-trans, lt-self}
 use Rattle.distance.specs.Extremes.{lesser, greater, Chosen, IsLesser, IsGreater}
 use Rattle.distance.specs.Dense.{Shares, noShares, sharesBy, shares, sharesWith}
 use Rattle.distance.specs.Merged.{Entries, Rule, merged}
@@ -28,45 +23,7 @@ Order = Float → Float → Bool
 abbrev above : Order
 above x y = lt y x
 
--- ---- what is known of the order, in either direction
-lt-nan : (x y : Float) → isNan y ≡ true → lt x y ≡ false
-unfolding lt isNan
-lt-nan nan y n = refl
-lt-nan (inf s) nan n = refl
-lt-nan (inf s) (inf t) n = absurd (false≢true n)
-lt-nan (inf s) (fin t k d) n = absurd (false≢true n)
-lt-nan (fin s m e) nan n = refl
-lt-nan (fin s m e) (inf t) n = absurd (false≢true n)
-lt-nan (fin s m e) (fin t k d) n = absurd (false≢true n)
-
-nan-lt : (x y : Float) → isNan x ≡ true → lt x y ≡ false
-unfolding lt isNan
-nan-lt nan y n = refl
-nan-lt (inf s) y n = absurd (false≢true n)
-nan-lt (fin s m e) y n = absurd (false≢true n)
-
-lt-asym : (x y : Float) → lt x y ≡ true → lt y x ≡ false
-lt-asym x y h = go (lt y x) refl
-  where
-    go : (b : Bool) → lt y x ≡ b → b ≡ false
-    go true k = absurd (true≢false (sym (lt-trans x y x h k) ∙ lt-self x))
-    go false k = refl
-
-eq-self : (x : Float) → isNan x ≡ false → eq x x ≡ true
-unfolding ne isNan
-eq-self x h = go (eq x x) refl
-  where
-    go : (b : Bool) → eq x x ≡ b → b ≡ true
-    go true e = refl
-    go false e = sym h ∙ ap isNan (differs-from-itself x (rw e tt))
-
 -- ---- ours are choices
-nan-self : (x : Float) → isNan x ≡ true → eq x x ≡ false
-unfolding eq isNan
-nan-self nan h = refl
-nan-self (inf s) h = absurd (false≢true h)
-nan-self (fin s m e) h = absurd (false≢true h)
-
 module _ (before : Order) (nowhere : (x y : Float) → isNan x ≡ true → before x y ≡ false)
     (asym : (x y : Float) → before x y ≡ true → before y x ≡ false) where
   first-chosen : (x y : Float) → Chosen before x y (cond (eq x x) (cond (before y x) y x) y)
@@ -86,13 +43,6 @@ unfolding greater
 greater-is = first-chosen above (λ x y. lt-nan y x) (λ x y. lt-asym y x)
 
 -- ---- two choices of the same pair
-abbrev IsZero : Float → Type 0
-IsZero x = (s : Bool) × (x ≡ signedZero s)
-
--- the same, or zeros of any sign
-abbrev Alike : Float → Float → Type 0
-Alike x y = (x ≡ y) ⊎ (IsZero x × IsZero y)
-
 -- numbers of which neither comes before the other are alike
 abbrev Tied : Format → Order → Type 0
 Tied f before =
@@ -103,30 +53,6 @@ abbrev Chooses : Format → Order → (Float → Float → Float) → Type 0
 Chooses f before pick = (x y : Float) → T (fits f x) → T (fits f y) → Chosen before x y (pick x y)
 
 module _ (f : Format) where
-  zero-of : (s : Bool) (m : ℕ) (e d : ℤ) → T (fits f (fin s m e)) → m * up e * down d ≡ 0 → fin s m e ≡ signedZero s
-  zero-of s zero e d h v = ap (fin s zero) (zero-exp f s e h)
-  zero-of s (suc m) e d h v = absurd (omega (arith, mul-pos (mul-pos (zero-lt-suc m) (up-pos e)) (down-pos d)))
-
-  level : Tied f lt
-  unfolding lt isNan
-  level nan y a b h k p q = absurd (true≢false a)
-  level (inf s) nan a b h k p q = absurd (true≢false b)
-  level (inf true) (inf true) a b h k p q = inl refl
-  level (inf true) (inf false) a b h k p q = absurd (true≢false p)
-  level (inf false) (inf true) a b h k p q = absurd (true≢false q)
-  level (inf false) (inf false) a b h k p q = inl refl
-  level (inf true) (fin t n d) a b h k p q = absurd (true≢false p)
-  level (inf false) (fin t n d) a b h k p q = absurd (true≢false q)
-  level (fin s m e) nan a b h k p q = absurd (true≢false b)
-  level (fin s m e) (inf true) a b h k p q = absurd (true≢false q)
-  level (fin s m e) (inf false) a b h k p q = absurd (true≢false p)
-  level (fin true m e) (fin true n d) a b h k p q = inl (fin-unique f true m e n d h k (omega (arith, ltb-false)))
-  level (fin false m e) (fin false n d) a b h k p q = inl (fin-unique f false m e n d h k (omega (arith, ltb-false)))
-  level (fin true m e) (fin false n d) a b h k p q =
-      inr ((true, zero-of true m e d h (omega (arith, ltb-false))), (false, zero-of false n d e k (omega (arith, ltb-false))))
-  level (fin false m e) (fin true n d) a b h k p q =
-      inr ((false, zero-of false m e d h (omega (arith, ltb-false))), (true, zero-of true n d e k (omega (arith, ltb-false))))
-
   level-above : Tied f above
   level-above x y a b h k p q = level x y a b h k q p
 
