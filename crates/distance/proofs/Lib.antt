@@ -7,3 +7,4 @@ pub mod Determined
 pub mod Merging
 pub mod Totalled
 pub mod Exact
+pub mod EitherZero

@@ -8,6 +8,7 @@ pub mod Zero
 pub mod Running
 pub mod Whole
 pub mod Nan
+pub mod Order
 -- what their proofs share
 pub mod Sign
 pub mod Sum
