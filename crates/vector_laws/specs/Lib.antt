@@ -1,0 +1,3 @@
+pub mod Symmetric
+pub mod Walk
+pub mod Densely
