@@ -1,1 +1,2 @@
 pub mod SwappedSums
+pub mod SwappedMerge

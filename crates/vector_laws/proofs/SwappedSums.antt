@@ -1,7 +1,7 @@
 -- Sums over two rows with the rows exchanged: each term is the same the other way round, or, for Jaccard, may be the other zero, which no
 -- sum shows; the two norms of cosine change places, and the answer takes them in either order.
 use mathlib.Core.Path.{_≡_, refl, sym, _∙_}
-use mathlib.Core.Logic.{_⊎_, inl, inr}
+use mathlib.Core.Logic.{inl, inr}
 use mathlib.Core.Bool.{Bool, true, false, and-comm, or-comm}
 use Prim.Native.Nat.{ℕ}
 use lib.Ieee.{Float, nan, Format, binary32, binary64, mul, lt, ne, isNan}
@@ -29,7 +29,7 @@ dots-swap x y n = running-same binary64 _ _ n (λ i l. mul-comm binary64 (x i) (
 abbrev pub crossed : Products → Products
 crossed s = record { dot = s .dot; norm1 = s .norm2; norm2 = s .norm1 }
 
-pub products-swap : (f : Format) (x y : ℕ → Float) (n : ℕ) → products f x y n ≡ crossed (products f y x n)
+pub products-swap : (f : Format) (x y : ℕ → Float) (n : ℕ) → crossed (products f x y n) ≡ products f y x n
 unfolding products
 products-swap f x y n = rw (running-same f (λ i. mul f (x i) (y i)) (λ i. mul f (y i) (x i)) n (λ i l. mul-comm f (x i) (y i)))
 
