@@ -1,2 +1,4 @@
 pub mod SwappedSums
 pub mod SwappedMerge
+pub mod SwappedBits
+pub mod Swapped
