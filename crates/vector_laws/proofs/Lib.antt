@@ -2,3 +2,4 @@ pub mod SwappedSums
 pub mod SwappedMerge
 pub mod SwappedBits
 pub mod Swapped
+pub mod OneBitLaws

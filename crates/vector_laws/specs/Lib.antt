@@ -2,3 +2,4 @@ pub mod Symmetric
 pub mod Walk
 pub mod Densely
 pub mod SwapExamples
+pub mod Packed
