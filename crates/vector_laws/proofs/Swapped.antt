@@ -7,7 +7,8 @@ use mathlib.Core.Option.{some}
 use Prim.Native.Nat.{ℕ}
 use lib.Dec.{eqb}
 use borrow.Author.Tests.{eqb-true, eqb-false, eq-eqb, ne-eqb}
-use lib.Ieee.{binary32, binary64}
+use lib.Ieee.{Format, binary32, binary64}
+use Rattle.float_laws.specs.Running.{AllFit}
 use Rattle.vector_types.specs.Answers.{Test, test, firstOf, unless}
 use Rattle.vector_types.specs.Layout.{byteOf, is}
 use Rattle.vector_types.specs.Read.{readOf}
@@ -60,16 +61,16 @@ module _ (d : ℕ) (a b : List ℕ) where
   dot-swap Float1Bit o = ap (bitDot d) (differing-swap a b (wholeBits d))
   dot-swap Float8 o = absurd (false≢true o)
 
+  fit : (f : Format) (k : VectorType) (body : List ℕ) → AllFit f (element f k d body) d
+  fit f k body i l = element-fits f k d body i
+
   jaccard-swap : (k : VectorType) → jaccardOf k d a b ≡ jaccardOf k d b a
   unfolding jaccardOf element
-  jaccard-swap Float32Dense =
-      ap (jaccardBy binary32) (shares-swap binary32 _ _ d (λ i l. element-fits binary32 Float32Dense d a i) (λ i l. element-fits binary32 Float32Dense d b i))
-  jaccard-swap Float64Dense =
-      ap (jaccardBy binary64) (shares-swap binary64 _ _ d (λ i l. element-fits binary64 Float64Dense d a i) (λ i l. element-fits binary64 Float64Dense d b i))
+  jaccard-swap Float32Dense = ap (jaccardBy binary32) (shares-swap binary32 _ _ d (fit binary32 Float32Dense a) (fit binary32 Float32Dense b))
+  jaccard-swap Float64Dense = ap (jaccardBy binary64) (shares-swap binary64 _ _ d (fit binary64 Float64Dense a) (fit binary64 Float64Dense b))
   jaccard-swap Float32Sparse = ap (jaccardBy binary32) (sparse-shares-swap a b)
   jaccard-swap Float1Bit = ap bitJaccard (overlap-swap a b (wholeBits d))
-  jaccard-swap Float8 =
-      ap (jaccardBy binary64) (shares-swap binary64 _ _ d (λ i l. element-fits binary64 Float8 d a i) (λ i l. element-fits binary64 Float8 d b i))
+  jaccard-swap Float8 = ap (jaccardBy binary64) (shares-swap binary64 _ _ d (fit binary64 Float8 a) (fit binary64 Float8 b))
 
 pub value-swap : (m : Distance) (k : VectorType) (d : ℕ) (a b : List ℕ) → symmetric m k ≡ true → valueOf m k d a b ≡ valueOf m k d b a
 unfolding valueOf
