@@ -1,0 +1,2 @@
+-- Laws of distances
+pub mod Walked
