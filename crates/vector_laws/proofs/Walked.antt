@@ -95,35 +95,26 @@ module _ (v : Entries) (up : Rising v) where
       go true p = let l = ltb-true i (v .count) p in absurd (omega (arith, r .ahead i (le-refl i) l, below i l))
       go false p = ltb-false i (v .count) p
 
--- ---- the walk has come to t, and the merge as far
+-- ---- the walk has come to t, and the merge as far: with i entries of v behind it, and j of w
+start : (u : Entries) → Reached u 0 0
+start u = record { passed = λ a h. absurd (not-suc-le-zero h); ahead = λ a h k. omega arith }
+
 module _ {S : Type 0} (r : Rule S) (v w : Entries) (s : S) (vu : Rising v) (wu : Rising w) where
-  record Walking (t : ℕ) : Type 0 where
-    pub first : ℕ
-    pub second : ℕ
-    pub merging : Merging r v w s (walked r v w s t) first second
-    pub left : Reached v t first
-    pub right : Reached w t second
+  data Walking (t : ℕ) : Type 0 where
+    at : (i j : ℕ) → Merging r v w s (walked r v w s t) i j → Reached v t i → Reached w t j → Walking t
 
-  start : (u : Entries) → Reached u 0 0
-  start u = record { passed = λ a h. absurd (not-suc-le-zero h); ahead = λ a h k. omega arith }
-
-  onward : (t : ℕ) (k : Walking t) → Found v t (k .first) → Found w t (k .second) → Walking (suc t)
+  onward : (t i j : ℕ) → Merging r v w s (walked r v w s t) i j → Found v t i → Found w t j → Walking (suc t)
   unfolding walked
-  onward t k (hit l p x g) (hit m q y h) =
-      record { first = k .first + 1; second = k .second + 1; merging = rw (x, y) (merging-both (k .merging) (l, m, p ∙ sym q, refl, refl) refl refl); left = g; right = h }
-  onward t k (hit l p x g) (miss f y h) =
-      record { first = k .first + 1; second = k .second; merging = rw (x, y) (merging-left (k .merging) (l, rw p f, refl) refl refl); left = g; right = h }
-  onward t k (miss f x g) (hit m q y h) =
-      record { first = k .first; second = k .second + 1; merging = rw (x, y) (merging-right (k .merging) (m, rw q f, refl) refl refl); left = g; right = h }
-  onward t k (miss f x g) (miss e y h) = record { first = k .first; second = k .second; merging = rw (x, y) (k .merging); left = g; right = h }
+  onward t i j m (hit l p x g) (hit k q y h) = at (i + 1) (j + 1) (rw (x, y) (merging-both m (l, k, p ∙ sym q, refl, refl) refl refl)) g h
+  onward t i j m (hit l p x g) (miss f y h) = at (i + 1) j (rw (x, y) (merging-left m (l, rw p f, refl) refl refl)) g h
+  onward t i j m (miss f x g) (hit k q y h) = at i (j + 1) (rw (x, y) (merging-right m (k, rw q f, refl) refl refl)) g h
+  onward t i j m (miss f x g) (miss e y h) = at i j (rw (x, y) m) g h
 
   walking : (t : ℕ) → Walking t
   unfolding walked
-  walking zero = record { first = 0; second = 0; merging = merging-none refl; left = start v; right = start w }
-  walking (suc t) = let k = walking t in onward t k (look v vu t (k .first) (k .left)) (look w wu t (k .second) (k .right))
+  walking zero = at 0 0 (merging-none refl) (start v) (start w)
+  walking (suc t) = elim (walking t) [ at i j m g h ↦ onward t i j m (look v vu t i g) (look w wu t j h) ]
 
   pub merged-walked : (d : ℕ) → Below v d → Below w d → merge r v w s ≡ walked r v w s d
   unfolding merged
-  merged-walked d vb wb =
-      let k = walking d in
-      sym (merging-done (k .merging) {t = Done} (past v vu d (k .first) vb (k .left), past w wu d (k .second) wb (k .right)) refl)
+  merged-walked d vb wb = elim (walking d) [ at i j m g h ↦ sym (merging-done m {t = Done} (past v vu d i vb g, past w wu d j wb h) refl) ]
