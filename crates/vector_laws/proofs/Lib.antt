@@ -1,2 +1,4 @@
 -- Laws of distances
 pub mod Walked
+pub mod Summed
+pub mod Spreading
