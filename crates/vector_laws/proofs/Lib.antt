@@ -2,3 +2,4 @@
 pub mod Walked
 pub mod Summed
 pub mod Spreading
+pub mod KeptSums
