@@ -3,3 +3,4 @@ pub mod Walked
 pub mod Summed
 pub mod Spreading
 pub mod KeptSums
+pub mod Kept

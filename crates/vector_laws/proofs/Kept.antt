@@ -1,0 +1,132 @@
+-- Turning two sparse blobs with rising indices into Float32Dense keeps their distances, to the bit: the dense blobs read back, their
+-- sums are those of the sparse ones, and where no sum is a zero the two rules of cosine are one. It is what the converter and the writer do.
+use mathlib.Core.Path.{_≡_, refl, sym, ap, ap₂, subst, _∙_}
+use mathlib.Core.Bool.{Bool, true, false}
+use mathlib.Core.List.{List, append-nil}
+use mathlib.Core.Option.{some}
+use Prim.Native.Nat.{ℕ, _*_, _≤_}
+use native.Mathlib.Omega.{arith}
+use lib.Dec.{eqb}
+use lib.ListN.{length}
+use lib.Ieee.{binary32}
+use borrow.Author.Tests.{eqb-true, eqb-false, eq-eqb}
+use Rattle.vector_types.specs.Answers.{seen, dims}
+use Rattle.vector_types.specs.Layout.{mostDims, fits, strays, is, byteOf}
+use Rattle.vector_types.specs.Read.{readOf}
+use Rattle.vector_types.specs.Parts.{bodyOf}
+use Rattle.vector_types.specs.Write.{blobOf, tailOf}
+use Rattle.vector_types.specs.declared.View.{View}
+use Rattle.vector_types.specs.declared.VectorType.{VectorType}
+use Rattle.vector_types.specs.declared.VectorType.the-variants.{Float32Dense, Float32Sparse}
+use Rattle.vector_types.specs.declared.ReadAnswer.{ReadAnswer}
+use Rattle.vector_types.specs.declared.ReadAnswer.the-variants.{View as Seen}
+use Rattle.vector_types.proofs.Views.{told}
+use Rattle.vector_types.proofs.Written.{Writable, writable, unrefused, reads-back}
+use Rattle.vector_types.proofs.Rewritten.{rewritable}
+use Rattle.convert.specs.Dense.{spreadBody}
+use Rattle.convert.specs.Elements.{element, denseBody}
+use Rattle.convert.specs.Result.{resultOf, made}
+use Rattle.convert.proofs.Lengths.{length-dense}
+use Rattle.distance.specs.Dense.{Products, denseCosine, l2By, dotBy, jaccardBy}
+use Rattle.distance.specs.Sparse.{entriesOf, sparseProducts, sparseCosine}
+use Rattle.distance.specs.Values.{valueOf, cosineOf, l2Of, dotOf, jaccardOf}
+use Rattle.distance.specs.Answer.{answered, pairOf, distanceIn, distanceOf}
+use Rattle.distance.specs.declared.Distance.{Distance}
+use Rattle.distance.specs.declared.Distance.the-variants.{Cos, L2, Dot, Jaccard}
+use Rattle.distance.proofs.Paired.{dims-differ}
+use Rattle.vector_laws.specs.Walk.{Rising}
+use Rattle.vector_laws.specs.Densely.{densely, AllFinite, NoZero, Asks}
+use Rattle.vector_laws.proofs.KeptSums.{squares-kept, dots-kept, products-kept}
+
+-- ---- the values
+same-cosine : (s : Products) → NoZero s → denseCosine binary32 s ≡ sparseCosine s
+unfolding denseCosine sparseCosine
+same-cosine s n = rw (n .dot, n .norm1, n .norm2)
+
+module _ (d : ℕ) (a b : List ℕ) (au : Rising (entriesOf a)) (bu : Rising (entriesOf b))
+    (ai : strays Float32Sparse d a ≡ false) (bi : strays Float32Sparse d b ≡ false) where
+  abbrev dense : List ℕ → List ℕ
+  dense body = resultOf Float32Sparse Float32Dense d body
+
+  value-kept : (m : Distance) → Asks m a b → valueOf m Float32Dense d (dense a) (dense b) ≡ valueOf m Float32Sparse d a b
+  unfolding valueOf cosineOf l2Of dotOf jaccardOf resultOf made denseBody element
+  value-kept Cos (af, bf, n) =
+      ap some (ap (denseCosine binary32) (sym (products-kept d a b au bu ai bi af bf)) ∙ same-cosine (sparseProducts a b) n)
+  value-kept L2 h = ap (λ x. some (l2By x)) (sym (squares-kept d a b au bu ai bi))
+  value-kept Dot (af, bf) = ap (λ x. some (dotBy x)) (sym (dots-kept d a b au bu ai bi af bf))
+  value-kept Jaccard h = ?
+
+-- ---- the blobs
+-- a sparse blob that is read, and its dense form
+module _ (s : List ℕ) (v : View) (e : readOf s ≡ Seen v) (k : v .kind ≡ Float32Sparse) where
+  inside : strays Float32Sparse (v .dims .0) (bodyOf s) ≡ false
+  inside = subst (λ (k : VectorType). strays k (v .dims .0) (bodyOf s) ≡ false) k (writable (v .kind) (v .dims .0) (bodyOf s) (rewritable s v e) .inside)
+
+  length-made : length (resultOf Float32Sparse Float32Dense (v .dims .0) (bodyOf s)) ≡ 4 * (v .dims .0)
+  unfolding resultOf made
+  length-made = length-dense binary32 Float32Sparse (v .dims .0) (bodyOf s) inside
+
+  made-writable : Writable Float32Dense (v .dims .0) (resultOf Float32Sparse Float32Dense (v .dims .0) (bodyOf s))
+  unfolding blobOf tailOf fits
+  made-writable = record {
+    few = told s v e .few;
+    fit = eq-eqb _ _ length-made;
+    short = rw append-nil (omega (arith, length-made, told s v e .few));
+    inside = refl;
+    filled = refl;
+  }
+
+  densely-read : (readOf (densely s v) ≡ seen Float32Dense (v .dims .0) (length (resultOf Float32Sparse Float32Dense (v .dims .0) (bodyOf s))))
+      × (bodyOf (densely s v) ≡ resultOf Float32Sparse Float32Dense (v .dims .0) (bodyOf s))
+  densely-read = let new = resultOf Float32Sparse Float32Dense (v .dims .0) (bodyOf s) in
+      reads-back Float32Dense (v .dims .0) new (unrefused Float32Dense (v .dims .0) new made-writable)
+
+-- two views of one kind and dims
+alike-pair : (m : Distance) (v w : View) (a b : List ℕ) (k : VectorType) → v .dims .0 ≡ w .dims .0 → v .kind ≡ k → w .kind ≡ k
+    → pairOf m v w a b ≡ answered (valueOf m k (v .dims .0) a b)
+unfolding pairOf
+alike-pair m v w a b k d p q = rw (eq-eqb (v .dims .0) (w .dims .0) d, p, q, eq-eqb (byteOf k) (byteOf k) refl)
+
+seen-pair : (m : Distance) (s t : List ℕ) (v w : View) (a b : List ℕ) → readOf s ≡ Seen v → readOf t ≡ Seen w → bodyOf s ≡ a → bodyOf t ≡ b
+    → distanceOf m s t ≡ pairOf m v w a b
+unfolding distanceOf
+seen-pair m s t v w a b p q f g = rw (p, q, f, g)
+
+pub kept : (m : Distance) (s t : List ℕ) (v w : View) → readOf s ≡ Seen v → readOf t ≡ Seen w → v .kind ≡ Float32Sparse → w .kind ≡ Float32Sparse
+    → Rising (entriesOf (bodyOf s)) → Rising (entriesOf (bodyOf t)) → Asks m (bodyOf s) (bodyOf t)
+    → distanceOf m (densely s v) (densely t w) ≡ distanceOf m s t
+kept m s t v w p q kv kw su tu asks = go (eqb (v .dims .0) (w .dims .0)) refl
+  where
+    a : List ℕ
+    a = resultOf Float32Sparse Float32Dense (v .dims .0) (bodyOf s)
+
+    b : List ℕ
+    b = resultOf Float32Sparse Float32Dense (w .dims .0) (bodyOf t)
+
+    v′ : View
+    v′ = record { kind = Float32Dense; dims = dims (v .dims .0); length = length a }
+
+    w′ : View
+    w′ = record { kind = Float32Dense; dims = dims (w .dims .0); length = length b }
+
+    dense-pair : distanceOf m (densely s v) (densely t w) ≡ pairOf m v′ w′ a b
+    dense-pair =
+        let (f, x) = densely-read s v p kv in
+        let (g, y) = densely-read t w q kw in
+        seen-pair m (densely s v) (densely t w) v′ w′ a b f g x y
+
+    sparse-pair : distanceOf m s t ≡ pairOf m v w (bodyOf s) (bodyOf t)
+    sparse-pair = seen-pair m s t v w (bodyOf s) (bodyOf t) p q refl refl
+
+    go : (c : Bool) → eqb (v .dims .0) (w .dims .0) ≡ c → distanceOf m (densely s v) (densely t w) ≡ distanceOf m s t
+    go false e =
+        let differ = eqb-false (v .dims .0) (w .dims .0) e in
+        dense-pair ∙ dims-differ m v′ w′ a b differ ∙ sym (sparse-pair ∙ dims-differ m v w (bodyOf s) (bodyOf t) differ)
+    go true e =
+        let d = eqb-true (v .dims .0) (w .dims .0) e in
+        let ti = subst (λ (n : ℕ). strays Float32Sparse n (bodyOf t) ≡ false) (sym d) (inside t w q kw) in
+        dense-pair
+        ∙ alike-pair m v′ w′ a b Float32Dense d refl refl
+        ∙ ap (λ (n : ℕ). answered (valueOf m Float32Dense (v .dims .0) a (resultOf Float32Sparse Float32Dense n (bodyOf t)))) (sym d)
+        ∙ ap answered (value-kept (v .dims .0) (bodyOf s) (bodyOf t) su tu (inside s v p kv) ti m asks)
+        ∙ sym (sparse-pair ∙ alike-pair m v w (bodyOf s) (bodyOf t) Float32Sparse d kv kw)
