@@ -1,4 +1,6 @@
 -- Laws of distances
+pub mod SwappedSums
+pub mod SwappedMerge
 pub mod Walked
 pub mod Summed
 pub mod Spreading
