@@ -7,25 +7,27 @@ use mathlib.Core.Option.{some}
 use Prim.Native.Nat.{ℕ, _*_, _≤_}
 use native.Mathlib.Omega.{arith}
 use lib.Dec.{eqb}
-use lib.ListN.{length}
+use lib.ListN.{length, take, drop}
+use lib.Seq.{take-at}
 use lib.Ieee.{binary32}
-use borrow.Author.Tests.{eqb-true, eqb-false, eq-eqb}
-use Rattle.vector_types.specs.Answers.{seen, dims}
+use borrow.Author.Tests.{eqb-true, eqb-false, eq-eqb, le-ltb}
+use Rattle.vector_types.specs.Answers.{seen, written, dims}
 use Rattle.vector_types.specs.Layout.{mostDims, fits, strays, is, byteOf}
 use Rattle.vector_types.specs.Read.{readOf}
 use Rattle.vector_types.specs.Parts.{bodyOf}
-use Rattle.vector_types.specs.Write.{blobOf, tailOf}
+use Rattle.vector_types.specs.Write.{blobOf, tailOf, writeOf, leftOf}
 use Rattle.vector_types.specs.declared.View.{View}
 use Rattle.vector_types.specs.declared.VectorType.{VectorType}
 use Rattle.vector_types.specs.declared.VectorType.the-variants.{Float32Dense, Float32Sparse}
 use Rattle.vector_types.specs.declared.ReadAnswer.{ReadAnswer}
 use Rattle.vector_types.specs.declared.ReadAnswer.the-variants.{View as Seen}
 use Rattle.vector_types.proofs.Views.{told}
-use Rattle.vector_types.proofs.Written.{Writable, writable, unrefused, reads-back}
+use Rattle.vector_types.proofs.Written.{Writable, writable, unrefused, reads-back, written-blob}
 use Rattle.vector_types.proofs.Rewritten.{rewritable}
 use Rattle.convert.specs.Dense.{spreadBody}
 use Rattle.convert.specs.Elements.{element, denseBody}
 use Rattle.convert.specs.Result.{resultOf, made}
+use Rattle.convert.specs.Convert.{convertedTo, answerOf, outBy, convertOf, leftOut}
 use Rattle.convert.proofs.Lengths.{length-dense}
 use Rattle.distance.specs.Dense.{Products, denseCosine, l2By, dotBy, jaccardBy}
 use Rattle.distance.specs.Sparse.{entriesOf, sparseProducts, sparseCosine}
@@ -36,7 +38,7 @@ use Rattle.distance.specs.declared.Distance.the-variants.{Cos, L2, Dot, Jaccard
 use Rattle.distance.proofs.Paired.{dims-differ}
 use Rattle.vector_laws.specs.Walk.{Rising}
 use Rattle.vector_laws.specs.Densely.{densely, AllFinite, NoZero, Asks}
-use Rattle.vector_laws.proofs.KeptSums.{squares-kept, dots-kept, products-kept}
+use Rattle.vector_laws.proofs.KeptSums.{squares-kept, shares-kept, dots-kept, products-kept}
 
 -- ---- the values
 same-cosine : (s : Products) → NoZero s → denseCosine binary32 s ≡ sparseCosine s
@@ -54,7 +56,7 @@ module _ (d : ℕ) (a b : List ℕ) (au : Rising (entriesOf a)) (bu : Rising (en
       ap some (ap (denseCosine binary32) (sym (products-kept d a b au bu ai bi af bf)) ∙ same-cosine (sparseProducts a b) n)
   value-kept L2 h = ap (λ x. some (l2By x)) (sym (squares-kept d a b au bu ai bi))
   value-kept Dot (af, bf) = ap (λ x. some (dotBy x)) (sym (dots-kept d a b au bu ai bi af bf))
-  value-kept Jaccard h = ?
+  value-kept Jaccard h = ap (λ x. some (jaccardBy binary32 x)) (sym (shares-kept d a b au bu ai bi))
 
 -- ---- the blobs
 -- a sparse blob that is read, and its dense form
@@ -130,3 +132,20 @@ kept m s t v w p q kv kw su tu asks = go (eqb (v .dims .0) (w .dims .0)) refl
         ∙ ap (λ (n : ℕ). answered (valueOf m Float32Dense (v .dims .0) a (resultOf Float32Sparse Float32Dense n (bodyOf t)))) (sym d)
         ∙ ap answered (value-kept (v .dims .0) (bodyOf s) (bodyOf t) su tu (inside s v p kv) ti m asks)
         ∙ sym (sparse-pair ∙ alike-pair m v w (bodyOf s) (bodyOf t) Float32Sparse d kv kw)
+
+-- with so much room the converter leaves that body, of which the writer makes that blob
+pub densely-made : (s : List ℕ) (v : View) → readOf s ≡ Seen v → v .kind ≡ Float32Sparse → (scratch : ℕ) (out blob : List ℕ)
+    → 4 * (v .dims .0) ≤ length out → 4 * (v .dims .0) ≤ length blob
+    → (convertOf s Float32Dense scratch (length out) ≡ convertedTo Float32Dense (v .dims .0) (4 * (v .dims .0)))
+    × (take (4 * (v .dims .0)) (leftOut s Float32Dense scratch out) ≡ resultOf Float32Sparse Float32Dense (v .dims .0) (bodyOf s))
+    × (writeOf Float32Dense (v .dims .0) (resultOf Float32Sparse Float32Dense (v .dims .0) (bodyOf s)) (length blob) ≡ written (4 * (v .dims .0)))
+    × (take (4 * (v .dims .0)) (leftOf Float32Dense (v .dims .0) (resultOf Float32Sparse Float32Dense (v .dims .0) (bodyOf s)) blob) ≡ densely s v)
+unfolding convertOf answerOf leftOut outBy writeOf blobOf tailOf
+densely-made s v e k scratch out blob h l =
+    let d = v .dims .0 in
+    let new = resultOf Float32Sparse Float32Dense d (bodyOf s) in
+    let long = length-made s v e k in
+    let fits = le-ltb (length out) (4 * d) h in
+    let goes : writeOf Float32Dense d new (length blob) ≡ written (4 * d) =
+    rw (unrefused Float32Dense d new (made-writable s v e k), append-nil, long, le-ltb (length blob) (4 * d) l) in
+    (rw (e, k, long, fits), rw (e, k, long, fits) (take-at new (drop (4 * d) out) (4 * d) long), goes, written-blob Float32Dense d new blob (4 * d) goes .2)

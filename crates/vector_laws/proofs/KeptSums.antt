@@ -5,7 +5,7 @@ use mathlib.Core.Bool.{false}
 use mathlib.Core.List.{List}
 use Prim.Native.Nat.{ℕ, suc, _*_}
 use lib.Dec.{T}
-use lib.Ieee.{Float, Format, binary32, binary64, add, mul, fits}
+use lib.Ieee.{Float, Format, binary32, binary64, add, sub, mul, lt, eq, fits}
 use lib.Ieee.Fits.{mul-fits}
 use lib.Ieee.Scale.{finite}
 use Rattle.float_laws.specs.Zero.{plusZero, FromZero}
@@ -17,11 +17,14 @@ use Rattle.elements.proofs.Floats.{floatAt-fits}
 use Rattle.vector_types.specs.Layout.{strays}
 use Rattle.vector_types.specs.declared.VectorType.the-variants.{Float32Sparse}
 use Rattle.convert.specs.Dense.{spreadBody}
-use Rattle.distance.specs.Dense.{Products, products, productsWith, squares, squaresWith, dots, dotsWith, Shares, shares, sharesWith}
+use Rattle.distance.specs.Dense.{Products, products, productsWith, squares, squaresWith, dots, dotsWith, sharesBy, shares, sharesWith}
+use Rattle.distance.specs.Extremes.{lesser, greater}
 use Rattle.distance.specs.Merged.{Rule, merge}
 use Rattle.distance.specs.Sparse.{entriesOf, productsRule, squaresRule, dotsRule, sharesRule, sparseProducts, sparseSquares, sparseDots, sparseShares}
+use Rattle.distance.proofs.EitherZero.{BothFromZero, one-more, ours-are}
 use Rattle.vector_laws.specs.Walk.{Rising}
 use Rattle.vector_laws.specs.Densely.{AllFinite}
+use Rattle.vector_laws.proofs.SwappedSums.{turned-are}
 use Rattle.vector_laws.proofs.Summed.{Agrees, All, merged-summed}
 use Rattle.vector_laws.proofs.Spreading.{below, spread-elements}
 
@@ -32,22 +35,32 @@ Finite x = T (finite x)
 abbrev Held : Format → Float → Type 0
 Held f x = T (fits f x)
 
+-- a product added to a sum; that of two zeros adds nothing
+module _ (f : Format) where
+  more : (s x y : Float) → FromZero f s → FromZero f (add f s (mul f x y))
+  more s x y k = add-fromZero f s (mul f x y) k (mul-fits f x y)
+
+  nought : (s : Float) → FromZero f s → s ≡ add f s (mul f plusZero plusZero)
+  nought s k = sym (add-mul-zero f s plusZero false k tt)
+
 squares-agree : (f : Format) → Agrees (squaresRule f) (FromZero f) (Held f)
 unfolding squaresWith
-squares-agree f = record {
-  zero-has = plusZero-fromZero f .fitting;
-  keeps = λ s x y k p q. add-fromZero f s _ k (mul-fits f _ _);
-  on-none = λ s k. sym (ap (add f s) (sub-plusZero-squared f plusZero (plusZero-fromZero f .fitting)) ∙ add-mul-zero f s plusZero false k tt);
-  on-left = λ s x k p. ap (add f s) (sym (sub-plusZero-squared f x p));
-  on-right = λ s y k q. ap (add f s) (sym (plusZero-sub-squared f y q));
-}
+squares-agree f =
+    let z = plusZero-fromZero f .fitting in
+    record {
+      zero-has = z;
+      keeps = λ s x y k p q. more f s (sub f x y) (sub f x y) k;
+      on-none = λ s k. nought f s k ∙ ap (add f s) (sym (sub-plusZero-squared f plusZero z));
+      on-left = λ s x k p. ap (add f s) (sym (sub-plusZero-squared f x p));
+      on-right = λ s y k q. ap (add f s) (sym (plusZero-sub-squared f y q));
+    }
 
 dots-agree : Agrees dotsRule (FromZero binary64) Finite
 unfolding dotsWith
 dots-agree = record {
   zero-has = tt;
-  keeps = λ s x y k p q. add-fromZero binary64 s _ k (mul-fits binary64 x y);
-  on-none = λ s k. sym (add-mul-zero binary64 s plusZero false k tt);
+  keeps = λ s x y k p q. more binary64 s x y k;
+  on-none = nought binary64;
   on-left = λ s x k p. sym (add-mul-zero binary64 s x false k p);
   on-right = λ s y k q. sym (add-zero-mul binary64 s false y k q);
 }
@@ -55,24 +68,39 @@ dots-agree = record {
 abbrev AllFromZero : Format → Products → Type 0
 AllFromZero f s = FromZero f (s .dot) × FromZero f (s .norm1) × FromZero f (s .norm2)
 
-all-same : {s t : Products} → s .dot ≡ t .dot → s .norm1 ≡ t .norm1 → s .norm2 ≡ t .norm2 → s ≡ t
-all-same p q r i = record { dot = p i; norm1 = q i; norm2 = r i }
+products-same : {s t : Products} → s .dot ≡ t .dot → s .norm1 ≡ t .norm1 → s .norm2 ≡ t .norm2 → s ≡ t
+products-same p q r i = record { dot = p i; norm1 = q i; norm2 = r i }
 
 products-agree : (f : Format) → Agrees (productsRule f) (AllFromZero f) Finite
 unfolding productsWith
 products-agree f = record {
   zero-has = tt;
-  keeps = λ s x y (k, l, m) p q. (more (s .dot) x y k, more (s .norm1) x x l, more (s .norm2) y y m);
-  on-none = λ s (k, l, m). all-same (nought (s .dot) k) (nought (s .norm1) l) (nought (s .norm2) m);
-  on-left = λ s x (k, l, m) p. all-same (sym (add-mul-zero f (s .dot) x false k p)) refl (nought (s .norm2) m);
-  on-right = λ s y (k, l, m) q. all-same (sym (add-zero-mul f (s .dot) false y k q)) (nought (s .norm1) l) refl;
+  keeps = λ s x y (k, l, m) p q. (more f (s .dot) x y k, more f (s .norm1) x x l, more f (s .norm2) y y m);
+  on-none = λ s (k, l, m). products-same (nought f (s .dot) k) (nought f (s .norm1) l) (nought f (s .norm2) m);
+  on-left = λ s x (k, l, m) p. products-same (sym (add-mul-zero f (s .dot) x false k p)) refl (nought f (s .norm2) m);
+  on-right = λ s y (k, l, m) q. products-same (sym (add-zero-mul f (s .dot) false y k q)) (nought f (s .norm1) l) refl;
 }
-  where
-    more : (s x y : Float) → FromZero f s → FromZero f (add f s (mul f x y))
-    more s x y k = add-fromZero f s _ k (mul-fits f x y)
 
-    nought : (s : Float) → FromZero f s → s ≡ add f s (mul f plusZero plusZero)
-    nought s k = sym (add-mul-zero f s plusZero false k tt)
+lesser-zeros : lesser plusZero plusZero ≡ plusZero
+unfolding lesser lt eq
+lesser-zeros = refl
+
+greater-zeros : greater plusZero plusZero ≡ plusZero
+unfolding greater lt eq
+greater-zeros = refl
+
+-- the lesser of a value and +0.0, and the greater, are the same the other way round, up to the sign of a zero
+shares-agree : (f : Format) → Agrees (sharesRule f) (BothFromZero f) (Held f)
+unfolding sharesWith
+shares-agree f =
+    let z = plusZero-fromZero f .fitting in
+    record {
+      zero-has = z;
+      keeps = λ s x y k p q. one-more f lesser greater (ours-are f) x y p q s k .0;
+      on-none = λ s (k, l). rw (lesser-zeros, greater-zeros, add-zero-term f (s .low) false k, add-zero-term f (s .high) false l);
+      on-left = λ s x k p. refl;
+      on-right = λ s y k q. one-more f (λ x y. lesser y x) (λ x y. greater y x) (turned-are f) plusZero y z q s k .1;
+    }
 
 -- ---- the sums
 abbrev row : ℕ → List ℕ → ℕ → Float
@@ -92,6 +120,13 @@ module _ (d : ℕ) (a b : List ℕ) (au : Rising (entriesOf a)) (bu : Rising (en
   squares-kept =
       spread-sums (squares-agree binary32) (λ i h. floatAt-fits binary32 a (4 * i)) (λ i h. floatAt-fits binary32 b (4 * i))
       (squares binary32 (row d a) (row d b)) (plusZero-fromZero binary32) (λ n. refl)
+
+  pub shares-kept : sparseShares a b ≡ shares binary32 (row d a) (row d b) d
+  unfolding sparseShares sharesBy sharesWith running
+  shares-kept =
+      let z = plusZero-fromZero binary32 in
+      spread-sums (shares-agree binary32) (λ i h. floatAt-fits binary32 a (4 * i)) (λ i h. floatAt-fits binary32 b (4 * i))
+      (shares binary32 (row d a) (row d b)) (z, z) (λ n. refl)
 
   module _ (af : AllFinite a) (bf : AllFinite b) where
     pub dots-kept : sparseDots a b ≡ dots (row d a) (row d b) d
