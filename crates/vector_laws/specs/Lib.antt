@@ -1,3 +1,4 @@
 pub mod Symmetric
 pub mod Walk
 pub mod Densely
+pub mod KeptExamples
