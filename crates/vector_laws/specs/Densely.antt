@@ -13,7 +13,7 @@ use Rattle.vector_types.specs.declared.VectorType.the-variants.{Float32Dense, F
 use Rattle.convert.specs.Dense.{count}
 use Rattle.convert.specs.Result.{resultOf}
 use Rattle.distance.specs.Dense.{Products, isZero}
-use Rattle.distance.specs.Sparse.{entriesOf, sparseProducts}
+use Rattle.distance.specs.Sparse.{sparseProducts}
 use Rattle.distance.specs.declared.Distance.{Distance}
 use Rattle.distance.specs.declared.Distance.the-variants.{Cos, L2, Dot, Jaccard}
 

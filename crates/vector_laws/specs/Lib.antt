@@ -1,5 +1,6 @@
 pub mod Symmetric
-pub mod Walk
-pub mod Densely
 pub mod SwapExamples
 pub mod Packed
+pub mod Walk
+pub mod Densely
+pub mod KeptExamples
