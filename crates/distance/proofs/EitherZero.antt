@@ -129,6 +129,10 @@ pub record AreChoices (f : Format) (lo hi : Float → Float → Float) : Type 0 
 pub ours-are : (f : Format) → AreChoices f lesser greater
 ours-are f = record { low = λ x y h k. lesser-is x y; high = λ x y h k. greater-is x y }
 
+-- what both sums of a Jaccard can be
+abbrev pub BothFromZero : Format → Shares → Type 0
+BothFromZero f s = FromZero f (s .low) × FromZero f (s .high)
+
 module _ (f : Format) (lo hi : Float → Float → Float) (c : AreChoices f lo hi) where
   pub shares-either-zero : (x y : ℕ → Float) (n : ℕ) → AllFit f x n → AllFit f y n → sharesBy lo hi f x y n ≡ shares f x y n
   unfolding sharesBy
@@ -137,11 +141,9 @@ module _ (f : Format) (lo hi : Float → Float → Float) (c : AreChoices f lo h
       let high = summed f above (level-above f) hi greater (c .high) (ours-are f .high) x y n h k in
       rw (low .1, high .1)
 
-  abbrev BothFromZero : Shares → Type 0
-  BothFromZero s = FromZero f (s .low) × FromZero f (s .high)
-
-  one-more : (x y : Float) → T (fits f x) → T (fits f y) → (s : Shares) → BothFromZero s
-      → BothFromZero (sharesWith lo hi f s x y) × (sharesWith lo hi f s x y ≡ sharesWith lesser greater f s x y)
+  -- one pair more
+  pub one-more : (x y : Float) → T (fits f x) → T (fits f y) → (s : Shares) → BothFromZero f s
+      → BothFromZero f (sharesWith lo hi f s x y) × (sharesWith lo hi f s x y ≡ sharesWith lesser greater f s x y)
   unfolding sharesWith
   one-more x y h k s (l, g) =
       let low = added f lt (level f) lo lesser (c .low) (ours-are f .low) x y h k (s .low) l in
@@ -152,7 +154,7 @@ module _ (f : Format) (lo hi : Float → Float → Float) (c : AreChoices f lo h
       → merged (sharesRuleBy lo hi f) v w noShares p q ≡ merged (sharesRule f) v w noShares p q
   merged-either-zero v w h k p q =
       let z = plusZero-fromZero f in
-      merged-agree (sharesRuleBy lo hi f) (sharesRule f) v w BothFromZero
+      merged-agree (sharesRuleBy lo hi f) (sharesRule f) v w (BothFromZero f)
       (λ s i j. one-more (v .value i) (w .value j) (h i) (k j) s)
       (λ s i. one-more (v .value i) plusZero (h i) (z .fitting) s)
       (λ s j. one-more (w .value j) plusZero (k j) (z .fitting) s)

@@ -1,0 +1,116 @@
+-- Exchanging the two vectors changes no bit of a distance, cosine and dot of Float8 apart (specs/SwapExamples.antt), and a pair refused is
+-- refused either way: kind by kind, over the sums and counts with their arguments exchanged.
+use mathlib.Core.Path.{_≡_, refl, sym, ap, ap₂, _∙_}
+use mathlib.Core.Bool.{Bool, true, false, not, false≢true}
+use mathlib.Core.List.{List, [], _∷_}
+use mathlib.Core.Option.{some}
+use Prim.Native.Nat.{ℕ}
+use lib.Dec.{eqb}
+use borrow.Author.Tests.{eqb-true, eqb-false, eq-eqb, ne-eqb}
+use lib.Ieee.{Format, binary32, binary64}
+use Rattle.float_laws.specs.Running.{AllFit}
+use Rattle.vector_types.specs.Answers.{Test, test, firstOf, unless}
+use Rattle.vector_types.specs.Layout.{byteOf, is}
+use Rattle.vector_types.specs.Read.{readOf}
+use Rattle.vector_types.specs.Parts.{bodyOf}
+use Rattle.vector_types.specs.declared.VectorType.{VectorType}
+use Rattle.vector_types.specs.declared.VectorType.the-variants.{Float32Dense, Float64Dense, Float32Sparse, Float1Bit, Float8}
+use Rattle.vector_types.specs.declared.View.{View}
+use Rattle.vector_types.specs.declared.ReadAnswer.the-variants.{View as Seen}
+use Rattle.convert.specs.Elements.{element}
+use Rattle.convert.proofs.Fitting.{element-fits}
+use Rattle.distance.specs.Dense.{denseCosine, dotBy, l2By, jaccardBy}
+use Rattle.distance.specs.OneBit.{wholeBits, bitCosine, bitDot, bitJaccard}
+use Rattle.distance.specs.Sparse.{sparseCosine, sparseProducts}
+use Rattle.distance.specs.Values.{cosineOf, l2Of, dotOf, jaccardOf, valueOf}
+use Rattle.distance.specs.Answer.{answered, mismatches, pairOf, distanceOf}
+use Rattle.distance.specs.declared.Distance.{Distance}
+use Rattle.distance.specs.declared.Distance.the-variants.{Cos, L2, Dot, Jaccard}
+use Rattle.distance.specs.declared.Which.the-variants.{Neither}
+use Rattle.distance.specs.declared.DistanceAnswer.{DistanceAnswer}
+use Rattle.distance.specs.declared.DistanceAnswer.the-variants.{Refused}
+use Rattle.distance.proofs.Existing.{same-kind}
+use Rattle.vector_laws.specs.Symmetric.{orderly, symmetric}
+use Rattle.vector_laws.proofs.SwappedSums.{products-swap, dense-crossed, sparse-crossed, squares-swap, dots-swap, shares-swap}
+use Rattle.vector_laws.proofs.SwappedMerge.{sparse-products-swap, sparse-squares-swap, sparse-dots-swap, sparse-shares-swap}
+use Rattle.vector_laws.proofs.SwappedBits.{differing-swap, overlap-swap}
+
+-- ---- two bodies of one kind
+module _ (d : ℕ) (a b : List ℕ) where
+  cosine-swap : (k : VectorType) → orderly k ≡ true → cosineOf k d a b ≡ cosineOf k d b a
+  unfolding cosineOf
+  cosine-swap Float32Dense o = sym (dense-crossed _ binary32) ∙ ap (denseCosine binary32) (products-swap binary32 _ _ d)
+  cosine-swap Float64Dense o = sym (dense-crossed _ binary64) ∙ ap (denseCosine binary64) (products-swap binary64 _ _ d)
+  cosine-swap Float32Sparse o = sym (sparse-crossed (sparseProducts a b)) ∙ ap sparseCosine (sparse-products-swap a b)
+  cosine-swap Float1Bit o = ap bitCosine (differing-swap a b (wholeBits d))
+  cosine-swap Float8 o = absurd (false≢true o)
+
+  l2-swap : (k : VectorType) → l2Of k d a b ≡ l2Of k d b a
+  unfolding l2Of
+  l2-swap Float32Dense = ap (λ s. some (l2By s)) (squares-swap binary32 _ _ d)
+  l2-swap Float64Dense = ap (λ s. some (l2By s)) (squares-swap binary64 _ _ d)
+  l2-swap Float32Sparse = ap (λ s. some (l2By s)) (sparse-squares-swap a b)
+  l2-swap Float1Bit = refl
+  l2-swap Float8 = ap (λ s. some (l2By s)) (squares-swap binary64 _ _ d)
+
+  dot-swap : (k : VectorType) → orderly k ≡ true → dotOf k d a b ≡ dotOf k d b a
+  unfolding dotOf
+  dot-swap Float32Dense o = ap dotBy (dots-swap _ _ d)
+  dot-swap Float64Dense o = ap dotBy (dots-swap _ _ d)
+  dot-swap Float32Sparse o = ap dotBy (sparse-dots-swap a b)
+  dot-swap Float1Bit o = ap (bitDot d) (differing-swap a b (wholeBits d))
+  dot-swap Float8 o = absurd (false≢true o)
+
+  fit : (f : Format) (k : VectorType) (body : List ℕ) → AllFit f (element f k d body) d
+  fit f k body i l = element-fits f k d body i
+
+  jaccard-swap : (k : VectorType) → jaccardOf k d a b ≡ jaccardOf k d b a
+  unfolding jaccardOf element
+  jaccard-swap Float32Dense = ap (jaccardBy binary32) (shares-swap binary32 _ _ d (fit binary32 Float32Dense a) (fit binary32 Float32Dense b))
+  jaccard-swap Float64Dense = ap (jaccardBy binary64) (shares-swap binary64 _ _ d (fit binary64 Float64Dense a) (fit binary64 Float64Dense b))
+  jaccard-swap Float32Sparse = ap (jaccardBy binary32) (sparse-shares-swap a b)
+  jaccard-swap Float1Bit = ap bitJaccard (overlap-swap a b (wholeBits d))
+  jaccard-swap Float8 = ap (jaccardBy binary64) (shares-swap binary64 _ _ d (fit binary64 Float8 a) (fit binary64 Float8 b))
+
+pub value-swap : (m : Distance) (k : VectorType) (d : ℕ) (a b : List ℕ) → symmetric m k ≡ true → valueOf m k d a b ≡ valueOf m k d b a
+unfolding valueOf
+value-swap Cos k d a b o = ap some (cosine-swap d a b k o)
+value-swap L2 k d a b o = l2-swap d a b k
+value-swap Dot k d a b o = ap some (dot-swap d a b k o)
+value-swap Jaccard k d a b o = ap some (jaccard-swap d a b k)
+
+-- ---- two views: what refuses the pair refuses it either way
+eqb-swap : (x y : ℕ) → eqb x y ≡ eqb y x
+eqb-swap x y = go (eqb x y) refl
+  where
+    go : (b : Bool) → eqb x y ≡ b → b ≡ eqb y x
+    go true e = sym (eq-eqb y x (sym (eqb-true x y e)))
+    go false e = sym (ne-eqb y x (λ z. eqb-false x y e (sym z)))
+
+mismatches-swap : (v w : View) → mismatches v w ≡ mismatches w v
+mismatches-swap v w = rw (eqb-swap (v .dims .0) (w .dims .0), eqb-swap (byteOf (v .kind)) (byteOf (w .kind)))
+
+module _ (m : Distance) (v w : View) (o : symmetric m (v .kind) ≡ true) (a b : List ℕ) where
+  -- what they answer, unless a test refuses
+  abbrev given : List Test → VectorType → ℕ → List ℕ → List ℕ → DistanceAnswer
+  given ts k d a b = unless (firstOf ts) (λ r. Refused r Neither) (answered (valueOf m k d a b))
+
+  pair-swap : pairOf m v w a b ≡ pairOf m w v b a
+  unfolding pairOf
+  pair-swap =
+      go (eqb (v .dims .0) (w .dims .0)) refl (is (byteOf (w .kind)) (v .kind)) refl
+      ∙ ap (λ ts. given ts (w .kind) (w .dims .0) b a) (mismatches-swap v w)
+    where
+      go : (p : Bool) → eqb (v .dims .0) (w .dims .0) ≡ p → (q : Bool) → is (byteOf (w .kind)) (v .kind) ≡ q
+          → let ts = test 12 (not p) ∷ test 13 (not q) ∷ [] in given ts (v .kind) (v .dims .0) a b ≡ given ts (w .kind) (w .dims .0) b a
+      go false e q k = refl
+      go true e false k = refl
+      go true e true k =
+          ap answered (value-swap m (v .kind) (v .dims .0) a b o
+          ∙ ap₂ (λ l d. valueOf m l d b a) (same-kind (v .kind) (w .kind) k) (eqb-true _ _ e))
+
+-- ---- two blobs
+pub distance-swap : (m : Distance) (s t : List ℕ) (v w : View) → readOf s ≡ Seen v → readOf t ≡ Seen w → symmetric m (v .kind) ≡ true
+    → distanceOf m s t ≡ distanceOf m t s
+unfolding distanceOf
+distance-swap m s t v w e g o = rw (e, g) (pair-swap m v w o (bodyOf s) (bodyOf t))
