@@ -4,18 +4,18 @@ use mathlib.Core.Path.{_≡_, sym}
 use native.Mathlib.Omega.{arith}
 use lib.ListN.{length}
 use lib.Seq.{length-take-le}
-use Rattle.probe_lines.specs.Limits.{longest}
+use Rattle.replies.specs.Program.{longest}
 use borrow.Author.Needs.{needs}
 use Rattle.replies.proofs.running.serve_chunk.Statement.{statement}
 use Rattle.replies.proofs.running.serve_chunk.Tie as tie
 
 abbrev Inv-loop : tie.InvT-loop
-Inv-loop chunk kept₀ spelled₀ scratch₀ made₀ out₀ line₀ at₀ filled₀ kept spelled scratch made out line at filled =
+Inv-loop program chunk kept₀ spelled₀ scratch₀ made₀ out₀ line₀ at₀ filled₀ kept spelled scratch made out line at filled =
     (at ≤ length chunk) × (filled ≤ length out) × (line .count ≤ length kept) × (line .before ≤ line₀ .before + at)
     × (length kept ≡ length kept₀) × (length spelled ≡ length spelled₀) × (length scratch ≡ length scratch₀) × (length made ≡ length made₀) × (length out ≡ length out₀)
 
 abbrev μ-loop : tie.MeasureT-loop
-μ-loop chunk kept₀ spelled₀ scratch₀ made₀ out₀ line₀ at₀ filled₀ kept spelled scratch made out line at filled = length chunk - at
+μ-loop program chunk kept₀ spelled₀ scratch₀ made₀ out₀ line₀ at₀ filled₀ kept spelled scratch made out line at filled = length chunk - at
 
 loop-holds : tie.Need-loop-holds Inv-loop μ-loop
 loop-holds c = search needs

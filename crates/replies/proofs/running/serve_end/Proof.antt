@@ -6,7 +6,7 @@ use lib.ListN.{length}
 use lib.Seq.{length-take-le}
 use Rattle.lines.specs.Served.{lastSaid}
 use Rattle.promises.proofs.Onto.{onto-within}
-use Rattle.probe_lines.specs.Line.{answerOf}
+use Rattle.replies.specs.Program.{answerOf}
 use borrow.Author.Needs.{needs}
 use Rattle.replies.proofs.running.serve_end.Statement.{statement}
 use Rattle.replies.proofs.running.serve_end.Tie as tie
@@ -14,12 +14,12 @@ use Rattle.replies.proofs.running.serve_end.Tie as tie
 finish-requires : tie.Need-finish-requires
 finish-requires c κs = search needs
 
-fits : (c : tie.After-finish) → c .finish .result ≤ length (c .finish .last .1 .1 .1 .1 .1 .0)
+fits : (c : tie.After-finish) → c .finish .result ≤ length (c .finish .last .1 .1 .1 .1 .1 .1 .0)
 fits c =
     let a = c .before .before .before .before .before .before .before .before .before .before .args in
     let f = c .finish in
-    let same = f .kept .1 .1 .1 .1 .1 .0 in
-    omega (arith, f .ensures .0, same, onto-within (lastSaid answerOf (a .kept .now) (a .held)) (a .out .now) (f .last .1 .1 .1 .1 .1 .0) (f .ensures .1) same)
+    let same = f .kept .1 .1 .1 .1 .1 .1 .0 in
+    omega (arith, f .ensures .0, same, onto-within (lastSaid (answerOf (a .program)) (a .kept .now) (a .held)) (a .out .now) (f .last .1 .1 .1 .1 .1 .1 .0) (f .ensures .1) same)
 
 slice-reshare-prefix-write-all : tie.Need-slice-reshare-prefix-write-all
 slice-reshare-prefix-write-all c = omega (arith, fits (c .before .before .before .before .before .before .before .before))

@@ -1,4 +1,4 @@
--- `replies::answer_held` meets its contract.
+-- `answer_held` meets its contract.
 use mathlib.Core.Path.{sym}
 use native.Mathlib.Omega.{arith}
 use lib.Seq.{length-take-le}

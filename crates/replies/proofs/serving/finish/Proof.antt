@@ -1,4 +1,4 @@
--- `replies::finish` meets its contract: a last line without bytes is none.
+-- `finish` meets its contract: a last line without bytes is none.
 use mathlib.Core.Path.{refl}
 use borrow.Author.Tests.{eq-eqb, ne-eqb}
 use borrow.Author.Needs.{needs}

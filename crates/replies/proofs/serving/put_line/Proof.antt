@@ -1,4 +1,4 @@
--- `replies::put_line` meets its contract: the newline stands after the answer, for which all but the last byte of out was lent.
+-- `put_line` meets its contract: the newline stands after the answer, for which all but the last byte of out was lent.
 use mathlib.Core.Path.{sym}
 use Prim.Native.Nat.{_-_}
 use native.Mathlib.Omega.{arith}
@@ -27,8 +27,8 @@ answer-held-requires c κs =
     (omega arith, (omega arith, (omega arith, (omega arith, omega (arith, length-take-le (length out - 1) out (omega arith))))))
 
 line : (c : tie.After-slice-known8) → let a = c .before .before .before .before .before .before .before .before .before .before .before .before .before .before .before .before .before .before .args in let s = c .before .before .before .before .before .before .before .before .answer-held in
-    Ended (heldAnswer answerOf (a .kept .now) (a .held)) (a .out .now) (s .last .1 .1 .1 .1 .1 .0) newline (s .result) (length (a .out .now) - 1)
-line c = let s = c .before .before .before .before .before .before .before .before .answer-held in onto-ended (s .ensures .0) (s .ensures .1) (s .kept .1 .1 .1 .1 .1 .0) (omega arith)
+    Ended (heldAnswer (answerOf (a .program)) (a .kept .now) (a .held)) (a .out .now) (s .last .1 .1 .1 .1 .1 .1 .0) newline (s .result) (length (a .out .now) - 1)
+line c = let s = c .before .before .before .before .before .before .before .before .answer-held in onto-ended (s .ensures .0) (s .ensures .1) (s .kept .1 .1 .1 .1 .1 .1 .0) (omega arith)
 
 slice-write-out : tie.Need-slice-write-out
 slice-write-out c = omega (arith, line c .within, line c .long)

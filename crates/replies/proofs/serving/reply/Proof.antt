@@ -1,4 +1,4 @@
--- `replies::reply` meets its contract: the line is written after its number and a tab.
+-- `reply` meets its contract: the line is written after its number and a tab.
 use mathlib.Core.Path.{sym}
 use mathlib.Core.List.{List, [], _∷_, _++_}
 use Prim.Native.Nat.{ℕ, _+_, _≤_}
@@ -33,7 +33,7 @@ put-line-requires c κs = search needs
 
 -- the answer and its newline
 abbrev line : tie.After-slice-known9 → List ℕ
-line c = let a = c .before .before .before .before .before .before .before .before .before .before .before .before .before .before .before .before .before .before .before .before .before .before .before .args in heldAnswer answerOf (a .kept .now) (a .held) ++ (newline ∷ [])
+line c = let a = c .before .before .before .before .before .before .before .before .before .before .before .before .before .before .before .before .before .before .before .before .before .before .before .args in heldAnswer (answerOf (a .program)) (a .kept .now) (a .held) ++ (newline ∷ [])
 
 add-result : tie.Need-add-result
 add-result c =
@@ -41,7 +41,7 @@ add-result c =
     let l = c .before .before .before .before .before .before .before .before .put-line in
     let start = c .before .before .before .before .before .before .before .before .before .before .before .before .before .before .before .before .before .before .before .before .before .before .before in
     let headed : h .result ≤ length (h .last .1 .0) = omega (arith, h .ensures, h .kept, start .pre) in
-    let fits = tail-within (line c) (h .last .1 .0) (l .last .1 .1 .1 .1 .1 .0) (h .result) (l .ensures .1) (l .kept .1 .1 .1 .1 .1 .0) headed in
+    let fits = tail-within (line c) (h .last .1 .0) (l .last .1 .1 .1 .1 .1 .1 .0) (h .result) (l .ensures .1) (l .kept .1 .1 .1 .1 .1 .1 .0) headed in
     omega (arith, fits, l .ensures .0, h .kept .1 .0, start .good)
 
 same-length : tie.Need-same-length
@@ -65,7 +65,7 @@ returns c =
     let l = lined .put-line in
     let a = headed .before .before .before .before .before .before .before .before .args in
     let head = headOf (a .held .before + 1) in
-    let left = onto-then head (line c) (a .out .now) (h .last .1 .0) (l .last .1 .1 .1 .1 .1 .0) (h .result) (h .ensures .1 .0) (sym (h .ensures .0)) (l .ensures .1) in
+    let left = onto-then head (line c) (a .out .now) (h .last .1 .0) (l .last .1 .1 .1 .1 .1 .1 .0) (h .result) (h .ensures .1 .0) (sym (h .ensures .0)) (l .ensures .1) in
     (omega (arith, h .ensures .0, l .ensures .0, length-append head (line c)), left)
 
 pub reply-spec : {M : Type 1} → statement M

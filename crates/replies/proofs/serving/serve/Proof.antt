@@ -1,4 +1,4 @@
--- `replies::serve` meets its contract: the two ways out are the laws `served-ended` and `served-open`.
+-- `serve` meets its contract: the two ways out are the laws `served-ended` and `served-open`.
 use mathlib.Core.Path.{_≡_}
 use Prim.Native.Nat.{_≤_}
 use native.Mathlib.Omega.{arith}
@@ -53,8 +53,8 @@ returns c =
     let t = took .take in
     let a = took .before .before .before .before .before .before .before .before .args in
     let rest = drop (a .at) (a .chunk .now) in
-    let s = served-ended answerOf (a .kept .now) rest (a .at) (a .held) (t .result) (t .ensures .0)
-    (t .last .1 .1 .0) (r .last .1 .1 .1 .1 .1 .0) (a .out .now) (r .result) (c .next .result) (test .if1 .taken) (t .ensures .1) (c .next .ensures) (r .ensures) in
+    let s = served-ended (answerOf (a .program)) (a .kept .now) rest (a .at) (a .held) (t .result) (t .ensures .0)
+    (t .last .1 .1 .0) (r .last .1 .1 .1 .1 .1 .1 .0) (a .out .now) (r .result) (c .next .result) (test .if1 .taken) (t .ensures .1) (c .next .ensures) (r .ensures) in
     (s .0, (t .ensures .1, s .1))
 
 same-length-6 : tie.Need-same-length-6
@@ -65,7 +65,7 @@ returns-2 c =
     let took = c .before .before .before .before in
     let t = took .take in
     let a = took .before .before .before .before .before .before .before .before .args in
-    let s = served-open answerOf (a .kept .now) (drop (a .at) (a .chunk .now)) (a .at) (a .held) (t .result) (t .ensures .0) (a .out .now) (c .if1 .left) in
+    let s = served-open (answerOf (a .program)) (a .kept .now) (drop (a .at) (a .chunk .now)) (a .at) (a .held) (t .result) (t .ensures .0) (a .out .now) (c .if1 .left) in
     (s .0, (t .ensures .1, s .1))
 
 pub serve-spec : {M : Type 1} → statement M

@@ -1,0 +1,3 @@
+-- What is said is what is printed, and what each contract determines
+pub mod Stream
+pub mod Determined
