@@ -1,3 +1,4 @@
 pub mod Program
+pub mod Rooms
 pub mod Printed
 pub mod Examples

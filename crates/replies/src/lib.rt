@@ -6,10 +6,11 @@ pub use running::run;
 pub use serving::finish;
 pub use serving::serve;
 ghost use mathlib.Core.Path.{_≡_};
-ghost use Prim.Native.Nat.{_*_, _≤_};
+ghost use Prim.Native.Nat.{_≤_};
 ghost use lib.ListN.{length};
 ghost use Rattle.promises.specs.Onto.{onto};
-ghost use Rattle.probe_lines.specs.Limits.{limit, scratchRoom, blobRoom};
+ghost use Rattle.probe_lines.specs.Limits.{limit};
+ghost use Rattle.replies.specs.Rooms.{Rooms};
 ghost use Rattle.replies.specs.Program.{limitOf, answerOf};
 
 // Which program is run.
@@ -42,9 +43,7 @@ pub fn answer(
     made: &mut [u8],
     out: &mut [u8],
 ) -> usize
-    requires { ⌜ length (now line) ≤ 2 * length (now spelled) ⌝ }
-    requires { ⌜ length (now scratch) ≡ scratchRoom ⌝ }
-    requires { ⌜ length (now made) ≡ blobRoom ⌝ }
+    requires { ⌜ Rooms (now line) (now spelled) (now scratch) (now made) ⌝ }
     requires { ⌜ limit ≤ length (now out) ⌝ }
     ensures { λ r. ⌜ r ≡ length (answerOf program (now (line .entry))) ⌝ }
     ensures { λ _. ⌜ now (out .exit) ≡ onto (answerOf program (now (line .entry))) (now (out .entry)) ⌝ }

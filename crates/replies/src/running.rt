@@ -1,9 +1,10 @@
 // The program itself: reads standard input chunk by chunk, and writes the replies.
 ghost use mathlib.Core.Path.{_≡_};
-ghost use Prim.Native.Nat.{_+_, _*_, _≤_, _<_, _^_};
+ghost use Prim.Native.Nat.{_+_, _≤_, _<_, _^_};
 ghost use lib.ListN.{length};
 ghost use Rattle.lines.specs.Output.{Stepped};
 ghost use Rattle.probe_lines.specs.Limits.{limit, spelledRoom, scratchRoom, blobRoom};
+ghost use Rattle.replies.specs.Rooms.{Rooms};
 ghost use Rattle.replies.specs.Program.{longest};
 use crate::LONGEST;
 use crate::Program;
@@ -76,9 +77,7 @@ fn serve_from(
 ) -> Step
     requires { ⌜ at < length (now chunk) ⌝ }
     requires { ⌜ held .count ≤ length (now kept) ⌝ }
-    requires { ⌜ length (now kept) ≤ 2 * length (now spelled) ⌝ }
-    requires { ⌜ length (now scratch) ≡ scratchRoom ⌝ }
-    requires { ⌜ length (now made) ≡ blobRoom ⌝ }
+    requires { ⌜ Rooms (now kept) (now spelled) (now scratch) (now made) ⌝ }
     requires { ⌜ held .before + 1 < 2 ^ 64 ⌝ }
     requires { ⌜ start + longest ≤ length (now out) ⌝ }
     ensures { λ r. ⌜ Stepped (length (now (chunk .entry))) at (length (now (kept .entry))) held (length (now (out .entry))) r ⌝ }
@@ -116,9 +115,7 @@ fn serve_chunk(
     out: &mut [u8],
 ) -> Done
     requires { ⌜ held .count ≤ length (now kept) ⌝ }
-    requires { ⌜ length (now kept) ≤ 2 * length (now spelled) ⌝ }
-    requires { ⌜ length (now scratch) ≡ scratchRoom ⌝ }
-    requires { ⌜ length (now made) ≡ blobRoom ⌝ }
+    requires { ⌜ Rooms (now kept) (now spelled) (now scratch) (now made) ⌝ }
     requires { ⌜ held .before + length (now chunk) < 2 ^ 64 ⌝ }
     requires { ⌜ longest ≤ length (now out) ⌝ }
     ensures { λ r. ⌜ r .held .count ≤ length (now (kept .entry)) ⌝ }
@@ -166,9 +163,7 @@ fn serve_end(
     out: &mut [u8],
 ) -> bool
     requires { ⌜ held .count ≤ length (now kept) ⌝ }
-    requires { ⌜ length (now kept) ≤ 2 * length (now spelled) ⌝ }
-    requires { ⌜ length (now scratch) ≡ scratchRoom ⌝ }
-    requires { ⌜ length (now made) ≡ blobRoom ⌝ }
+    requires { ⌜ Rooms (now kept) (now spelled) (now scratch) (now made) ⌝ }
     requires { ⌜ held .before + 1 < 2 ^ 64 ⌝ }
     requires { ⌜ longest ≤ length (now out) ⌝ }
 {

@@ -1,13 +1,14 @@
 // Replies to a stream of lines.
 ghost use mathlib.Core.Path.{_≡_};
-ghost use Prim.Native.Nat.{_+_, _*_, _≤_, _<_, _^_};
+ghost use Prim.Native.Nat.{_+_, _≤_, _<_, _^_};
 ghost use mathlib.Core.List.{[], _∷_, _++_};
 ghost use lib.ListN.{length, drop};
 ghost use Rattle.lines.specs.Text.{newline};
 ghost use Rattle.promises.specs.Onto.{onto};
 ghost use Rattle.lines.specs.Stream.{keptWith, pieceOf};
 ghost use Rattle.lines.specs.Served.{heldAnswer, heldReply, saidOf, servedOf, lastSaid};
-ghost use Rattle.probe_lines.specs.Limits.{limit, scratchRoom, blobRoom};
+ghost use Rattle.probe_lines.specs.Limits.{limit};
+ghost use Rattle.replies.specs.Rooms.{Rooms};
 ghost use Rattle.replies.specs.Program.{longest, answerOf};
 use crate::Program;
 use crate::answer;
@@ -26,9 +27,7 @@ fn answer_held(
     out: &mut [u8],
 ) -> usize
     requires { ⌜ held .count ≤ length (now kept) ⌝ }
-    requires { ⌜ length (now kept) ≤ 2 * length (now spelled) ⌝ }
-    requires { ⌜ length (now scratch) ≡ scratchRoom ⌝ }
-    requires { ⌜ length (now made) ≡ blobRoom ⌝ }
+    requires { ⌜ Rooms (now kept) (now spelled) (now scratch) (now made) ⌝ }
     requires { ⌜ limit ≤ length (now out) ⌝ }
     ensures { λ r. ⌜ r ≡ length (heldAnswer (answerOf program) (now (kept .entry)) held) ⌝ }
     ensures { λ _. ⌜ now (out .exit) ≡ onto (heldAnswer (answerOf program) (now (kept .entry)) held) (now (out .entry)) ⌝ }
@@ -51,9 +50,7 @@ fn put_line(
     out: &mut [u8],
 ) -> usize
     requires { ⌜ held .count ≤ length (now kept) ⌝ }
-    requires { ⌜ length (now kept) ≤ 2 * length (now spelled) ⌝ }
-    requires { ⌜ length (now scratch) ≡ scratchRoom ⌝ }
-    requires { ⌜ length (now made) ≡ blobRoom ⌝ }
+    requires { ⌜ Rooms (now kept) (now spelled) (now scratch) (now made) ⌝ }
     requires { ⌜ limit < length (now out) ⌝ }
     ensures { λ r. ⌜ r ≡ length (heldAnswer (answerOf program) (now (kept .entry)) held ++ (newline ∷ [])) ⌝ }
     ensures { λ _. ⌜ now (out .exit) ≡ onto (heldAnswer (answerOf program) (now (kept .entry)) held ++ (newline ∷ [])) (now (out .entry)) ⌝ }
@@ -83,9 +80,7 @@ fn reply(
     out: &mut [u8],
 ) -> usize
     requires { ⌜ held .count ≤ length (now kept) ⌝ }
-    requires { ⌜ length (now kept) ≤ 2 * length (now spelled) ⌝ }
-    requires { ⌜ length (now scratch) ≡ scratchRoom ⌝ }
-    requires { ⌜ length (now made) ≡ blobRoom ⌝ }
+    requires { ⌜ Rooms (now kept) (now spelled) (now scratch) (now made) ⌝ }
     requires { ⌜ held .before + 1 < 2 ^ 64 ⌝ }
     requires { ⌜ longest ≤ length (now out) ⌝ }
     ensures { λ r. ⌜ r ≡ length (heldReply (answerOf program) (now (kept .entry)) held) ⌝ }
@@ -120,9 +115,7 @@ pub fn serve(
 ) -> Served
     requires { ⌜ at ≤ length (now chunk) ⌝ }
     requires { ⌜ held .count ≤ length (now kept) ⌝ }
-    requires { ⌜ length (now kept) ≤ 2 * length (now spelled) ⌝ }
-    requires { ⌜ length (now scratch) ≡ scratchRoom ⌝ }
-    requires { ⌜ length (now made) ≡ blobRoom ⌝ }
+    requires { ⌜ Rooms (now kept) (now spelled) (now scratch) (now made) ⌝ }
     requires { ⌜ held .before + 1 < 2 ^ 64 ⌝ }
     requires { ⌜ longest ≤ length (now out) ⌝ }
     ensures { λ r. ⌜ r ≡ servedOf (answerOf program) (now (kept .entry)) (drop at (now (chunk .entry))) at held ⌝ }
@@ -159,9 +152,7 @@ pub fn finish(
     out: &mut [u8],
 ) -> usize
     requires { ⌜ held .count ≤ length (now kept) ⌝ }
-    requires { ⌜ length (now kept) ≤ 2 * length (now spelled) ⌝ }
-    requires { ⌜ length (now scratch) ≡ scratchRoom ⌝ }
-    requires { ⌜ length (now made) ≡ blobRoom ⌝ }
+    requires { ⌜ Rooms (now kept) (now spelled) (now scratch) (now made) ⌝ }
     requires { ⌜ held .before + 1 < 2 ^ 64 ⌝ }
     requires { ⌜ longest ≤ length (now out) ⌝ }
     ensures { λ r. ⌜ r ≡ length (lastSaid (answerOf program) (now (kept .entry)) held) ⌝ }

@@ -38,7 +38,7 @@ lent c = length-take-le _ _ (omega arith)
 serve-chunk-requires : tie.Need-serve-chunk-requires Inv-loop μ-loop
 serve-chunk-requires c κs =
     let room = lent (c .before .before .before .before .before .before .before .before .before .before .before .before .before .before) in
-    (omega arith, (omega arith, (omega arith, (omega arith, (omega arith, omega arith)))))
+    (omega arith, ((omega arith, omega arith, omega arith), (omega arith, omega arith)))
 
 loop-again : tie.Need-loop-again Inv-loop μ-loop
 loop-again c =
@@ -64,7 +64,7 @@ slice-aggregate-serve-end c = sym (length-take-le _ _ (omega arith))
 serve-end-requires : tie.Need-serve-end-requires Inv-loop μ-loop
 serve-end-requires c κs =
     let most = length-take-le (c .before .before .before .before .before .before .before .before .before .before .before .before .before .before .limit-of .result) (c .before .before .before .before .before .before .loop .kept) (omega arith) in
-    (omega arith, (omega arith, (omega arith, (omega arith, (omega arith, omega arith)))))
+    (omega arith, ((omega arith, omega arith, omega arith), (omega arith, omega arith)))
 
 pub run-spec : {M : Type 1} → statement M
 run-spec =

@@ -11,9 +11,6 @@ use borrow.Author.Needs.{needs}
 use Rattle.replies.proofs.running.serve_end.Statement.{statement}
 use Rattle.replies.proofs.running.serve_end.Tie as tie
 
-finish-requires : tie.Need-finish-requires
-finish-requires c κs = search needs
-
 fits : (c : tie.After-finish) → c .finish .result ≤ length (c .finish .last .1 .1 .1 .1 .1 .1 .0)
 fits c =
     let a = c .before .before .before .before .before .before .before .before .before .before .args in
@@ -27,34 +24,16 @@ slice-reshare-prefix-write-all c = omega (arith, fits (c .before .before .before
 slice-aggregate-write-all : tie.Need-slice-aggregate-write-all
 slice-aggregate-write-all c = sym (length-take-le _ _ (omega (arith, fits (c .before .before .before .before .before .before .before .before .before))))
 
-write-all-requires : tie.Need-write-all-requires
-write-all-requires c κs = search needs
-
-same-length : tie.Need-same-length
-same-length c = search needs
-
-same-length-2 : tie.Need-same-length-2
-same-length-2 c = search needs
-
-same-length-3 : tie.Need-same-length-3
-same-length-3 c = search needs
-
-same-length-4 : tie.Need-same-length-4
-same-length-4 c = search needs
-
-returns : tie.Need-returns
-returns c = search needs
-
 pub serve-end-spec : {M : Type 1} → statement M
 serve-end-spec =
     tie.close
     (tie.spec
-    finish-requires
+    (λ c κs. search needs)
     slice-reshare-prefix-write-all
     slice-aggregate-write-all
-    write-all-requires
-    same-length
-    same-length-2
-    same-length-3
-    same-length-4
-    returns)
+    (λ c κs. search needs)
+    (λ c. search needs)
+    (λ c. search needs)
+    (λ c. search needs)
+    (λ c. search needs)
+    (λ c. search needs))

@@ -10,18 +10,6 @@ use borrow.Author.Needs.{needs}
 use Rattle.replies.proofs.running.serve_from.Statement.{statement}
 use Rattle.replies.proofs.running.serve_from.Tie as tie
 
-sub-serve : tie.Need-sub-serve
-sub-serve c = search needs
-
-part-serve-start : tie.Need-part-serve-start
-part-serve-start c = search needs
-
-part-serve-end : tie.Need-part-serve-end
-part-serve-end c = search needs
-
-serve-requires : tie.Need-serve-requires
-serve-requires c κs = search needs
-
 -- a step of the loop, by what `serve` says of the line and of out
 abbrev step : tie.After-serve → Step
 step c = let r = c .serve .result in record { held = r .held; at = r .at; filled = c .before .before .before .before .before .before .before .before .before .before .before .before .args .start + r .said }
@@ -40,21 +28,6 @@ add-filled c =
     let here = c .before .before .before .before .before .before .before .before .before .before .before .before in
     omega (arith, steps here .fits, here .before .before .before .before .before .before .before .before .before .before .before .before .good)
 
-same-length : tie.Need-same-length
-same-length c = search needs
-
-same-length-2 : tie.Need-same-length-2
-same-length-2 c = search needs
-
-same-length-3 : tie.Need-same-length-3
-same-length-3 c = search needs
-
-same-length-4 : tie.Need-same-length-4
-same-length-4 c = search needs
-
-same-length-5 : tie.Need-same-length-5
-same-length-5 c = search needs
-
 returns : tie.Need-returns
 returns c = steps (c .before .before .before .before .before .before .before .before .before .before .before .before)
 
@@ -62,14 +35,14 @@ pub serve-from-spec : {M : Type 1} → statement M
 serve-from-spec =
     tie.close
     (tie.spec
-    sub-serve
-    part-serve-start
-    part-serve-end
-    serve-requires
+    (λ c. search needs)
+    (λ c. search needs)
+    (λ c. search needs)
+    (λ c κs. search needs)
     add-filled
-    same-length
-    same-length-2
-    same-length-3
-    same-length-4
-    same-length-5
+    (λ c. search needs)
+    (λ c. search needs)
+    (λ c. search needs)
+    (λ c. search needs)
+    (λ c. search needs)
     returns)

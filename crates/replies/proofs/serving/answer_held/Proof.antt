@@ -6,12 +6,6 @@ use borrow.Author.Needs.{needs}
 use Rattle.replies.proofs.serving.answer_held.Statement.{statement}
 use Rattle.replies.proofs.serving.answer_held.Tie as tie
 
-put-other-requires : tie.Need-put-other-requires
-put-other-requires c κs = search needs
-
-same-length : tie.Need-same-length
-same-length c = search needs
-
 returns : tie.Need-returns
 returns c = rw (c .before .before .before .before .if1 .taken) (c .before .before .put-other .ensures)
 
@@ -21,19 +15,7 @@ slice-aggregate-answer c = sym (length-take-le _ _ (omega arith))
 answer-requires : tie.Need-answer-requires
 answer-requires c κs =
     let a = c .before .before .before .before .before .before .before .before .before .before .before .args in
-    (omega (arith, length-take-le (a .held .count) (a .kept .now) (omega arith)), (omega arith, (omega arith, omega arith)))
-
-same-length-2 : tie.Need-same-length-2
-same-length-2 c = search needs
-
-same-length-3 : tie.Need-same-length-3
-same-length-3 c = search needs
-
-same-length-4 : tie.Need-same-length-4
-same-length-4 c = search needs
-
-same-length-5 : tie.Need-same-length-5
-same-length-5 c = search needs
+    ((omega (arith, length-take-le (a .held .count) (a .kept .now) (omega arith)), omega arith, omega arith), omega arith)
 
 returns-2 : tie.Need-returns-2
 returns-2 c = rw (c .before .before .before .before .before .before .before .before .before .before .before .before .before .before .if1 .left) (c .before .before .before .before .before .before .before .before .answer .ensures)
@@ -42,13 +24,13 @@ pub answer-held-spec : {M : Type 1} → statement M
 answer-held-spec =
     tie.close
     (tie.spec
-    put-other-requires
-    same-length
+    (λ c κs. search needs)
+    (λ c. search needs)
     returns
     slice-aggregate-answer
     answer-requires
-    same-length-2
-    same-length-3
-    same-length-4
-    same-length-5
+    (λ c. search needs)
+    (λ c. search needs)
+    (λ c. search needs)
+    (λ c. search needs)
     returns-2)

@@ -12,19 +12,13 @@ use borrow.Author.Needs.{needs}
 use Rattle.replies.proofs.serving.put_line.Statement.{statement}
 use Rattle.replies.proofs.serving.put_line.Tie as tie
 
-sub-room : tie.Need-sub-room
-sub-room c = search needs
-
-slice-relend-prefix-answer-held : tie.Need-slice-relend-prefix-answer-held
-slice-relend-prefix-answer-held c = search needs
-
 slice-aggregate-answer-held : tie.Need-slice-aggregate-answer-held
 slice-aggregate-answer-held c = sym (length-take-le _ _ (omega arith))
 
 answer-held-requires : tie.Need-answer-held-requires
 answer-held-requires c κs =
     let out = c .before .before .before .before .before .before .before .before .before .args .out .now in
-    (omega arith, (omega arith, (omega arith, (omega arith, omega (arith, length-take-le (length out - 1) out (omega arith))))))
+    (omega arith, ((omega arith, omega arith, omega arith), omega (arith, length-take-le (length out - 1) out (omega arith))))
 
 line : (c : tie.After-slice-known8) → let a = c .before .before .before .before .before .before .before .before .before .before .before .before .before .before .before .before .before .before .args in let s = c .before .before .before .before .before .before .before .before .answer-held in
     Ended (heldAnswer (answerOf (a .program)) (a .kept .now) (a .held)) (a .out .now) (s .last .1 .1 .1 .1 .1 .1 .0) newline (s .result) (length (a .out .now) - 1)
@@ -36,18 +30,6 @@ slice-write-out c = omega (arith, line c .within, line c .long)
 add-result : tie.Need-add-result
 add-result c = omega (arith, line c .within)
 
-same-length : tie.Need-same-length
-same-length c = search needs
-
-same-length-2 : tie.Need-same-length-2
-same-length-2 c = search needs
-
-same-length-3 : tie.Need-same-length-3
-same-length-3 c = search needs
-
-same-length-4 : tie.Need-same-length-4
-same-length-4 c = search needs
-
 returns : tie.Need-returns
 returns c = (line c .size, line c .left)
 
@@ -55,14 +37,14 @@ pub put-line-spec : {M : Type 1} → statement M
 put-line-spec =
     tie.close
     (tie.spec
-    sub-room
-    slice-relend-prefix-answer-held
+    (λ c. search needs)
+    (λ c. search needs)
     slice-aggregate-answer-held
     answer-held-requires
     slice-write-out
     add-result
-    same-length
-    same-length-2
-    same-length-3
-    same-length-4
+    (λ c. search needs)
+    (λ c. search needs)
+    (λ c. search needs)
+    (λ c. search needs)
     returns)

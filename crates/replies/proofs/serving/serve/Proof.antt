@@ -10,9 +10,6 @@ use borrow.Author.Needs.{needs}
 use Rattle.replies.proofs.serving.serve.Statement.{statement}
 use Rattle.replies.proofs.serving.serve.Tie as tie
 
-take-requires : tie.Need-take-requires
-take-requires c κs = search needs
-
 -- what was taken keeps to the room and to the number of the line
 taken : (c : tie.After-take) → let a = c .before .before .before .before .before .before .before .before .args in let h = c .take .result .held in
     (h .count ≤ length (a .kept .now)) × (h .before ≡ a .held .before)
@@ -24,25 +21,10 @@ reply-requires c κs =
     let t = taken here in
     let same = here .take .kept .1 .1 .0 in
     let pre = here .before .before .before .before .before .before .before .before .pre in
-    (omega (arith, t .0, same), (omega (arith, same, pre), (omega (arith, pre), (omega (arith, pre), (omega (arith, t .1, pre), omega (arith, pre))))))
+    (omega (arith, t .0, same), ((omega (arith, same, pre), omega (arith, pre), omega (arith, pre)), (omega (arith, t .1, pre), omega (arith, pre))))
 
 next-requires : tie.Need-next-requires
 next-requires c κs = let here = c .before .before .before .before .before .before .before .before .before .before .before .before .before .before .before .before .before .before in omega (arith, taken here .1, here .before .before .before .before .before .before .before .before .pre)
-
-same-length : tie.Need-same-length
-same-length c = search needs
-
-same-length-2 : tie.Need-same-length-2
-same-length-2 c = search needs
-
-same-length-3 : tie.Need-same-length-3
-same-length-3 c = search needs
-
-same-length-4 : tie.Need-same-length-4
-same-length-4 c = search needs
-
-same-length-5 : tie.Need-same-length-5
-same-length-5 c = search needs
 
 returns : tie.Need-returns
 returns c =
@@ -57,9 +39,6 @@ returns c =
     (t .last .1 .1 .0) (r .last .1 .1 .1 .1 .1 .1 .0) (a .out .now) (r .result) (c .next .result) (test .if1 .taken) (t .ensures .1) (c .next .ensures) (r .ensures) in
     (s .0, (t .ensures .1, s .1))
 
-same-length-6 : tie.Need-same-length-6
-same-length-6 c = search needs
-
 returns-2 : tie.Need-returns-2
 returns-2 c =
     let took = c .before .before .before .before in
@@ -72,14 +51,14 @@ pub serve-spec : {M : Type 1} → statement M
 serve-spec =
     tie.close
     (tie.spec
-    take-requires
+    (λ c κs. search needs)
     reply-requires
     next-requires
-    same-length
-    same-length-2
-    same-length-3
-    same-length-4
-    same-length-5
+    (λ c. search needs)
+    (λ c. search needs)
+    (λ c. search needs)
+    (λ c. search needs)
+    (λ c. search needs)
     returns
-    same-length-6
+    (λ c. search needs)
     returns-2)
