@@ -54,7 +54,7 @@ Chooses f before pick = (x y : Float) → T (fits f x) → T (fits f y) → Chos
 
 module _ (f : Format) where
   level-above : Tied f above
-  level-above x y a b h k p q = level x y a b h k q p
+  level-above x y a b h k p q = level f x y a b h k q p
 
   add-alike : (s x y : Float) → FromZero f s → Alike x y → add f s x ≡ add f s y
   add-alike s x y z (inl e) = ap (add f s) e
