@@ -1,6 +1,5 @@
 -- Laws of a line's answer by its fields: what a row asks of the widths, and a last field that a tab in it makes X.
 use mathlib.Core.Path.{_≡_, refl}
-use mathlib.Core.Bool.{Bool, true, false, cond}
 use mathlib.Core.List.{List, []}
 use Prim.Native.Nat.{ℕ, _+_, _-_, _*_, _<_, _≤_}
 use native.Mathlib.Omega.{arith}
@@ -16,7 +15,7 @@ use Rattle.lines.proofs.Pairs.{blob-none}
 use Rattle.promises.proofs.Onto.{tail-lent}
 use Rattle.lines.proofs.Parting.{parts-at, parts-last}
 use Rattle.lines.specs.Fields.{one, two, three, other, spelled}
-use Rattle.lines.proofs.Fields.{one-field, two-fields}
+use Rattle.lines.proofs.Fields.{one-field, two-fields, either}
 use Rattle.probe_lines.specs.Line.{rowOf, computedOf, ofWidth, verbOf, answerTo, answerBy, answerOf}
 use Rattle.probe_lines.specs.Blobs.{readText}
 use Rattle.probe_lines.specs.declared.Verb.{Verb}
@@ -50,11 +49,6 @@ last-computed w s = one-field (computedOf w) s (tab-other w s)
 pub last-read : (r : Reader) (s : List ℕ) → one (readText r) (fieldsOf s) ≡ readText r s
 unfolding readText spelled digitOf
 last-read r s = one-field (readText r) s (λ less. rw (ne-eqb (2 * length (hexBytes s)) (length s) (λ e. omega (arith, e, blob-none tab s (lit≤ tt) less))))
-
--- whichever way
-either : (t : Bool) → cond t other other ≡ other
-either true = refl
-either false = refl
 
 width-other : (width s : List ℕ) → indexOf tab s < length s → ofWidth width s ≡ other
 unfolding ofWidth
