@@ -1,1 +1,3 @@
 pub mod Nearer
+pub mod Deciding
+pub mod Examples

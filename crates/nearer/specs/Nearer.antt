@@ -1,9 +1,8 @@
 -- The nearer of two candidates to a probe, which is the first vector of each pair: the refusals in their order, then the lesser distance.
 use Prim.Native.Nat.{ℕ}
-use mathlib.Core.Bool.{Bool, cond, _&&_, _||_}
+use mathlib.Core.Bool.{cond, _&&_, _||_}
 use mathlib.Core.List.{List, [], _++_}
 use mathlib.Core.Option.{Option, none, some}
-use lib.Dec.{eqb}
 use lib.Ieee.{Float, le, isNan}
 use Rattle.vector_types.specs.Answers.{refusal, firstOf, unless}
 use Rattle.vector_types.specs.Read.{readOf}
@@ -15,11 +14,8 @@ use Rattle.vector_types.specs.declared.ReadAnswer.the-variants.{View as Seen, R
 use Rattle.distance.specs.Values.{valueOf}
 use Rattle.distance.specs.Answer.{mismatches}
 use Rattle.distance.specs.declared.Distance.{Distance}
-use Rattle.distance.specs.declared.DistanceAnswer.{DistanceAnswer}
-use Rattle.distance.specs.declared.DistanceAnswer.the-variants.{Measured, Refused as Unmeasured}
 use Rattle.nearer.specs.declared.Candidate.{Candidate}
 use Rattle.nearer.specs.declared.Candidate.the-variants.{First, Second}
-use Rattle.nearer.specs.declared.Among.{Among}
 use Rattle.nearer.specs.declared.Among.the-variants.{Probe, First as TheFirst, Second as TheSecond, Neither}
 use Rattle.nearer.specs.declared.NearerAnswer.{NearerAnswer}
 use Rattle.nearer.specs.declared.NearerAnswer.the-variants.{Nearer, Refused}
@@ -55,16 +51,6 @@ unfolding chosen valueOf
 comparedOf m v w u p a b =
     unless (firstOf (mismatches v w ++ mismatches v u)) refusesAll
     (decided (valueOf m (v .kind) (v .dims .0) p a) (valueOf m (v .kind) (v .dims .0) p b))
-
--- by what the two pairs answer, each on its own: the same (`compared-by`, proofs/Compared.antt)
-abbrev pub afterAbsent : Refusal → DistanceAnswer → NearerAnswer
-afterAbsent r (Measured y) = refusesAll r
-afterAbsent r (Unmeasured s w) = refusesAll s
-
-abbrev pub decidedBy : DistanceAnswer → DistanceAnswer → NearerAnswer
-decidedBy (Measured x) (Measured y) = chosen x y
-decidedBy (Measured x) (Unmeasured s w) = refusesAll s
-decidedBy (Unmeasured r w) q = cond (eqb (r .number) 14) (afterAbsent r q) (refusesAll r)
 
 -- of what reading each answers
 abbrev pub nearerIn : Distance → ReadAnswer → ReadAnswer → ReadAnswer → List ℕ → List ℕ → List ℕ → NearerAnswer

@@ -2,9 +2,9 @@
 ghost use mathlib.Core.Path.{_≡_};
 ghost use Rattle.vector_types.specs.Read.{readOf};
 ghost use Rattle.vector_types.specs.Parts.{bodyOf};
-ghost use Rattle.vector_types.specs.Answers.{refusal};
 ghost use Rattle.vector_types.specs.declared.ReadAnswer.the-variants.{View as Seen};
-ghost use Rattle.nearer.specs.Nearer.{near as nearOf, refusesAll, chosen, decidedBy, comparedOf, nearerOf, partOf, placeOf};
+ghost use Rattle.nearer.specs.Nearer.{near, chosen, comparedOf, nearerOf, partOf, placeOf};
+ghost use Rattle.nearer.specs.Deciding.{decidedBy};
 use distance::Distance;
 use distance::DistanceAnswer;
 use vector_types::ReadAnswer;
@@ -35,8 +35,8 @@ pub enum NearerAnswer {
     Refused(Refusal, Among),
 }
 
-fn near(candidate: Candidate, distance: f64) -> NearerAnswer
-    ensures { λ r. ⌜ r ≡ nearOf candidate distance ⌝ }
+fn answer(candidate: Candidate, distance: f64) -> NearerAnswer
+    ensures { λ r. ⌜ r ≡ near candidate distance ⌝ }
 {
     NearerAnswer::Nearer(Near {
         candidate,
@@ -49,13 +49,13 @@ fn choose(x: f64, y: f64) -> NearerAnswer
     ensures { λ r. ⌜ r ≡ chosen x y ⌝ }
 {
     if x <= y {
-        return near(Candidate::First, x);
+        return answer(Candidate::First, x);
     }
     if y == y {
-        return near(Candidate::Second, y);
+        return answer(Candidate::Second, y);
     }
     if x == x {
-        return near(Candidate::First, x);
+        return answer(Candidate::First, x);
     }
     NearerAnswer::Refused(Refusal { number: 18 }, Among::Neither)
 }

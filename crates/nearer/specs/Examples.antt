@@ -1,0 +1,78 @@
+-- The nearer of two: one table, and one statement about all of it, which antt computes.
+use mathlib.Core.Path.{_≡_, refl}
+use mathlib.Core.List.{List, [], _∷_, _++_, map}
+use Prim.Native.Nat.{ℕ}
+use lib.Ieee.{add, sub, mul, div, neg, eq, lt, le, isNan, ofInt, ofBits, binary64}
+use Rattle.float_laws.specs.Running.{running, total}
+use Rattle.elements.specs.Bytes.{numberAt}
+use Rattle.vector_types.specs.Answers.{refusal}
+use Rattle.vector_types.specs.Search.{firstFrom}
+use Rattle.vector_types.specs.Layout.{named, byByte, before, fits, rowOf}
+use Rattle.vector_types.specs.Read.{readOf, refusals, shown}
+use Rattle.vector_types.specs.Parts.{bodyOf}
+use Rattle.distance.specs.Merged.{merged}
+use Rattle.distance.specs.Examples.{bits, zero, one, noEntry}
+use Rattle.distance.specs.declared.Distance.{Distance}
+use Rattle.distance.specs.declared.Distance.the-variants.{Cos, L2, Dot}
+use Rattle.nearer.specs.Nearer.{near, refusesAll, nearerOf}
+use Rattle.nearer.specs.declared.Candidate.{Candidate}
+use Rattle.nearer.specs.declared.Candidate.the-variants.{First, Second}
+use Rattle.nearer.specs.declared.Among.the-variants.{Probe, First as TheFirst, Second as TheSecond}
+use Rattle.nearer.specs.declared.NearerAnswer.{NearerAnswer}
+use Rattle.nearer.specs.declared.NearerAnswer.the-variants.{Refused}
+
+-- what the definitions say of a probe and two candidates, and what document 01 says
+pub record Example : Type 0 where
+  pub defined : NearerAnswer
+  pub written : NearerAnswer
+
+abbrev pub answers : Distance → List ℕ → List ℕ → List ℕ → NearerAnswer → Example
+answers m p a b r = record { defined = nearerOf m p a b; written = r }
+
+-- a candidate and its distance, by its pattern; a refusal that is about none
+abbrev pub finds : Distance → List ℕ → List ℕ → List ℕ → Candidate → ℕ → Example
+finds m p a b c pattern = answers m p a b (near c (ofBits binary64 pattern))
+
+abbrev pub refuses : Distance → List ℕ → List ℕ → List ℕ → ℕ → Example
+refuses m p a b n = answers m p a b (refusesAll (refusal n))
+
+-- dense f32: -0.0, -1.0 and a NaN
+abbrev pub minusZero : List ℕ
+minusZero = 0 ∷ 0 ∷ 0 ∷ 0x80 ∷ []
+
+abbrev pub minusOne : List ℕ
+minusOne = 0 ∷ 0 ∷ 0x80 ∷ 0xbf ∷ []
+
+abbrev pub nan : List ℕ
+nan = 0 ∷ 0 ∷ 0xc0 ∷ 0x7f ∷ []
+
+-- a Float8 blob of dims 1, its byte 0, with an alpha and a shift
+abbrev pub scaled : List ℕ → List ℕ → List ℕ
+scaled alpha shift = zero ++ alpha ++ shift ++ 0 ∷ 3 ∷ 4 ∷ []
+
+abbrev pub table : List Example
+table =
+    finds Dot one zero one Second 0xbff0_0000_0000_0000
+    ∷ finds Dot one one zero First 0xbff0_0000_0000_0000
+    -- a tie of 0.0 and -0.0 gives the first, with its own sign
+    ∷ finds Dot (scaled one one) (scaled minusOne minusZero) (scaled zero zero) First 0
+    ∷ finds Dot (scaled one one) (scaled zero zero) (scaled minusOne minusZero) First 0x8000_0000_0000_0000
+    -- NaN loses to a number; two of them give neither
+    ∷ finds Dot one nan one Second 0xbff0_0000_0000_0000
+    ∷ finds Dot one one nan First 0xbff0_0000_0000_0000
+    ∷ refuses Cos noEntry noEntry noEntry 18
+    -- 12 and 13 of the second are named before 14
+    ∷ refuses L2 (bits 0xaa) (bits 0xab) one 12
+    ∷ refuses L2 (bits 0xaa) (bits 0xab) (8 ∷ 0 ∷ 0 ∷ 0 ∷ 9 ∷ []) 13
+    ∷ refuses L2 (bits 0xaa) (bits 0xab) (bits 0xac) 14
+    -- 13 of the first before 12 of the second
+    ∷ refuses Dot (one ++ zero) noEntry one 13
+    -- the probe is read first, then the first and the second, before any two are compared
+    ∷ answers Dot (0x07 ∷ []) (0x05 ∷ []) one (Refused (refusal 3) Probe)
+    ∷ answers Dot one (0x05 ∷ []) (0x07 ∷ []) (Refused (refusal 2) TheFirst)
+    ∷ answers Dot one noEntry (0x05 ∷ []) (Refused (refusal 2) TheSecond)
+    ∷ []
+
+pub table-holds : map (λ (e : Example). e .defined) table ≡ map (λ (e : Example). e .written) table
+unfolding nearerOf readOf bodyOf named byByte before fits refusals shown firstFrom numberAt rowOf running total merged add sub mul div neg eq lt le isNan ofInt ofBits
+table-holds = refl
