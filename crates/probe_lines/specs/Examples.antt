@@ -1,4 +1,4 @@
--- Worked examples: lines about floats and about blobs with their answers, an input and what is printed of it, and one statement about all of them, which antt computes.
+-- Worked examples: lines about floats and about blobs with their answers, and one statement about all of them, which antt computes.
 use mathlib.Core.Path.{_≡_, refl}
 use mathlib.Core.List.{List, [], _∷_}
 use Prim.Native.String.{String}
@@ -16,10 +16,8 @@ use Rattle.convert.specs.Convert.{convertOf}
 use Rattle.lines.specs.Text.{word, same}
 use Rattle.lines.specs.Hex.{digitOf, numberFrom, patternOf, pairOf, hexBytes, hexOf}
 use Rattle.lines.specs.Decimal.{decimalOf, numeralOf}
-use Rattle.lines.specs.Parts.{partsOf, lastUnlessEmpty}
-use Rattle.lines.specs.Printed.{replyOf, repliesFrom}
+use Rattle.lines.specs.Parts.{partsOf}
 use Rattle.probe_lines.specs.Line.{answerOf}
-use Rattle.probe_lines.specs.Printed.{printed}
 
 pub record Example : Type 0 where
   pub line : String
@@ -83,16 +81,12 @@ abbrev pub Holds : List Example → Type 0
 Holds [] = Unit
 Holds (e ∷ es) = (answerOf (word (e .line)) ≡ word (e .answer)) × Holds es
 
-abbrev pub Printed : String → String → Type 0
-Printed input output = printed (word input) ≡ word output
-
-pub examples-hold : Holds floats × Holds blobs × Holds conversions × Printed "trunc\t40400000\n\ntrunc\t40400000" "1\tF\t03\n2\tX\n3\tF\t03\n"
-unfolding repliesFrom replyOf lastUnlessEmpty partsOf same answerOf decimalOf numeralOf patternOf numberFrom digitOf pairOf hexBytes hexOf
+pub examples-hold : Holds floats × Holds blobs × Holds conversions
+unfolding partsOf same answerOf decimalOf numeralOf patternOf numberFrom digitOf pairOf hexBytes hexOf
     root narrowed truncated toBits readOf strictOf writeOf firstFrom bodyOf
     convertOf spread bytesOf numberAt put ofInt sub div eq lt
 examples-hold = (
   (refl, (refl, (refl, (refl, (refl, (refl, (refl, (refl, (refl, (refl, (refl, (refl, (refl, tt))))))))))))),
   (refl, (refl, (refl, (refl, (refl, (refl, (refl, (refl, (refl, (refl, (refl, (refl, (refl, (refl, (refl, (refl, tt)))))))))))))))),
   (refl, (refl, (refl, (refl, (refl, (refl, (refl, (refl, tt)))))))),
-  refl,
 )

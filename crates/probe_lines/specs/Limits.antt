@@ -1,4 +1,4 @@
--- The sizes of lines and replies.
+-- How long a line may be, and the rooms to work in.
 use Prim.Native.Nat.{ℕ, _*_}
 use Rattle.vector_types.specs.Layout.{longest as longestBlob, mostDims}
 
