@@ -1,15 +1,15 @@
 -- Laws of a line's answer by its fields: how many there are, fields that spell bytes, a field that is one of several words, and texts put one after another.
 use mathlib.Core.Path.{_≡_, refl, sym, ap, _∙_}
-use mathlib.Core.Bool.{Bool, true, cond}
+use mathlib.Core.Bool.{Bool, true, false, cond}
 use mathlib.Core.List.{List, [], _∷_, _++_}
 use Prim.Native.Nat.{ℕ, _+_, _-_, _*_, _<_}
 use native.Mathlib.Omega.{arith}
 use native.Mathlib.Decide.{decLt}
 use borrow.Rule.Slice.PartMut.{putMid}
 use borrow.Author.Tests.{eq-eqb, ne-eqb}
-use lib.Dec.{lit≤}
-use lib.ListN.{length, take, drop, length-append}
-use lib.Seq.{take-at}
+use lib.Dec.{lit≤, eqb}
+use lib.ListN.{length, take, drop, length-append, length-drop}
+use lib.Seq.{take-at, drop-at, length-take-le}
 use Rattle.bytes.specs.Bytes.{indexOf}
 use Rattle.promises.specs.Onto.{onto}
 use Rattle.promises.proofs.Onto.{onto-then, tail-lent}
@@ -61,6 +61,10 @@ three-short g s all = rw (parts-last tab s all)
 abbrev pub after : ℕ → List ℕ → List ℕ
 after end s = take (length s - (end + 1)) (drop (end + 1) s)
 
+-- the first field and the text after it have fewer bytes than both
+pub fields-within : (s : List ℕ) (end : ℕ) → end < length s → length (take end s) + length (after end s) < length s
+fields-within s end less = omega (arith, less, length-take-le end s (omega arith), ap length (tail-lent (end + 1) s), length-drop (end + 1) s)
+
 pub three-fields : (g : List ℕ → List ℕ → List ℕ → List ℕ) (s : List ℕ) (end : ℕ) → end ≡ indexOf tab s → end < length s
     → two (g (take end s)) (fieldsOf (after end s)) ≡ three g (fieldsOf s)
 unfolding three
@@ -85,17 +89,35 @@ pub puts-then : (v w l o ys : List ℕ) (n m : ℕ) → Puts v l o n → Puts w 
     → Puts (v ++ w) l (putMid n (length o - n) o ys) (n + m)
 puts-then v w l o ys n m p q = (rw length-append (omega arith), onto-then v w l o ys n (p .1) (sym (p .0)) (q .1))
 
+-- what was put is there
+pub put-there : (w l o : List ℕ) (n : ℕ) → Puts w l o n → take n o ≡ w
+put-there w l o n p = rw (p .1) (take-at w (drop (length w) l) n (sym (p .0)))
+
+-- a text that is v, of n bytes, and w after it: these bytes, and the part from n on as it is lent
+pub parted : {t v w : List ℕ} {n : ℕ} → t ≡ v ++ w → n ≡ length v → (take n t ≡ v) × (take (length t - n) (drop n t) ≡ w)
+parted {t} {v} {w} {n} e size = (rw e (take-at v w n (sym size)), tail-lent n t ∙ rw e (drop-at v w n (sym size)))
+
+-- X, whichever way
+pub either : (t : Bool) → cond t other other ≡ other
+either true = refl
+either false = refl
+
 -- ---- a field of which n bytes are spelled
 module _ (answer : List ℕ → List ℕ) (field : List ℕ) where
   pub spelled-part : (n : ℕ) → n ≡ length (hexBytes field) → (2 * n ≡ length field → ⊥) → other ≡ spelled answer field
   unfolding spelled
   spelled-part n e less = rw (ne-eqb (2 * length (hexBytes field)) (length field) (λ all. less (rw e all)))
 
-  pub spelled-all : (n : ℕ) (l o : List ℕ) → Puts (hexBytes field) l o n → 2 * n ≡ length field → answer (take n o) ≡ spelled answer field
+  pub spelled-whole : (n : ℕ) → n ≡ length (hexBytes field) → 2 * n ≡ length field → answer (hexBytes field) ≡ spelled answer field
   unfolding spelled
-  spelled-all n l o p all =
-      let text = hexBytes field in
-      rw (p .1, take-at text (drop (length text) l) n (sym (p .0)), eq-eqb (2 * length text) (length field) (rw (p .0) at all))
+  spelled-whole n e all = rw (eq-eqb (2 * length (hexBytes field)) (length field) (rw e at all))
+
+  pub spelled-all : (n : ℕ) (l o : List ℕ) → Puts (hexBytes field) l o n → 2 * n ≡ length field → answer (take n o) ≡ spelled answer field
+  spelled-all n l o p all = ap answer (put-there (hexBytes field) l o n p) ∙ spelled-whole n (p .0) all
+
+  pub spelled-other : answer (hexBytes field) ≡ other → spelled answer field ≡ other
+  unfolding spelled
+  spelled-other e = rw e (either (eqb (2 * length (hexBytes field)) (length field)))
 
   -- a tab is no digit
   pub spelled-tab : indexOf tab field < length field → spelled answer field ≡ other

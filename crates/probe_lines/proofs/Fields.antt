@@ -1,6 +1,5 @@
 -- Laws of a line's answer by its fields: what a row asks of the widths, and a last field that a tab in it makes X.
 use mathlib.Core.Path.{_≡_, refl}
-use mathlib.Core.Bool.{Bool, true, false, cond}
 use mathlib.Core.List.{List, []}
 use Prim.Native.Nat.{ℕ, _+_, _-_, _*_, _<_, _≤_}
 use native.Mathlib.Omega.{arith}
@@ -15,12 +14,12 @@ use Rattle.lines.proofs.Digits.{pattern-none}
 use Rattle.lines.proofs.Pairs.{blob-none}
 use Rattle.promises.proofs.Onto.{tail-lent}
 use Rattle.lines.proofs.Parting.{parts-at, parts-last}
-use Rattle.lines.specs.Fields.{one, two, three, other, spelled}
-use Rattle.lines.proofs.Fields.{one-field, two-fields}
+use Rattle.lines.specs.Fields.{one, two, three, four, other, spelled}
+use Rattle.lines.proofs.Fields.{one-field, two-fields, either}
 use Rattle.probe_lines.specs.Line.{rowOf, computedOf, ofWidth, verbOf, answerTo, answerBy, answerOf}
 use Rattle.probe_lines.specs.Blobs.{readText}
 use Rattle.probe_lines.specs.declared.Verb.{Verb}
-use Rattle.probe_lines.specs.declared.Verb.the-variants.{Root, Float, Read, Write, Convert, Other}
+use Rattle.probe_lines.specs.declared.Verb.the-variants.{Root, Float, Read, Write, Convert, Near, Other}
 use Rattle.probe_lines.specs.declared.blobs.Reader.{Reader}
 use Rattle.probe_lines.specs.declared.float.Work.{Work}
 use Rattle.probe_lines.specs.declared.float.Work.the-variants.{Root32, Root64, Narrow, Widen, Trunc}
@@ -51,11 +50,6 @@ pub last-read : (r : Reader) (s : List ℕ) → one (readText r) (fieldsOf s) �
 unfolding readText spelled digitOf
 last-read r s = one-field (readText r) s (λ less. rw (ne-eqb (2 * length (hexBytes s)) (length s) (λ e. omega (arith, e, blob-none tab s (lit≤ tt) less))))
 
--- whichever way
-either : (t : Bool) → cond t other other ≡ other
-either true = refl
-either false = refl
-
 width-other : (width s : List ℕ) → indexOf tab s < length s → ofWidth width s ≡ other
 unfolding ofWidth
 width-other width s less = rw (tab-other Root32 s less, tab-other Root64 s less, either, either)
@@ -66,7 +60,7 @@ root-fields s end e less = two-fields ofWidth s end e less (width-other (take en
 
 -- a line that is its first field alone, and one that has more
 pub answer-short : (line : List ℕ) → indexOf tab line ≡ length line → answerOf line ≡ other
-unfolding answerOf answerBy answerTo three two one
+unfolding answerOf answerBy answerTo four three two one
 answer-short line all = rw (parts-last tab line all) (go (verbOf line))
   where
     go : (v : Verb) → answerTo v [] ≡ other
@@ -75,6 +69,7 @@ answer-short line all = rw (parts-last tab line all) (go (verbOf line))
     go (Read r) = refl
     go Write = refl
     go Convert = refl
+    go Near = refl
     go Other = refl
 
 pub answer-fields : (line : List ℕ) (end : ℕ) → end ≡ indexOf tab line → end < length line

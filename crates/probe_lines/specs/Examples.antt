@@ -1,8 +1,9 @@
--- Worked examples: lines about floats and about blobs with their answers, and one statement about all of them, which antt computes.
+-- Worked examples: lines about floats, about blobs and about candidates with their answers, and one statement about all of them, which antt computes.
 use mathlib.Core.Path.{_≡_, refl}
 use mathlib.Core.List.{List, [], _∷_}
 use Prim.Native.String.{String}
-use lib.Ieee.{toBits, ofInt, sub, div, eq, lt}
+use lib.Ieee.{toBits, ofBits, ofInt, add, sub, mul, div, neg, eq, lt, le, isNan}
+use Rattle.float_laws.specs.Running.{running, total}
 use Rattle.rounding.specs.Root.{root}
 use Rattle.rounding.specs.Narrow.{narrowed}
 use Rattle.rounding.specs.Truncate.{truncated}
@@ -13,6 +14,8 @@ use Rattle.vector_types.specs.Parts.{bodyOf}
 use Rattle.elements.specs.Bytes.{bytesOf, numberAt, put}
 use Rattle.convert.specs.Dense.{spread}
 use Rattle.convert.specs.Convert.{convertOf}
+use Rattle.distance.specs.Merged.{merged}
+use Rattle.nearer.specs.Nearer.{nearerOf}
 use Rattle.lines.specs.Text.{word, same}
 use Rattle.lines.specs.Hex.{digitOf, numberFrom, patternOf, pairOf, hexBytes, hexOf}
 use Rattle.lines.specs.Decimal.{decimalOf, numeralOf}
@@ -77,16 +80,32 @@ conversions =
     ∷ example "conv\t9" "X"
     ∷ []
 
+-- the second is nearer, the first is, a tie, no likeness at all; refusals, and lines of too few and too many fields
+abbrev pub nearest : List Example
+nearest =
+    example "near\tdot\t0000803f\t00000000\t0000803f" "N\t2\tbff0000000000000"
+    ∷ example "near\tdot\t0000803f\t0000803f\t00000000" "N\t1\tbff0000000000000"
+    ∷ example "near\tcos\t\t\t" "N\t1\t0000000000000000"
+    ∷ example "near\tcos\t0200000009\t0200000009\t0200000009" "R\t18\t-"
+    ∷ example "near\tcos\t07\t05\t" "R\t3\tp"
+    ∷ example "near\tcos\t\t05\t07" "R\t2\ta"
+    ∷ example "near\tcos\t\t\t05" "R\t2\tb"
+    ∷ example "near\tcos\t07\t05\t0g" "X"
+    ∷ example "near\tcos\t\t" "X"
+    ∷ example "near\tcos\t\t\t\t" "X"
+    ∷ []
+
 abbrev pub Holds : List Example → Type 0
 Holds [] = Unit
 Holds (e ∷ es) = (answerOf (word (e .line)) ≡ word (e .answer)) × Holds es
 
-pub examples-hold : Holds floats × Holds blobs × Holds conversions
+pub examples-hold : Holds floats × Holds blobs × Holds conversions × Holds nearest
 unfolding partsOf same answerOf decimalOf numeralOf patternOf numberFrom digitOf pairOf hexBytes hexOf
     root narrowed truncated toBits readOf strictOf writeOf firstFrom bodyOf
-    convertOf spread bytesOf numberAt put ofInt sub div eq lt
+    convertOf spread bytesOf numberAt put nearerOf running total merged ofBits ofInt add sub mul div neg eq lt le isNan
 examples-hold = (
   (refl, (refl, (refl, (refl, (refl, (refl, (refl, (refl, (refl, (refl, (refl, (refl, (refl, tt))))))))))))),
   (refl, (refl, (refl, (refl, (refl, (refl, (refl, (refl, (refl, (refl, (refl, (refl, (refl, (refl, (refl, (refl, tt)))))))))))))))),
   (refl, (refl, (refl, (refl, (refl, (refl, (refl, (refl, tt)))))))),
+  (refl, (refl, (refl, (refl, (refl, (refl, (refl, (refl, (refl, (refl, tt)))))))))),
 )

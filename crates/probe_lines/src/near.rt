@@ -69,9 +69,10 @@ fn near_fields(
     if 2 * n != second.len() {
         return put_other(out);
     }
-    let end = b + n;
+    let blobs = &spelled[..b + n];
+    let pair = &blobs[..b];
     put_nearer(
-        nearer::nearer(distance, &spelled[..a], &spelled[a..b], &spelled[b..end]),
+        nearer::nearer(distance, &pair[..a], &pair[a..], &blobs[b..]),
         out,
     )
 }

@@ -12,7 +12,6 @@ use Rattle.lines.specs.Printed.{headOf}
 use Rattle.lines.specs.Parts.{fieldsOf}
 use Rattle.lines.specs.Fields.{other, three, spelled}
 use Rattle.distance.specs.Answer.{distanceOf}
-use Rattle.distance.specs.declared.Distance.{Distance}
 use Rattle.distance.specs.declared.Distance.the-variants.{Cos, L2, Dot, Jaccard}
 use Rattle.distance.specs.declared.Which.{Which}
 use Rattle.distance.specs.declared.Which.the-variants.{First, Second, Neither}

@@ -100,9 +100,9 @@ fn answer_pair(
     if 2 * n != second.len() {
         return put_other(out);
     }
-    let end = m + n;
+    let blobs = &spelled[..m + n];
     put_answer(
-        distance::vector_distance(distance, &spelled[..m], &spelled[m..end]),
+        distance::vector_distance(distance, &blobs[..m], &blobs[m..]),
         out,
     )
 }

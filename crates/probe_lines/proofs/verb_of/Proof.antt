@@ -8,7 +8,7 @@ use Rattle.lines.specs.Text.{word}
 use Rattle.lines.proofs.Fields.{named, told}
 use Rattle.probe_lines.specs.Line.{verbOf}
 use Rattle.probe_lines.specs.declared.Verb.{Verb}
-use Rattle.probe_lines.specs.declared.Verb.the-variants.{Root, Float, Read, Write, Convert, Other}
+use Rattle.probe_lines.specs.declared.Verb.the-variants.{Root, Float, Read, Write, Convert, Near, Other}
 use Rattle.probe_lines.specs.declared.blobs.Reader.the-variants.{Plain, Strict}
 use Rattle.probe_lines.specs.declared.float.Work.the-variants.{Narrow, Widen, Trunc}
 use borrow.Author.Needs.{needs}
@@ -19,7 +19,7 @@ use Rattle.probe_lines.proofs.verb_of.Tie as tie
 abbrev words : List (List ℕ × Verb)
 words =
     (word "root", Root) ∷ (word "narrow", Float Narrow) ∷ (word "widen", Float Widen) ∷ (word "trunc", Float Trunc)
-    ∷ (word "read", Read Plain) ∷ (word "strict", Read Strict) ∷ (word "write", Write) ∷ (word "conv", Convert) ∷ []
+    ∷ (word "read", Read Plain) ∷ (word "strict", Read Strict) ∷ (word "write", Write) ∷ (word "conv", Convert) ∷ (word "near", Near) ∷ []
 
 abbrev from : ℕ → List ℕ → Verb
 from n w = named (drop n words) Other w
@@ -74,108 +74,43 @@ asked8 c = asked7 (c .before .before .before)
 past8 : (c : tie.Else8) → verbOf (asked8 c) ≡ from 8 (asked8 c)
 past8 c = past7 (c .before .before .before) ∙ told false (c .before .same8 .ensures) (c .if8 .left) _ _
 
-slice-aggregate-same : tie.Need-slice-aggregate-same
-slice-aggregate-same c = search needs
-
-same-requires : tie.Need-same-requires
-same-requires c κs = search needs
-
 returns : tie.Need-returns
 unfolding verbOf
 returns c = sym (told true (c .before .same .ensures) (c .if1 .taken) _ _)
 
-slice-aggregate-same-2 : tie.Need-slice-aggregate-same-2
-slice-aggregate-same-2 c = search needs
-
-same-requires-2 : tie.Need-same-requires-2
-same-requires-2 c κs = search needs
-
 returns-2 : tie.Need-returns-2
 returns-2 c = sym (past1 (c .before .before .before) ∙ told true (c .before .same2 .ensures) (c .if2 .taken) _ _)
-
-slice-aggregate-same-3 : tie.Need-slice-aggregate-same-3
-slice-aggregate-same-3 c = search needs
-
-same-requires-3 : tie.Need-same-requires-3
-same-requires-3 c κs = search needs
 
 returns-3 : tie.Need-returns-3
 returns-3 c = sym (past2 (c .before .before .before) ∙ told true (c .before .same3 .ensures) (c .if3 .taken) _ _)
 
-slice-aggregate-same-4 : tie.Need-slice-aggregate-same-4
-slice-aggregate-same-4 c = search needs
-
-same-requires-4 : tie.Need-same-requires-4
-same-requires-4 c κs = search needs
-
 returns-4 : tie.Need-returns-4
 returns-4 c = sym (past3 (c .before .before .before) ∙ told true (c .before .same4 .ensures) (c .if4 .taken) _ _)
-
-slice-aggregate-same-5 : tie.Need-slice-aggregate-same-5
-slice-aggregate-same-5 c = search needs
-
-same-requires-5 : tie.Need-same-requires-5
-same-requires-5 c κs = search needs
 
 returns-5 : tie.Need-returns-5
 returns-5 c = sym (past4 (c .before .before .before) ∙ told true (c .before .same5 .ensures) (c .if5 .taken) _ _)
 
-slice-aggregate-same-6 : tie.Need-slice-aggregate-same-6
-slice-aggregate-same-6 c = search needs
-
-same-requires-6 : tie.Need-same-requires-6
-same-requires-6 c κs = search needs
-
 returns-6 : tie.Need-returns-6
 returns-6 c = sym (past5 (c .before .before .before) ∙ told true (c .before .same6 .ensures) (c .if6 .taken) _ _)
 
-slice-aggregate-same-7 : tie.Need-slice-aggregate-same-7
-slice-aggregate-same-7 c = search needs
-
-same-requires-7 : tie.Need-same-requires-7
-same-requires-7 c κs = search needs
-
 returns-7 : tie.Need-returns-7
 returns-7 c = sym (past6 (c .before .before .before) ∙ told true (c .before .same7 .ensures) (c .if7 .taken) _ _)
-
-slice-aggregate-same-8 : tie.Need-slice-aggregate-same-8
-slice-aggregate-same-8 c = search needs
-
-same-requires-8 : tie.Need-same-requires-8
-same-requires-8 c κs = search needs
 
 returns-8 : tie.Need-returns-8
 returns-8 c = sym (past7 (c .before .before .before) ∙ told true (c .before .same8 .ensures) (c .if8 .taken) _ _)
 
 returns-9 : tie.Need-returns-9
-returns-9 c = sym (past8 c)
+returns-9 c = sym (past8 (c .before .before .before) ∙ told true (c .before .same9 .ensures) (c .if9 .taken) _ _)
+
+returns-10 : tie.Need-returns-10
+returns-10 c = sym (past8 (c .before .before .before) ∙ told false (c .before .same9 .ensures) (c .if9 .left) _ _)
 
 pub verb-of-spec : {M : Type 1} → statement M
 verb-of-spec =
     tie.close
     (tie.spec
-    slice-aggregate-same
-    same-requires
-    returns
-    slice-aggregate-same-2
-    same-requires-2
-    returns-2
-    slice-aggregate-same-3
-    same-requires-3
-    returns-3
-    slice-aggregate-same-4
-    same-requires-4
-    returns-4
-    slice-aggregate-same-5
-    same-requires-5
-    returns-5
-    slice-aggregate-same-6
-    same-requires-6
-    returns-6
-    slice-aggregate-same-7
-    same-requires-7
-    returns-7
-    slice-aggregate-same-8
-    same-requires-8
-    returns-8
-    returns-9)
+    (λ c. search needs) (λ c κs. search needs) returns (λ c. search needs) (λ c κs. search needs) returns-2
+    (λ c. search needs) (λ c κs. search needs) returns-3 (λ c. search needs) (λ c κs. search needs) returns-4
+    (λ c. search needs) (λ c κs. search needs) returns-5 (λ c. search needs) (λ c κs. search needs) returns-6
+    (λ c. search needs) (λ c κs. search needs) returns-7 (λ c. search needs) (λ c κs. search needs) returns-8
+    (λ c. search needs) (λ c κs. search needs) returns-9 returns-10)

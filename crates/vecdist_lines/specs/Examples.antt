@@ -1,0 +1,59 @@
+-- Lines with their answers, document 01's first: one table, and one statement about all of it, which antt computes.
+use mathlib.Core.Path.{_≡_, refl}
+use mathlib.Core.List.{List, [], _∷_, map}
+use Prim.Native.String.{String}
+use lib.Ieee.{add, sub, mul, div, neg, eq, lt, ofInt, ofBits, toBits}
+use Rattle.float_laws.specs.Running.{running, total}
+use Rattle.elements.specs.Bytes.{numberAt}
+use Rattle.rounding.specs.Root.{root}
+use Rattle.vector_types.specs.Search.{firstFrom}
+use Rattle.vector_types.specs.Layout.{named, byByte, before, fits, rowOf}
+use Rattle.vector_types.specs.Read.{readOf, refusals, shown}
+use Rattle.vector_types.specs.Parts.{bodyOf}
+use Rattle.distance.specs.Merged.{merged}
+use Rattle.distance.specs.Answer.{distanceOf}
+use Rattle.lines.specs.Text.{word, same}
+use Rattle.lines.specs.Hex.{digitOf, pairOf, hexBytes}
+use Rattle.lines.specs.Decimal.{decimalOf}
+use Rattle.lines.specs.Parts.{partsOf}
+use Rattle.vecdist_lines.specs.Line.{answerOf}
+
+pub record Example : Type 0 where
+  pub line : String
+  pub answer : String
+
+abbrev pub example : String → String → Example
+example l a = record { line = l; answer = a }
+
+abbrev pub table : List Example
+table =
+    example "cos\t\t" "D\t0000000000000000"
+    ∷ example "dot\taa0803\tab0803" "D\tc018000000000000"
+    ∷ example "l2\taa0803\tab0803" "R\t14\t-"
+    ∷ example "cos\t07\t05" "R\t3\ta"
+    ∷ example "cos\t0200000009\t0200000009" "D\t7ff8000000000000"
+    ∷ example "hello" "X"
+    -- the other distances, and refusals about the second blob and about both
+    ∷ example "l2\t0000000000000000\t0000404000008040" "D\t4014000000000000"
+    ∷ example "jac\taa0803\tab0803" "D\t3fc9999999999998"
+    ∷ example "cos\t\t05" "R\t2\tb"
+    ∷ example "cos\t\t0000803f" "R\t12\t-"
+    ∷ example "dot\t0000803f\t000000000000f03f02" "R\t13\t-"
+    -- upper case, a carriage return, a space, an odd digit, a tab too few and one too many, no text
+    ∷ example "COS\t\t" "X"
+    ∷ example "dot\tAA0803\tab0803" "X"
+    ∷ example "cos\t\t\r" "X"
+    ∷ example "cos \t\t" "X"
+    ∷ example "cos\t \t" "X"
+    ∷ example "cos\t0\t" "X"
+    ∷ example "cos\t" "X"
+    ∷ example "cos\t\t\t" "X"
+    ∷ example "" "X"
+    -- the first blob would be refused, but the second is none
+    ∷ example "cos\t07\t0g" "X"
+    ∷ []
+
+pub table-holds : map (λ (e : Example). answerOf (word (e .line))) table ≡ map (λ (e : Example). word (e .answer)) table
+unfolding answerOf partsOf same digitOf pairOf hexBytes decimalOf toBits
+    distanceOf readOf bodyOf named byByte before fits refusals shown firstFrom numberAt rowOf running total root merged add sub mul div neg eq lt ofInt ofBits
+table-holds = refl
