@@ -54,12 +54,23 @@ fn reply_room() -> [u8; 1200000]
     [0; 1200000]
 }
 
-fn cannot_read() {
-    io::write_all(libc::STDERR_FILENO, b"standard input cannot be read\n");
+// Says on standard error what went wrong, and in which program.
+fn cannot_read(program: Program) -> bool {
+    match program {
+        Program::Vecdist => complain(b"vecdist: standard input cannot be read\n"),
+        Program::Vecprobe => complain(b"vecprobe: standard input cannot be read\n"),
+    }
 }
 
-fn cannot_write() {
-    io::write_all(libc::STDERR_FILENO, b"standard output cannot be written\n");
+fn cannot_write(program: Program) -> bool {
+    match program {
+        Program::Vecdist => complain(b"vecdist: standard output cannot be written\n"),
+        Program::Vecprobe => complain(b"vecprobe: standard output cannot be written\n"),
+    }
+}
+
+fn complain(message: &[u8]) -> bool {
+    io::write_all(libc::STDERR_FILENO, message)
 }
 
 // Serves the next bytes of a chunk; the reply goes to out from `start` on.
@@ -186,7 +197,7 @@ pub fn run(program: Program) {
     while 65536 <= left {
         let got = libc::read(libc::STDIN_FILENO, &mut chunk);
         if got < 0 {
-            cannot_read();
+            cannot_read(program);
             return;
         }
         let n = io::count(got, &chunk);
@@ -205,7 +216,7 @@ pub fn run(program: Program) {
             &mut out,
         );
         if !done.fine {
-            cannot_write();
+            cannot_write(program);
             return;
         }
         held = done.held;
@@ -219,6 +230,6 @@ pub fn run(program: Program) {
         &mut made,
         &mut out,
     ) {
-        cannot_write();
+        cannot_write(program);
     }
 }
