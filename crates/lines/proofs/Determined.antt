@@ -11,6 +11,7 @@ use Rattle.lines.proofs.text.field_end.Reads as field-end
 use Rattle.lines.proofs.text.numeral.Reads as numeral
 use Rattle.lines.proofs.text.put_decimal.Reads as put-decimal
 use Rattle.lines.proofs.text.put_head.Reads as put-head
+use Rattle.lines.proofs.text.put_other.Reads as put-other
 use Rattle.lines.proofs.stream.start.Reads as start
 use Rattle.lines.proofs.stream.next.Reads as next
 use Rattle.lines.proofs.stream.keep.Reads as keep
@@ -42,6 +43,9 @@ put-decimal-determined κs a = (λ r r′ x x′ p q. p .0 ∙ sym (q .0), λ r 
 
 pub put-head-determined : (κs : _) (a : _) → Determined (put-head.Post κs a) (λ r x. r) × Determined (put-head.Post κs a) (λ r x. now (x .1 .0))
 put-head-determined κs a = (λ r r′ x x′ p q. p .0 ∙ sym (q .0), λ r r′ x x′ p q. p .1 .0 ∙ sym (q .1 .0))
+
+pub put-other-determined : (κs : _) (a : _) → Determined (put-other.Post κs a) (λ r x. r) × Determined (put-other.Post κs a) (λ r x. now (x .0))
+put-other-determined κs a = (λ r r′ x x′ p q. p .0 ∙ sym (q .0), λ r r′ x x′ p q. p .1 ∙ sym (q .1))
 
 pub start-determined : (κs : _) (a : _) → Determined (start.Post κs a) (λ r x. r)
 start-determined κs a r r′ x x′ p q = p ∙ sym q
