@@ -1,6 +1,5 @@
 -- The body of a sparse blob is its values and as many indices, and its halves are these.
 use mathlib.Core.Path.{_≡_, refl, sym, ap, _∙_}
-use mathlib.Core.Bool.{true}
 use mathlib.Core.List.{List, _++_}
 use Prim.Native.Nat.{ℕ, _+_, _*_, _≤_}
 use native.Mathlib.Omega.{arith}
@@ -30,20 +29,21 @@ module _ (s : List ℕ) where
   abbrev h : ℕ
   h = shownHalf (readOf s)
 
-  within : (x : ReadAnswer) → readOf s ≡ x → 2 * shownHalf x ≤ length s
-  within (Seen v) e = omega (arith, two-halves (v .kind) (v .length), told s v e .within)
-  within (Refused r) e = omega arith
-
   -- a view tells the half by its kind
   pub told-half : (v : View) (k : VectorType) → readOf s ≡ Seen v → v .kind ≡ k → 2 * halfOf k (v .length) ≡ 2 * h
   told-half v k e kind = sym (rw (e, kind))
 
+  -- a sparse body has two halves
   pub told-whole : (v : View) → readOf s ≡ Seen v → v .kind ≡ Float32Sparse → v .length ≡ 2 * h
   unfolding fits
   told-whole v e kind =
-      let whole : fits Float32Sparse (v .dims .0) (v .length) ≡ true = ap (λ (k : VectorType). fits k (v .dims .0) (v .length)) (sym kind) ∙ told s v e .fit in
+      let whole = ap (λ (k : VectorType). fits k (v .dims .0) (v .length)) (sym kind) ∙ told s v e .fit in
       let even : v .length ≡ 2 * halfOf Float32Sparse (v .length) = omega (arith, eqb-true, whole) in
       even ∙ told-half v Float32Sparse e kind
+
+  within : (x : ReadAnswer) → readOf s ≡ x → 2 * shownHalf x ≤ length s
+  within (Seen v) e = omega (arith, two-halves (v .kind) (v .length), told s v e .within)
+  within (Refused r) e = omega arith
 
   pub both-within : 2 * h ≤ length s
   both-within = within (readOf s) refl
@@ -58,7 +58,7 @@ module _ (s : List ℕ) where
 
   length-indices : length (indicesOf s) ≡ h
   unfolding indicesOf
-  length-indices = length-take-le h (drop h s) (rw (length-drop) (omega (arith, both-within)))
+  length-indices = length-take-le h (drop h s) (rw length-drop (omega (arith, both-within)))
 
   pub half-is : half (valuesOf s ++ indicesOf s) ≡ h
   half-is = rw (length-append, length-values, length-indices) (omega arith)
