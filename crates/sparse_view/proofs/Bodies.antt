@@ -11,18 +11,11 @@ use Rattle.vector_types.specs.Read.{readOf}
 use Rattle.vector_types.specs.Parts.{halfOf, shownHalf, valuesOf, indicesOf}
 use Rattle.vector_types.specs.declared.View.{View}
 use Rattle.vector_types.specs.declared.VectorType.{VectorType}
-use Rattle.vector_types.specs.declared.VectorType.the-variants.{Float32Dense, Float64Dense, Float32Sparse, Float1Bit, Float8}
+use Rattle.vector_types.specs.declared.VectorType.the-variants.{Float32Sparse}
 use Rattle.vector_types.specs.declared.ReadAnswer.{ReadAnswer}
 use Rattle.vector_types.specs.declared.ReadAnswer.the-variants.{View as Seen, Refused}
-use Rattle.vector_types.proofs.Views.{told}
+use Rattle.vector_types.proofs.Views.{told, half-within}
 use Rattle.sparse_view.specs.Halves.{half}
-
-two-halves : (k : VectorType) (m : ℕ) → 2 * halfOf k m ≤ m
-two-halves Float32Dense m = omega arith
-two-halves Float64Dense m = omega arith
-two-halves Float32Sparse m = omega arith
-two-halves Float1Bit m = omega arith
-two-halves Float8 m = omega arith
 
 module _ (s : List ℕ) where
   -- how many bytes the values have, and the indices as many
@@ -42,7 +35,7 @@ module _ (s : List ℕ) where
       even ∙ told-half v Float32Sparse e kind
 
   within : (x : ReadAnswer) → readOf s ≡ x → 2 * shownHalf x ≤ length s
-  within (Seen v) e = omega (arith, two-halves (v .kind) (v .length), told s v e .within)
+  within (Seen v) e = half-within s v e
   within (Refused r) e = omega arith
 
   pub both-within : 2 * h ≤ length s

@@ -2,11 +2,14 @@
 use mathlib.Core.Path.{_≡_, refl, subst}
 use mathlib.Core.Bool.{true}
 use mathlib.Core.List.{List}
-use Prim.Native.Nat.{ℕ, _≤_}
+use Prim.Native.Nat.{ℕ, _*_, _≤_}
+use native.Mathlib.Omega.{arith}
 use lib.ListN.{length}
 use Rattle.vector_types.specs.Layout.{longest, mostDims, Named, a, unsupported, unknown, named, accepted, dimsOf, lengthOf, fits}
 use Rattle.vector_types.specs.Read.{readOf, refusals, shown}
+use Rattle.vector_types.specs.Parts.{halfOf}
 use Rattle.vector_types.specs.declared.VectorType.{VectorType}
+use Rattle.vector_types.specs.declared.VectorType.the-variants.{Float32Dense, Float64Dense, Float32Sparse, Float1Bit, Float8}
 use Rattle.vector_types.specs.declared.View.{View}
 use Rattle.vector_types.specs.declared.ReadAnswer.the-variants.{View as Seen}
 use Rattle.vector_types.specs.Answers.{firstOf, dims, refusal}
@@ -50,3 +53,14 @@ told s v e =
     at (a k) h p shows = subst (Told s) (seen-same (viewOf k s) v shows) (told-at s k h p)
     at unsupported h p shows = absurd (refused-unseen (refusal 2) v shows)
     at unknown h p shows = absurd (refused-unseen (refusal 3) v shows)
+
+-- the two halves of a sparse body lie within the blob; another body has none
+two-halves : (k : VectorType) (m : ℕ) → 2 * halfOf k m ≤ m
+two-halves Float32Dense m = omega arith
+two-halves Float64Dense m = omega arith
+two-halves Float32Sparse m = omega arith
+two-halves Float1Bit m = omega arith
+two-halves Float8 m = omega arith
+
+pub half-within : (s : List ℕ) (v : View) → readOf s ≡ Seen v → 2 * halfOf (v .kind) (v .length) ≤ length s
+half-within s v e = omega (arith, two-halves (v .kind) (v .length), told s v e .within)

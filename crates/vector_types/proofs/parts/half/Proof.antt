@@ -1,29 +1,11 @@
 -- The half is that of the view read, and two of it lie within the body.
-use mathlib.Core.Path.{_≡_, sym, ap, _∙_}
-use mathlib.Core.List.{List}
-use Prim.Native.Nat.{ℕ, _*_, _≤_}
+use mathlib.Core.Path.{sym, ap, _∙_}
 use native.Mathlib.Omega.{arith}
-use lib.ListN.{length}
-use Rattle.vector_types.specs.Parts.{halfOf, shownHalf}
-use Rattle.vector_types.specs.Read.{readOf}
-use Rattle.vector_types.specs.declared.View.{View}
-use Rattle.vector_types.specs.declared.VectorType.{VectorType}
-use Rattle.vector_types.specs.declared.VectorType.the-variants.{Float32Dense, Float64Dense, Float32Sparse, Float1Bit, Float8}
-use Rattle.vector_types.specs.declared.ReadAnswer.the-variants.{View as Seen}
-use Rattle.vector_types.proofs.Views.{told}
+use Rattle.vector_types.specs.Parts.{shownHalf}
+use Rattle.vector_types.proofs.Views.{half-within}
 use borrow.Author.Needs.{needs}
 use Rattle.vector_types.proofs.parts.half.Statement.{statement}
 use Rattle.vector_types.proofs.parts.half.Tie as tie
-
-two-halves : (k : VectorType) (m : ℕ) → 2 * halfOf k m ≤ m
-two-halves Float32Dense m = omega arith
-two-halves Float64Dense m = omega arith
-two-halves Float32Sparse m = omega arith
-two-halves Float1Bit m = omega arith
-two-halves Float8 m = omega arith
-
-half-within : (s : List ℕ) (v : View) → readOf s ≡ Seen v → 2 * halfOf (v .kind) (v .length) ≤ length s
-half-within s v e = omega (arith, two-halves (v .kind) (v .length), told s v e .within)
 
 read-requires : tie.Need-read-requires
 read-requires c κs = search needs
