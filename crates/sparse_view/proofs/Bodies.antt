@@ -1,38 +1,21 @@
 -- The body of a sparse blob is its values and as many indices, and its halves are these.
-use mathlib.Core.Path.{_≡_, refl, sym, ap, _∙_}
+use mathlib.Core.Path.{_≡_, refl}
 use mathlib.Core.List.{List, _++_}
 use Prim.Native.Nat.{ℕ, _+_, _*_, _≤_}
 use native.Mathlib.Omega.{arith}
 use lib.ListN.{length, take, drop, length-append, length-drop}
 use lib.Seq.{length-take-le, take-add, take-append-seam, drop-append-seam}
-use borrow.Author.Tests.{eqb-true}
-use Rattle.vector_types.specs.Layout.{fits}
 use Rattle.vector_types.specs.Read.{readOf}
-use Rattle.vector_types.specs.Parts.{halfOf, shownHalf, valuesOf, indicesOf}
-use Rattle.vector_types.specs.declared.View.{View}
-use Rattle.vector_types.specs.declared.VectorType.{VectorType}
-use Rattle.vector_types.specs.declared.VectorType.the-variants.{Float32Sparse}
+use Rattle.vector_types.specs.Parts.{shownHalf, valuesOf, indicesOf}
 use Rattle.vector_types.specs.declared.ReadAnswer.{ReadAnswer}
 use Rattle.vector_types.specs.declared.ReadAnswer.the-variants.{View as Seen, Refused}
-use Rattle.vector_types.proofs.Views.{told, half-within}
+use Rattle.vector_types.proofs.Views.{half-within}
 use Rattle.sparse_view.specs.Halves.{half}
 
 module _ (s : List ℕ) where
   -- how many bytes the values have, and the indices as many
   abbrev h : ℕ
   h = shownHalf (readOf s)
-
-  -- a view tells the half by its kind
-  pub told-half : (v : View) (k : VectorType) → readOf s ≡ Seen v → v .kind ≡ k → 2 * halfOf k (v .length) ≡ 2 * h
-  told-half v k e kind = sym (rw (e, kind))
-
-  -- a sparse body has two halves
-  pub told-whole : (v : View) → readOf s ≡ Seen v → v .kind ≡ Float32Sparse → v .length ≡ 2 * h
-  unfolding fits
-  told-whole v e kind =
-      let whole = ap (λ (k : VectorType). fits k (v .dims .0) (v .length)) (sym kind) ∙ told s v e .fit in
-      let even : v .length ≡ 2 * halfOf Float32Sparse (v .length) = omega (arith, eqb-true, whole) in
-      even ∙ told-half v Float32Sparse e kind
 
   within : (x : ReadAnswer) → readOf s ≡ x → 2 * shownHalf x ≤ length s
   within (Seen v) e = half-within s v e
@@ -45,7 +28,7 @@ module _ (s : List ℕ) where
   unfolding valuesOf indicesOf
   joined = let two : 2 * h ≡ h + h = omega arith in rw two (take-add h h s)
 
-  length-values : length (valuesOf s) ≡ h
+  pub length-values : length (valuesOf s) ≡ h
   unfolding valuesOf
   length-values = length-take-le h s (omega (arith, both-within))
 
