@@ -28,11 +28,11 @@ module _ (p : ℕ → Bool) (d : ℕ) where
   abbrev at : ℕ → Bool
   at i = ltb i d && p i
 
-  pub packed-next : (m j : ℕ) → packedByte p d m (j + 1) ≡ packedByte p d m j + cond (at (8 * m + j)) (2 ^ j) 0
+  packed-next : (m j : ℕ) → packedByte p d m (j + 1) ≡ packedByte p d m j + cond (at (8 * m + j)) (2 ^ j) 0
   unfolding packedByte
   packed-next m j = rw add-one
 
-  pub packed-small : (m n : ℕ) → packedByte p d m n < 2 ^ n
+  packed-small : (m n : ℕ) → packedByte p d m n < 2 ^ n
   unfolding packedByte
   packed-small m zero = omega arith
   packed-small m (suc j) = omega (arith, packed-small m j, cond-le (at (8 * m + j)) (2 ^ j))
@@ -46,7 +46,7 @@ module _ (p : ℕ → Bool) (d : ℕ) where
       let same : j + suc k ≡ j + k + 1 = omega arith in
       (q + cond on 1 0 * 2 ^ k, rw (same, packed-next, e, cond-times on (2 ^ (j + k)), pow-add 2 j k) (omega arith))
 
-  pub packed-digit : (m j n : ℕ) → j < n → packedByte p d m n / 2 ^ j % 2 ≡ cond (at (8 * m + j)) 1 0
+  packed-digit : (m j n : ℕ) → j < n → packedByte p d m n / 2 ^ j % 2 ≡ cond (at (8 * m + j)) 1 0
   packed-digit m j n h =
       let on = at (8 * m + j) in
       let (q, e) = packed-parts m (j + 1) (n - j - 1) in
@@ -55,7 +55,7 @@ module _ (p : ℕ → Bool) (d : ℕ) where
       let parts : packedByte p d m n ≡ (q * 2 + cond on 1 0) * 2 ^ j + packedByte p d m j = omega (arith, whole) in
       rw (parts, high (q * 2 + cond on 1 0) j (packed-small m j)) (omega (arith, cond-le on 1))
 
-  pub length-packed : length (packed p d) ≡ ceil d 8
+  length-packed : length (packed p d) ≡ ceil d 8
   unfolding packed
   length-packed = length-bytes (λ m. packedByte p d m 8) (ceil d 8)
 

@@ -23,7 +23,7 @@ put-after v vs l o n size e =
     rw (e, take-at v rest n size, ← drop-drop (length vs) n (v ++ rest), drop-at v rest n size, drop-drop, length-append)
 
 module _ (g : ℕ → List ℕ) where
-  pub pieces-next : (n : ℕ) → pieces g (n + 1) ≡ pieces g n ++ g n
+  pieces-next : (n : ℕ) → pieces g (n + 1) ≡ pieces g n ++ g n
   unfolding pieces
   pieces-next n = rw add-one
 
@@ -42,7 +42,7 @@ module _ (b : ℕ → ℕ) where
   pub length-bytes : (n : ℕ) → length (pieces (λ i. b i ∷ []) n) ≡ n
   length-bytes n = length-pieces (λ i. b i ∷ []) 1 (λ i. refl) n ∙ one-mul n
 
-  pub set-byte : (l o : List ℕ) (i : ℕ) → o ≡ onto (pieces (λ j. b j ∷ []) i) l → i < length l
+  set-byte : (l o : List ℕ) (i : ℕ) → o ≡ onto (pieces (λ j. b j ∷ []) i) l → i < length l
       → set o i (b i) ≡ onto (pieces (λ j. b j ∷ []) (i + 1)) l
   set-byte l o i e room = rw pieces-next (onto-put (pieces (λ j. b j ∷ []) i) l o (b i) i (sym (length-bytes i)) e room .1)
 

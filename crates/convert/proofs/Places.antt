@@ -37,7 +37,7 @@ module _ (p : ℕ → Bool) where
       one true = omega arith
       one false = omega arith
 
-  pub places-rise : (n m : ℕ) → n ≤ m → length (placesOf p n) ≤ length (placesOf p m)
+  places-rise : (n m : ℕ) → n ≤ m → length (placesOf p n) ≤ length (placesOf p m)
   places-rise n m h = let e : m ≡ n + (m - n) = omega arith in rw e (on (m - n))
     where
       on : (k : ℕ) → length (placesOf p n) ≤ length (placesOf p (n + k))
@@ -57,7 +57,7 @@ pub each-snoc : (g : ℕ → List ℕ) (is : List ℕ) (i : ℕ) → each g (is 
 unfolding each
 each-snoc g is i = rw (each-append g is (i ∷ []), append-nil)
 
-pub length-each : (g : ℕ → List ℕ) (w : ℕ) (p : ℕ → Bool) (n : ℕ) → ((i : ℕ) → i < n → length (g i) ≡ w)
+length-each : (g : ℕ → List ℕ) (w : ℕ) (p : ℕ → Bool) (n : ℕ) → ((i : ℕ) → i < n → length (g i) ≡ w)
     → length (each g (placesOf p n)) ≡ w * length (placesOf p n)
 unfolding placesOf each
 length-each g w p zero h = omega arith

@@ -16,7 +16,7 @@ use Rattle.convert.proofs.Places.{each-append}
 abbrev pub Same : {A : Type 0} → (ℕ → A) → (ℕ → A) → ℕ → Type 0
 Same e e′ n = (i : ℕ) → i < n → e i ≡ e′ i
 
-pub pieces-same : (g h : ℕ → List ℕ) (n : ℕ) → Same g h n → pieces g n ≡ pieces h n
+pieces-same : (g h : ℕ → List ℕ) (n : ℕ) → Same g h n → pieces g n ≡ pieces h n
 unfolding pieces
 pieces-same g h zero s = refl
 pieces-same g h (suc n) s = rw (pieces-same g h n (λ i l. s i (omega arith)), s n (omega arith))
@@ -36,7 +36,7 @@ each-same g h p (suc n) s =
     last true = rw (s n (omega arith))
     last false = refl
 
-pub byte-same : (p q : ℕ → Bool) (d m n : ℕ) → Same p q d → packedByte p d m n ≡ packedByte q d m n
+byte-same : (p q : ℕ → Bool) (d m n : ℕ) → Same p q d → packedByte p d m n ≡ packedByte q d m n
 unfolding packedByte
 byte-same p q d m zero s = refl
 byte-same p q d m (suc j) s = rw (byte-same p q d m j s, at (ltb i d) refl)
@@ -53,17 +53,17 @@ unfolding packed
 packed-same p q d s = pieces-same _ _ (ceil d 8) (λ m l. ap (λ (b : ℕ). b ∷ []) (byte-same p q d m 8 s))
 
 module _ (e e′ : ℕ → Float) where
-  pub least-same : (n : ℕ) → Same e e′ n → least e n ≡ least e′ n
+  least-same : (n : ℕ) → Same e e′ n → least e n ≡ least e′ n
   unfolding least
   least-same zero s = refl
   least-same (suc n) s = rw (least-same n (λ i l. s i (omega arith)), s n (omega arith))
 
-  pub greatest-same : (n : ℕ) → Same e e′ n → greatest e n ≡ greatest e′ n
+  greatest-same : (n : ℕ) → Same e e′ n → greatest e n ≡ greatest e′ n
   unfolding greatest
   greatest-same zero s = refl
   greatest-same (suc n) s = rw (greatest-same n (λ i l. s i (omega arith)), s n (omega arith))
 
-  pub scale-same : (d : ℕ) → Same e e′ d → scaleOf e d ≡ scaleOf e′ d
+  scale-same : (d : ℕ) → Same e e′ d → scaleOf e d ≡ scaleOf e′ d
   unfolding scaleOf
   scale-same d s = rw (least-same d s, greatest-same d s)
 

@@ -1,25 +1,22 @@
--- Laws of Float8 bodies: the range with one element more, bytes, and how long the body is.
+-- Laws of Float8 bodies: the range with one element more, how long the body is, and what its writers leave.
 use mathlib.Core.Path.{_≡_, _∙_}
-use mathlib.Core.Bool.{Bool, true, false, cond}
+use mathlib.Core.Bool.{cond}
 use mathlib.Core.List.{List, [], _∷_, _++_, append-assoc}
-use Prim.Native.Nat.{ℕ, _+_, _-_, _*_, _/_, _<_}
+use Prim.Native.Nat.{ℕ, _+_, _-_, _*_}
 use native.Mathlib.Omega.{arith}
-use native.Mathlib.Nat.{min-le-right}
 use native.Mathlib.Numerals.{add-one}
 use lib.ListN.{length, take, drop, replicate, length-append, length-replicate}
-use lib.Ieee.{Float, nan, inf, fin, up, down, lt, eq, add, sub, div, binary32}
+use lib.Ieee.{Float, lt, binary32}
 use borrow.Rule.Slice.PartMut.{putMid}
 use Rattle.promises.specs.Onto.{onto}
 use Rattle.promises.proofs.Onto.{onto-then}
-use Rattle.float_laws.specs.Zero.{plusZero}
-use Rattle.rounding.specs.Truncate.{truncated}
 use Rattle.elements.specs.Bytes.{put, floatBytes}
 use Rattle.elements.proofs.Numbers.{length-bytesOf}
 use Rattle.vector_types.specs.Layout.{ceil}
 use Rattle.vector_types.specs.declared.VectorType.{VectorType}
 use Rattle.convert.specs.Pieces.{pieces}
 use Rattle.convert.specs.Elements.{element}
-use Rattle.convert.specs.Quantized.{least, greatest, half, quantum, scaleOf, quantizedBody}
+use Rattle.convert.specs.Quantized.{least, greatest, quantum, scaleOf, quantizedBody}
 use Rattle.convert.specs.declared.quantized.Range.{Range}
 use Rattle.convert.specs.declared.quantized.Scale.{Scale}
 use Rattle.convert.proofs.Pieces.{length-bytes, put-after}
@@ -36,21 +33,6 @@ unfolding least greatest
 one-more e n r w x (low, high) at (l, h) = rw (add-one n, ← low, ← high, ← at) (l, h)
 
 -- ---- the body
-truncated-byte : (x : Float) → truncated x < 256
-unfolding truncated
-truncated-byte nan = omega arith
-truncated-byte (inf true) = omega arith
-truncated-byte (inf false) = omega arith
-truncated-byte (fin true m e) = omega arith
-truncated-byte (fin false m e) = omega (arith, min-le-right (m * up e / down e) 255)
-
-pub quantum-byte : (alpha shift x : Float) → quantum alpha shift x < 256
-quantum-byte alpha shift x = byte (eq alpha plusZero) (truncated-byte (add binary32 (div binary32 (sub binary32 x shift) alpha) half))
-  where
-    byte : (zero : Bool) {n : ℕ} → n < 256 → cond zero 0 n < 256
-    byte true h = omega arith
-    byte false h = h
-
 pub length-quantizedBody : (k : VectorType) (d : ℕ) (body : List ℕ) → length (quantizedBody k d body) ≡ 4 * ceil d 4 + 8
 unfolding quantizedBody
 length-quantizedBody k d body =

@@ -22,7 +22,7 @@ use Rattle.convert.specs.Dense.{count, entryBytes, spread, spreadBody}
 use Rattle.convert.proofs.Pieces.{Filled, filled, fill-all}
 
 -- bytes put within what was written, and as many bytes written over it
-pub put-within : (v vs l : List ℕ) (a : ℕ) → a + length vs ≤ length v → put (onto v l) a vs ≡ onto (put v a vs) l
+put-within : (v vs l : List ℕ) (a : ℕ) → a + length vs ≤ length v → put (onto v l) a vs ≡ onto (put v a vs) l
 unfolding put
 put-within v vs l a room =
     let rest = drop (length v) l in
@@ -30,7 +30,7 @@ put-within v vs l a room =
     let same = length-put v a vs room in
     rw (take-append-le a v rest, drop-append-le (a + length vs) v rest, same, append-assoc (take a v ++ vs) (drop (a + length vs) v) rest)
 
-pub onto-again : (v u l : List ℕ) → length v ≡ length u → onto v (onto u l) ≡ onto v l
+onto-again : (v u l : List ℕ) → length v ≡ length u → onto v (onto u l) ≡ onto v l
 onto-again v u l same = rw (same, drop-append-seam)
 
 abbrev zeros : Format → ℕ → List ℕ

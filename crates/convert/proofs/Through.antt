@@ -30,7 +30,7 @@ use Rattle.convert.proofs.Same.{Same, places-same, each-same, packed-sa
 
 -- ---- piece i of pieces of w bytes each, and float i of floats
 module _ (g : ℕ → List ℕ) (w : ℕ) (wide : (i : ℕ) → length (g i) ≡ w) where
-  pub piece-at : (n i : ℕ) → i < n → take w (drop (w * i) (pieces g n)) ≡ g i
+  piece-at : (n i : ℕ) → i < n → take w (drop (w * i) (pieces g n)) ≡ g i
   unfolding pieces
   piece-at zero i l = absurd (omega arith)
   piece-at (suc n) i l = by (ltb i n) refl (piece-at n i)
@@ -49,7 +49,7 @@ module _ (g : ℕ → List ℕ) (w : ℕ) (wide : (i : ℕ) → length (g i) ≡
           let last : i ≡ n = omega (arith, ltb-false i n e) in
           rw (last, drop-at (pieces g n) (g n) (w * n) long) (take-all w (g n) (omega (arith, wide n)))
 
-pub float-bytes-at : (f : Format) (e : ℕ → Float) (n i : ℕ) → i < n → take (width f) (drop (width f * i) (floatsOf f e n)) ≡ floatBytes f (e i)
+float-bytes-at : (f : Format) (e : ℕ → Float) (n i : ℕ) → i < n → take (width f) (drop (width f * i) (floatsOf f e n)) ≡ floatBytes f (e i)
 float-bytes-at f e n i l = piece-at (λ j. floatBytes f (e j)) (width f) (λ j. length-bytesOf (width f) (toBits f (e j))) n i l
 
 -- a float's own bytes
@@ -59,7 +59,7 @@ float-alone f x fit =
     let long = length-bytesOf (width f) (toBits f x) in
     rw (zero-add, drop-length, append-nil) at (floatAt-put f x (floatBytes f x) 0 (omega arith) fit)
 
-pub float-at : (f : Format) (e : ℕ → Float) (n i : ℕ) → i < n → T (fits f (e i)) → floatAt f (floatsOf f e n) (width f * i) ≡ e i
+float-at : (f : Format) (e : ℕ → Float) (n i : ℕ) → i < n → T (fits f (e i)) → floatAt f (floatsOf f e n) (width f * i) ≡ e i
 float-at f e n i l fit =
     let w = width f in
     let s = floatsOf f e n in

@@ -1,14 +1,12 @@
 -- A float in bytes, over the format.
 use mathlib.Core.Path.{_≡_, refl, ap, _∙_}
-use mathlib.Core.Bool.{not}
 use mathlib.Core.List.{List}
-use Prim.Native.Nat.{ℕ, _+_, _*_, _^_, _<_, _≤_}
+use Prim.Native.Nat.{ℕ, _+_, _*_, _^_, _≤_}
 use lib.Dec.{T}
-use lib.ListN.{length, take, drop}
-use lib.Ieee.{Float, Format, binary32, binary64, fits, isNan, top, ofBits, toBits}
-use lib.Ieee.Bits.{ofBits-toBits, ofBits-fits, toBits-ofBits, toBits-lt}
-use Rattle.elements.specs.Bytes.{AreBytes, numberAt, put, width, floatAt, floatBytes}
-use Rattle.elements.proofs.Numbers.{numberAt-lt, bytesOf-numberAt}
+use lib.ListN.{length}
+use lib.Ieee.{Float, Format, binary32, binary64, fits, top, ofBits, toBits}
+use lib.Ieee.Bits.{ofBits-toBits, ofBits-fits, toBits-lt}
+use Rattle.elements.specs.Bytes.{numberAt, put, width, floatAt, floatBytes}
 use Rattle.elements.proofs.Put.{numberAt-put-bytesOf}
 
 -- its patterns are the numbers of its bytes
@@ -25,10 +23,3 @@ pub floatAt-put : (f : Format) (x : Float) (l : List ℕ) (i : ℕ) → i + widt
 floatAt-put f x l i room h =
     let below = rw patterns at (toBits-lt f x h) in
     ap (ofBits f) (numberAt-put-bytesOf (width f) (toBits f x) l i room below) ∙ ofBits-toBits f x h
-
--- a float's bytes are those that it was read from, unless it is NaN
-pub floatBytes-floatAt : (f : Format) (s : List ℕ) (i : ℕ) → AreBytes s → i + width f ≤ length s → T (not (isNan (floatAt f s i)))
-    → floatBytes f (floatAt f s i) ≡ take (width f) (drop i s)
-floatBytes-floatAt f s i h room number =
-    let below : numberAt (width f) s i < 2 * top f = rw patterns (numberAt-lt (width f) s i h) in
-    rw (toBits-ofBits f (numberAt (width f) s i) below number) (bytesOf-numberAt (width f) s i h room)

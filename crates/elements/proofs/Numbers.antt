@@ -52,7 +52,7 @@ unfolding bytesOf
 length-bytesOf zero v = refl
 length-bytesOf (suc w) v = ap suc (length-bytesOf w (v / 256))
 
-pub bytesOf-bytes : (w v : ℕ) → AreBytes (bytesOf w v)
+bytesOf-bytes : (w v : ℕ) → AreBytes (bytesOf w v)
 unfolding bytesOf
 bytesOf-bytes zero v k = omega arith
 bytesOf-bytes (suc w) v zero = omega arith

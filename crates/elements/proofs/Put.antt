@@ -23,15 +23,15 @@ module _ (l : List ℕ) (i : ℕ) (vs : List ℕ) (room : i + length vs ≤ leng
   length-put = simp (length-append, length-drop, kept) (omega arith)
 
   -- ---- the bytes before, from the place on, and after
-  pub take-put : take i (put l i vs) ≡ take i l
+  take-put : take i (put l i vs) ≡ take i l
   unfolding put
   take-put = rw append-assoc (take-at (take i l) (vs ++ drop (i + length vs) l) i kept)
 
-  pub drop-put : drop i (put l i vs) ≡ vs ++ drop (i + length vs) l
+  drop-put : drop i (put l i vs) ≡ vs ++ drop (i + length vs) l
   unfolding put
   drop-put = rw append-assoc (drop-at (take i l) (vs ++ drop (i + length vs) l) i kept)
 
-  pub drop-put-past : drop (i + length vs) (put l i vs) ≡ drop (i + length vs) l
+  drop-put-past : drop (i + length vs) (put l i vs) ≡ drop (i + length vs) l
   drop-put-past = rw (← drop-drop (length vs) i, drop-put, drop-append-seam)
 
   -- a number within what was put

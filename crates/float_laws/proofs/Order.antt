@@ -117,7 +117,7 @@ nan-self (inf s) h = absurd (false≢true h)
 nan-self (fin s m e) h = absurd (false≢true h)
 
 -- ---- neither is less
-abbrev pub IsZero : Float → Type 0
+abbrev IsZero : Float → Type 0
 IsZero x = (s : Bool) × (x ≡ signedZero s)
 
 -- the same, or zeros of any sign

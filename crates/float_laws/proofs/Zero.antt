@@ -12,16 +12,16 @@ use lib.Ieee.Fits.{down-pos}
 use lib.Ieee.Exact.{HasValue}
 use lib.Ieee.Scale.{finite}
 use Rattle.float_laws.specs.Zero.{signedZero, plusZero, minusZero, sign}
-use Rattle.float_laws.proofs.Sign.{plus-minus, minus-plus, unlike-comm, beq-self}
+use Rattle.float_laws.proofs.Sign.{plus-minus, minus-plus, unlike-comm}
 use Rattle.float_laws.proofs.Sum.{Way, like, less, more, level, way, signOf, sizeOf, sum-is}
-use Rattle.float_laws.proofs.Swap.{add-comm, mul-comm}
+use Rattle.float_laws.proofs.Swap.{mul-comm}
 use Rattle.float_laws.proofs.Squared.{sub-squared}
 use Rattle.float_laws.proofs.Value.{value-unique}
 use Rattle.float_laws.proofs.Fraction.{round-value, add-value}
 use Rattle.float_laws.proofs.Smallest.{scale, scale-pos, zero-fits, zero-value, round-zero, round-minusZero, in-smallest}
 
 -- ---- a sum that is -0
-pub finite-terms : (f : Format) (x y : Float) → T (finite (add f x y)) → T (finite x) × T (finite y)
+finite-terms : (f : Format) (x y : Float) → T (finite (add f x y)) → T (finite x) × T (finite y)
 unfolding add
 finite-terms f nan y h = absurd h
 finite-terms f (inf s) nan h = absurd h
@@ -85,14 +85,8 @@ module _ (f : Format) where
   pub add-plusZero : (x : Float) → T (fits f x) → x ≢ minusZero → add f x plusZero ≡ x
   add-plusZero x h n = add-signedZero x false h (λ _. n)
 
-  pub plusZero-add : (x : Float) → T (fits f x) → x ≢ minusZero → add f plusZero x ≡ x
-  plusZero-add x h n = add-comm f plusZero x ∙ add-plusZero x h n
-
   pub add-minusZero : (x : Float) → T (fits f x) → add f x minusZero ≡ x
   add-minusZero x h = add-signedZero x true h (λ e. absurd (true≢false e))
-
-  pub minusZero-add : (x : Float) → T (fits f x) → add f minusZero x ≡ x
-  minusZero-add x h = add-comm f minusZero x ∙ add-minusZero x h
 
   -- ---- a zero taken off
   pub sub-plusZero : (x : Float) → T (fits f x) → sub f x plusZero ≡ x
@@ -114,6 +108,3 @@ module _ (f : Format) where
 
   pub signedZero-mul : (s : Bool) (y : Float) → T (finite y) → mul f (signedZero s) y ≡ signedZero (unlike s (sign y))
   signedZero-mul s y h = mul-comm f (signedZero s) y ∙ rw (unlike-comm s (sign y)) (mul-signedZero y s h)
-
-  pub zero-squared : (s : Bool) → mul f (signedZero s) (signedZero s) ≡ plusZero
-  zero-squared s = mul-signedZero (signedZero s) s tt ∙ rw (beq-self s)

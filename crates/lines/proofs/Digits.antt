@@ -1,18 +1,17 @@
 -- Laws of `numberFrom`: a turn of the loop that reads digits, its ends, and what a number that was read says of the text.
 use mathlib.Core.Path.{_≡_, refl, sym, ap, subst}
-use mathlib.Core.Bool.{Bool, true, false, cond, _&&_, false≢true}
+use mathlib.Core.Bool.{Bool, true, false, cond}
 use mathlib.Core.List.{List, [], _∷_}
 use Prim.Native.Nat.{ℕ, suc, _+_, _*_, _^_, _<_, _≤_}
 use native.Mathlib.Omega.{arith}
-use native.Mathlib.Nat.{pow-zero, pow-succ', pow-suc, pow-le-pow-right, mul-le-mul-right, mul-assoc}
+use native.Mathlib.Nat.{pow-zero, pow-succ', pow-suc, mul-le-mul-right, mul-assoc}
 use native.Mathlib.Numerals.{add-one}
-use borrow.Author.Tests.{lt-ltb, le-ltb, ltb-true, leb-true, eqb-true}
-use lib.Dec.{ltb, leb, eqb, lit<}
+use borrow.Author.Tests.{lt-ltb, le-ltb, ltb-true, eqb-true}
+use lib.Dec.{ltb, eqb}
 use lib.ListN.{length, getD, drop, drop-of-length-le}
 use lib.Seq.{drop-cons}
 use Rattle.bytes.specs.Bytes.{indexOf, indexAfter}
 use Rattle.lines.specs.Hex.{digitOf, numberFrom, patternOf}
-use Rattle.lines.specs.Decimal.{numeralOf}
 use Rattle.lines.specs.declared.hex.Found.{Found}
 use Rattle.lines.specs.declared.hex.Found.the-variants.{Number, Nothing}
 
@@ -74,17 +73,6 @@ pattern-below width m s h =
     let (less, e) = tested-below (eqb (length s) width) 16 m s h in
     rw (← eqb-true (length s) width e) less
 
-pub numeral-below : (most m : ℕ) (s : List ℕ) → numeralOf most s ≡ Number m → m < 10 ^ most
-unfolding numeralOf
-numeral-below most m s h =
-    let (less, e) = tested-below (ltb 0 (length s) && leb (length s) most) 10 m s h in
-    let up : 10 ^ length s ≤ 10 ^ most = pow-le-pow-right (lit< tt) (leb-true (length s) most (both (ltb 0 (length s)) _ e)) in
-    omega arith
-  where
-    both : (t u : Bool) → (t && u) ≡ true → u ≡ true
-    both true u e = e
-    both false u e = absurd (false≢true e)
-
 none-step : (t u : Bool) (base d b x k : ℕ) (s : List ℕ) → eqb x b ≡ t → ltb (digitOf x) base ≡ u → base ≤ digitOf b
     → (k < length s → numberFrom base d s ≡ Nothing) → indexAfter t k < suc (length s) → cond u (numberFrom base d s) Nothing ≡ Nothing
 unfolding indexAfter
@@ -109,7 +97,3 @@ either false = refl
 pub pattern-none : (width b : ℕ) (s : List ℕ) → 16 ≤ digitOf b → indexOf b s < length s → patternOf width s ≡ Nothing
 unfolding patternOf
 pattern-none width b s big h = rw (number-none 16 b 0 s big h) (either (eqb (length s) width))
-
-pub numeral-none : (most b : ℕ) (s : List ℕ) → 10 ≤ digitOf b → indexOf b s < length s → numeralOf most s ≡ Nothing
-unfolding numeralOf
-numeral-none most b s big h = rw (number-none 10 b 0 s big h) (either (ltb 0 (length s) && leb (length s) most))

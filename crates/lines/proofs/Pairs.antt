@@ -16,7 +16,7 @@ use Rattle.lines.specs.Hex.{digitOf, pairOf, hexBytes, hexOf}
 
 -- pairs of digits that are read
 module _ (s : List ℕ) (i : ℕ) where
-  abbrev pub pairAt : ℕ
+  abbrev pairAt : ℕ
   pairAt = pairOf (getD s (2 * i) 0) (getD s (2 * i + 1) 0)
 
   two : 2 * i + 1 < length s → drop (2 * i) s ≡ getD s (2 * i) 0 ∷ (getD s (2 * i + 1) 0 ∷ drop (2 * (i + 1)) s)
@@ -72,7 +72,7 @@ bytes-step true p s e ih zero = ltb-true p 256 e
 bytes-step true p s e ih (suc k) = ih k
 bytes-step false p s e ih k = lit< tt
 
-pub hexBytes-bytes : (s : List ℕ) (k : ℕ) → getD (hexBytes s) k 0 < 256
+hexBytes-bytes : (s : List ℕ) (k : ℕ) → getD (hexBytes s) k 0 < 256
 unfolding hexBytes
 hexBytes-bytes [] k = lit< tt
 hexBytes-bytes (a ∷ []) k = lit< tt
@@ -123,7 +123,7 @@ pair-glyphs b h =
     let low : b % 16 < 16 = omega arith in
     rw (digit-glyph (b / 16) high, digit-glyph (b % 16) low, lt-ltb (b / 16) 16 high, lt-ltb (b % 16) 16 low) (omega arith)
 
-pub hexBytes-hexOf : (s : List ℕ) → ((k : ℕ) → getD s k 0 < 256) → hexBytes (hexOf s) ≡ s
+hexBytes-hexOf : (s : List ℕ) → ((k : ℕ) → getD s k 0 < 256) → hexBytes (hexOf s) ≡ s
 unfolding hexBytes hexOf
 hexBytes-hexOf [] h = refl
 hexBytes-hexOf (b ∷ s) h = rw (pair-glyphs b (h 0), lt-ltb b 256 (h 0), hexBytes-hexOf s (λ k. h (suc k)))

@@ -78,7 +78,7 @@ onward answer kept chunk at h s e =
 module _ (answer : List ℕ → List ℕ) (kept chunk out left : List ℕ) (at start : ℕ) (h : Held) (s : Served)
     (e : s ≡ servedOf answer kept (drop at chunk) at h) (said : left ≡ onto (saidOf answer kept (drop at chunk) at h) (take (length out - start) (drop start out)))
     (same : length left ≡ length (take (length out - start) (drop start out))) (room : start ≤ length out) (more : at < length chunk) where
-  pub step-fits : start + s .said ≤ length out
+  step-fits : start + s .said ≤ length out
   step-fits =
       let text = saidOf answer kept (drop at chunk) at h in
       let size : s .said ≡ length text = ap (λ (x : Served). x .said) e in

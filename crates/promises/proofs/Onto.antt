@@ -25,7 +25,7 @@ onto-put w l o b n e p h =
     (rw length-append (omega arith), rw (p, ← e, drop-cons l n 0) (at ∙ simp (append-assoc, length-append, ← e, add-one)))
 
 -- what is written to the part after the first n bytes
-pub onto-part : (v w l : List ℕ) (n : ℕ) → length v ≡ n → take n (onto v l) ++ onto w (drop n (onto v l)) ≡ onto (v ++ w) l
+onto-part : (v w l : List ℕ) (n : ℕ) → length v ≡ n → take n (onto v l) ++ onto w (drop n (onto v l)) ≡ onto (v ++ w) l
 onto-part v w l n e =
     rw (take-at v (drop (length v) l) n e, drop-at v (drop (length v) l) n e, drop-drop (length w) (length v) l, length-append v w, append-assoc)
 
@@ -33,7 +33,7 @@ onto-part v w l n e =
 pub tail-lent : (a : ℕ) (l : List ℕ) → take (length l - a) (drop a l) ≡ drop a l
 tail-lent a l = take-all (length l - a) (drop a l) (omega (arith, length-drop a l))
 
-pub tail-back : (a : ℕ) (l ys : List ℕ) → putMid a (length l - a) l ys ≡ take a l ++ ys
+tail-back : (a : ℕ) (l ys : List ℕ) → putMid a (length l - a) l ys ≡ take a l ++ ys
 tail-back a l ys =
     let none : drop (length l - a) (drop a l) ≡ [] = drop-of-length-le (drop a l) {i = length l - a} (omega (arith, length-drop a l)) in
     rw (none, append-nil ys)
@@ -43,7 +43,7 @@ pub tail-onto : (a : ℕ) (l ys w : List ℕ) → ys ≡ onto w (take (length l 
 tail-onto a l ys w e = tail-back a l ys ∙ rw (e, tail-lent a l)
 
 -- a text w written to the first k bytes, of which the others then follow
-pub onto-front : (w l : List ℕ) (k : ℕ) → length w ≤ k → k ≤ length l → onto w (take k l) ++ drop k l ≡ onto w l
+onto-front : (w l : List ℕ) (k : ℕ) → length w ≤ k → k ≤ length l → onto w (take k l) ++ drop k l ≡ onto w l
 onto-front w l k h fits =
     let e = drop-append-le (length w) (take k l) (drop k l) (omega (arith, length-take-le k l fits)) in
     append-assoc w (drop (length w) (take k l)) (drop k l) ∙ rw (← e, take-append-drop)

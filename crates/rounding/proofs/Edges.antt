@@ -20,7 +20,7 @@ zero-is binary32 = refl
 zero-is binary64 = refl
 
 -- ---- above zero: an infinity, or a finite number
-abbrev pub Above : Float → Type 0
+abbrev Above : Float → Type 0
 Above x = (x ≡ inf false) ⊎ ((m : ℕ) × (e : ℤ) × (x ≡ fin false (suc m) e))
 
 above-zero : (x : Float) → lt (fin false 0 (pos 0)) x ≡ true → Above x

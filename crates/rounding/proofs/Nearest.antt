@@ -88,7 +88,7 @@ module _ (f : Format) (s : Bool) (v : ℕ) (mid : ℕ → ℕ) (rising : Rising 
   midway-lt a b c h = rising (count f a + count f b) (count f a + count f c) (add-lt (count f a) (count f b) (count f c) (count-lt f b c h))
 
   -- ---- two neighbours are enough
-  pub nearest-at : (b : ℕ) → Between f v mid b → Nearest f s v mid (signed f s b)
+  nearest-at : (b : ℕ) → Between f v mid b → Nearest f s v mid (signed f s b)
   nearest-at b t =
       record {
         Y = count f b;

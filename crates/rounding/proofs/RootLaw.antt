@@ -185,7 +185,7 @@ module _ (f : Format) (m e w r : ℕ) (full : hid f ≤ m) (less : m < 2 * hid f
       go zero z = let q : w / 2 ≡ (w + 1) / 2 = omega arith in rw (is-lt A (mean * mean) (below z)) (ap (λ (x : ℕ). suc k * h + x) q)
       go (suc r) z = let q : suc (w / 2) ≡ (w + 1) / 2 = omega arith in rw (is-gt A (mean * mean) (above r z), ← q) (sym (add-suc (suc k * h) (w / 2)))
 
-  pub halved-nearest : floor < ones f * h → Nearest f false (4 * (m * 2 ^ e)) mid (signed f false (suc k * h + (w + 1) / 2))
+  halved-nearest : floor < ones f * h → Nearest f false (4 * (m * 2 ^ e)) mid (signed f false (suc k * h + (w + 1) / 2))
   halved-nearest l =
       subst (λ (x : ℕ). Nearest f false (4 * x) mid (signed f false (suc k * h + (w + 1) / 2))) (sym number-is)
       (subst (λ (x : ℕ). Nearest f false number mid (signed f false x)) (ap (nearest floor) side ∙ chosen)

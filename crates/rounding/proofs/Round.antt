@@ -141,7 +141,7 @@ module _ (f : Format) (s : Bool) (N C a d k : ℕ) (pC : 0 < C) (pd : 0 < d) (sa
           let high = count-le f (ones f * hid f) floor (le-of-suc-le-suc (lt-of-not-le n)) in
           top-nearest f s (2 * N) mid rising (le-trans (mul-le-mul-right C (add-both (count f (ones f * hid f)) (count f floor) high)) from)
 
-  pub units-nearest : Nearest f s (2 * N) mid (units f s (closest a d) k)
+  units-nearest : Nearest f s (2 * N) mid (units f s (closest a d) k)
   units-nearest = go (decLt place (ones f * hid f))
     where
       kept : Full (hid f) k (closest a d)

@@ -1,5 +1,4 @@
 // The square root of a float, rounded once, from its pattern.
-ghost use mathlib.Core.Path.{_≡_};
 ghost use Prim.Native.Nat.{_*_, _<_};
 ghost use lib.Ieee.{binary32, binary64, ones};
 ghost use Rattle.rounding.specs.Root.{IsRoot};

@@ -38,7 +38,7 @@ use Rattle.sparse_view.proofs.halves.front as slice
 use Rattle.sparse_view.proofs.values as this
 
 -- the MIR of a function of a view that calls f
-abbrev pub taking : Name → Fn
+abbrev taking : Name → Fn
 taking f = record {
   lifetimes = 1;
   outlives = [];

@@ -35,7 +35,7 @@ use Rattle.sparse_view.proofs.view_of as made
 use Rattle.sparse_view.proofs.values as view
 
 -- the MIR of a function of a slice that calls f, and g on the view that f returns
-abbrev pub passing : Name → Name → Fn
+abbrev passing : Name → Name → Fn
 passing f g = record {
   lifetimes = 1;
   outlives = [];

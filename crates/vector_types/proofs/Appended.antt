@@ -21,7 +21,7 @@ firstFrom-same p q i (suc n) h =
     let rest = firstFrom-same p q (suc i) n (λ j l m. h j (omega arith) (omega arith)) in
     rw (h i (omega arith) (omega arith), rest)
 
-pub some-same : (p q : ℕ → Bool) (n : ℕ) → ((j : ℕ) → j < n → p j ≡ q j) → some p n ≡ some q n
+some-same : (p q : ℕ → Bool) (n : ℕ) → ((j : ℕ) → j < n → p j ≡ q j) → some p n ≡ some q n
 some-same p q n h = ap (λ (i : ℕ). ltb i n) (firstFrom-same p q 0 n (λ j l m. h j (omega arith)))
 
 module _ (body tail : List ℕ) where
@@ -37,7 +37,7 @@ module _ (body tail : List ℕ) where
   count-appended i = let e : length body + (i + 1) - 1 ≡ length body + i = omega arith in rw (e, getD-append-add)
 
   -- the k indices of a sparse body
-  pub index-appended : (k : ℕ) → length body ≡ 8 * k → (j : ℕ) → j < k → indexAt (body ++ tail) k j ≡ indexAt body k j
+  index-appended : (k : ℕ) → length body ≡ 8 * k → (j : ℕ) → j < k → indexAt (body ++ tail) k j ≡ indexAt body k j
   index-appended k long j h = numberAt-left 4 body tail (4 * k + 4 * j) (omega arith)
 
   pub outside-appended : (k d : ℕ) → length body ≡ 8 * k → some (outside (body ++ tail) k d) k ≡ some (outside body k d) k

@@ -32,20 +32,20 @@ module _ (s : List ℕ) where
   read-long h = rw (lt-ltb longest (length s) h)
 
 -- what is left of the reader for a blob of a kind, of n bytes before the type byte, the last of which is t
-abbrev pub denseBy : VectorType → (w n : ℕ) → ReadAnswer
+abbrev denseBy : VectorType → (w n : ℕ) → ReadAnswer
 denseBy k w n = cond (not (eqb n (w * (n / w)))) (by 7) (cond (ltb mostDims (n / w)) (by 9) (seen k (n / w) n))
 
-abbrev pub oneBitBy : (n t : ℕ) → ReadAnswer
+abbrev oneBitBy : (n t : ℕ) → ReadAnswer
 oneBitBy n t = let d = 8 * n - t in
     cond (eqb n 0) (by 4) (cond (ltb (8 * n) t) (by 5) (cond (leb n (ceil d 8)) (by 6)
     (cond (eqb d 0) (by 7) (cond (ltb mostDims d) (by 9) (seen Float1Bit d (ceil d 8))))))
 
-abbrev pub float8By : (n t : ℕ) → ReadAnswer
+abbrev float8By : (n t : ℕ) → ReadAnswer
 float8By n t = let d = n - 10 - t in
     cond (eqb n 0) (by 4) (cond (ltb (n - 10) t || ltb n 10) (by 5) (cond (not (eqb (n - 2) (4 * ceil d 4 + 8)) || eqb d 0) (by 7)
     (cond (ltb mostDims d) (by 9) (seen Float8 d (n - 2)))))
 
-abbrev pub sparseBy : List ℕ → (n : ℕ) → ReadAnswer
+abbrev sparseBy : List ℕ → (n : ℕ) → ReadAnswer
 sparseBy s n = let k = n / 8 in let d = u32At s (n - 4) in
     cond (not (eqb n (4 + 8 * k))) (by 7) (cond (some (outside s k d) k) (by 8) (cond (ltb mostDims d) (by 9) (seen Float32Sparse d (8 * k))))
 

@@ -18,7 +18,7 @@ abbrev IsNone : Given → Type 0
 IsNone none = Unit {0}
 IsNone (given r) = ⊥
 
-pub given-some : (r : Refusal) → given r ≡ none → ⊥
+given-some : (r : Refusal) → given r ≡ none → ⊥
 given-some r e = subst IsNone (sym e) tt
 
 pub refused-unseen : (r : Refusal) (v : View) → Refused r ≡ Seen v → ⊥
@@ -31,7 +31,7 @@ viewIn w (Refused r) = w
 pub seen-same : (v w : View) → Seen v ≡ Seen w → v ≡ w
 seen-same v w e = ap (viewIn v) e
 
-pub none-first : (t : Test) (ts : List Test) → firstOf (t ∷ ts) ≡ none → (t .holds ≡ false) × (firstOf ts ≡ none)
+none-first : (t : Test) (ts : List Test) → firstOf (t ∷ ts) ≡ none → (t .holds ≡ false) × (firstOf ts ≡ none)
 none-first t ts e = at (t .holds) refl
   where
     at : (b : Bool) → t .holds ≡ b → (t .holds ≡ false) × (firstOf ts ≡ none)

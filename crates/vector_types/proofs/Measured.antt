@@ -37,7 +37,7 @@ module _ (k : VectorType) (d : ℕ) (body : List ℕ) where
   need = length (blobOf k d body)
 
   -- w is the answer, and the buffer afterwards follows from it
-  abbrev pub Leaves : WriteAnswer → List ℕ → Type 0
+  abbrev Leaves : WriteAnswer → List ℕ → Type 0
   Leaves w out = (w ≡ writeOf k d body (length out)) × (leftBy w (blobOf k d body) out ≡ leftOf k d body out)
 
   leaves : (w : WriteAnswer) (out : List ℕ) → writeOf k d body (length out) ≡ w → Leaves w out

@@ -102,7 +102,7 @@ pub rewritten-as : (s : List ℕ) (r : ReadAnswer) → readOf s ≡ r → rewrit
 unfolding rewritten
 rewritten-as s r e = ap (λ (r : ReadAnswer). rewrittenAs r s) e
 
-abbrev pub blobFor : View → List ℕ → List ℕ
+abbrev blobFor : View → List ℕ → List ℕ
 blobFor v s = blobOf (v .kind) (v .dims .0) (bodyOf s)
 
 module _ (s : List ℕ) (v : View) (e : readOf s ≡ Seen v) where
@@ -115,11 +115,11 @@ module _ (s : List ℕ) (v : View) (e : readOf s ≡ Seen v) where
   here : Kept (v .kind) s
   here = let t = told s v e in kept (v .kind) s (t .names) (t .accepts)
 
-  pub blob-no-longer : length (blobFor v s) ≤ length s
+  blob-no-longer : length (blobFor v s) ≤ length s
   unfolding blobOf
   blob-no-longer = let t = told s v e in rw (length-append, body-long, t .sized, t .long) (here .room)
 
-  pub blob-little-shorter : AreBytes s → length s ≤ length (blobFor v s) + 30
+  blob-little-shorter : AreBytes s → length s ≤ length (blobFor v s) + 30
   unfolding blobOf
   blob-little-shorter bytes = let t = told s v e in rw (length-append, body-long, t .sized, t .long) (here .lost bytes)
 

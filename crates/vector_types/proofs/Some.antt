@@ -1,19 +1,15 @@
--- What a search tells: that there is a place at which the test holds, or that it holds at none.
+-- What a search that finds nothing tells, and what tells it: the test holds at no place.
 use mathlib.Core.Path.{_≡_, refl, sym, _∙_}
 use mathlib.Core.Logic.{_≢_}
 use mathlib.Core.Bool.{Bool, true, false, true≢false}
 use Prim.Native.Nat.{ℕ, zero, suc, _+_, _<_, _≤_}
 use native.Mathlib.Omega.{arith}
-use borrow.Author.Tests.{ltb-true, lt-ltb, le-ltb}
+use borrow.Author.Tests.{lt-ltb, le-ltb}
 use Rattle.vector_types.specs.Search.{firstFrom, first, some}
 
 -- the test fails at the n places from i on
 abbrev Fails : (ℕ → Bool) → ℕ → ℕ → Type 0
 Fails p i n = (j : ℕ) → i ≤ j → j < i + n → p j ≡ false
-
--- there is a place among them at which it holds
-abbrev Holds : (ℕ → Bool) → ℕ → ℕ → Type 0
-Holds p i n = (j : ℕ) × (i ≤ j) × (j < i + n) × (p j ≡ true)
 
 module _ (p : ℕ → Bool) where
   fails-from : (n i : ℕ) → Fails p i n → firstFrom p i n ≡ i + n
@@ -32,20 +28,8 @@ module _ (p : ℕ → Bool) where
           let other : i ≢ j = λ same. true≢false (sym q ∙ rw (← same) e) in
           rw e (rest (omega arith) (omega arith) q)
 
-  from-holds : (n i : ℕ) → firstFrom p i n < i + n → Holds p i n
-  unfolding firstFrom
-  from-holds zero i h = absurd (omega arith)
-  from-holds (suc n) i h = at (p i) refl (from-holds n (suc i))
-    where
-      at : (b : Bool) → p i ≡ b → (firstFrom p (suc i) n < suc i + n → Holds p (suc i) n) → Holds p i (suc n)
-      at true e rest = (i, omega arith, omega arith, e)
-      at false e rest = let later : firstFrom p (suc i) n < i + suc n = rw e at h in let (j, l, m, q) = rest (omega arith) in (j, omega arith, omega arith, q)
-
 module _ (p : ℕ → Bool) (n : ℕ) where
-  pub some-true : some p n ≡ true → (j : ℕ) × (j < n) × (p j ≡ true)
-  some-true e = let (j, _, m, q) = from-holds p n 0 (omega (arith, ltb-true (first p n) n e)) in (j, omega arith, q)
-
-  pub true-some : (j : ℕ) → j < n → p j ≡ true → some p n ≡ true
+  true-some : (j : ℕ) → j < n → p j ≡ true → some p n ≡ true
   true-some j m q = lt-ltb (first p n) n (omega (arith, hit-after p n 0 j (omega arith) (omega arith) q))
 
   pub some-false : some p n ≡ false → (j : ℕ) → j < n → p j ≡ false

@@ -37,7 +37,7 @@ module _ (b : ℕ) (k : VectorType) where
   unnamed true names = absurd (true≢false (sym (ap (λ (n : Named). of n (λ _. true)) names)))
   unnamed false names = absurd (true≢false (sym (ap (λ (n : Named). of n (λ _. true)) names)))
 
-  pub named-byte : byByte b ≡ a k → b ≡ byteOf k
+  named-byte : byByte b ≡ a k → b ≡ byteOf k
   unfolding byByte
   named-byte =
       row Float32Dense (eqb b 1) _ refl
