@@ -1,6 +1,6 @@
 -- By which way a pair is converted, and how long the body is that it makes.
 use mathlib.Core.Path.{_≡_, refl, sym, ap, _∙_}
-use mathlib.Core.Bool.{Bool, true, false, not, _&&_, _||_, and-eq-true-iff, true≢false}
+use mathlib.Core.Bool.{Bool, true, false, not, _&&_, _||_, and-eq-true-iff, true≢false, false≢true}
 use mathlib.Core.List.{List}
 use Prim.Native.Nat.{ℕ, _+_, _*_}
 use native.Mathlib.Omega.{arith}
@@ -9,7 +9,7 @@ use lib.Seq.{take-at}
 use lib.Ieee.{Format, binary32, binary64}
 use borrow.Author.Tests.{eq-eqb, not-true}
 use Rattle.promises.specs.Onto.{onto}
-use Rattle.vector_types.specs.Layout.{ceil, is, counted, fits, outside, strays}
+use Rattle.vector_types.specs.Layout.{ceil, byteOf, is, counted, fits, outside, strays}
 use Rattle.vector_types.specs.Search.{some}
 use Rattle.vector_types.specs.declared.VectorType.{VectorType}
 use Rattle.vector_types.specs.declared.VectorType.the-variants.{Float32Dense, Float64Dense, Float32Sparse, Float1Bit, Float8}
@@ -17,10 +17,9 @@ use Rattle.convert.specs.Pieces.{placesOf}
 use Rattle.convert.specs.Dense.{count, spreadBody}
 use Rattle.convert.specs.Elements.{element, floatsOf, denseBody}
 use Rattle.convert.specs.Sparse.{stored}
-use Rattle.convert.specs.Result.{wayOf, made, resultBy, resultOf}
+use Rattle.convert.specs.Result.{Way, Copied, Straight, Through, wayOf, made, resultBy, resultOf}
 use Rattle.convert.specs.Convert.{scratched}
-use Rattle.convert.specs.declared.result.Way.{Way}
-use Rattle.convert.specs.declared.result.Way.the-variants.{Copied, Straight, Through}
+use Rattle.vector_types.proofs.SameKind.{same-kind}
 use Rattle.convert.proofs.ByKind.{counted-by, sparse-kind, pairs}
 use Rattle.convert.proofs.Lengths.{length-dense}
 use Rattle.convert.proofs.Packed.{length-bitBody}
@@ -64,21 +63,20 @@ module _ (k : VectorType) (d : ℕ) (body : List ℕ) (fit : fits k d (length bo
   pub sized : (t u : VectorType) → t ≡ u → length (made k t d body) ≡ sizeOf k u d body
   sized t u e = made-size t ∙ ap (λ (t : VectorType). sizeOf k t d body) e
 
--- ---- the result by the way of its pair
-module _ (k t : VectorType) (d : ℕ) (body : List ℕ) where
-  by-way : (w : Way) → wayOf k t ≡ w → resultOf k t d body ≡ resultBy w k t d body
-  unfolding resultOf
-  by-way w e = ap (λ (w : Way). resultBy w k t d body) e
+-- ---- a body is copied to its own kind
+own : (k : VectorType) (d : ℕ) (body : List ℕ) → body ≡ resultOf k k d body
+unfolding resultOf
+own Float32Dense d body = refl
+own Float64Dense d body = refl
+own Float32Sparse d body = refl
+own Float1Bit d body = refl
+own Float8 d body = refl
 
-  pub copies : wayOf k t ≡ Copied → body ≡ resultOf k t d body
-  unfolding resultOf
-  copies e = sym (by-way Copied e)
+pub copies : (k t : VectorType) (d : ℕ) (body : List ℕ) → is (byteOf t) k ≡ true → body ≡ resultOf k t d body
+copies k t d body same = own k d body ∙ ap (λ (t : VectorType). resultOf k t d body) (same-kind k t same)
 
-  pub straight : wayOf k t ≡ Straight → resultOf k t d body ≡ made k t d body
-  unfolding resultOf
-  straight e = by-way Straight e
-
-abbrev pub isCopied : Way → Bool
+-- ---- to another kind, where no scratch is taken
+abbrev isCopied : Way → Bool
 isCopied Copied = true
 isCopied Straight = false
 isCopied Through = false
@@ -88,20 +86,25 @@ isThrough Copied = false
 isThrough Straight = false
 isThrough Through = true
 
-module _ (k t : VectorType) (plain : scratched k t ≡ false) where
-  -- in two steps only from 1-bit and Float8, where one step makes the same
-  pub through-one : (d : ℕ) (body : List ℕ) → wayOf k t ≡ Through → resultOf k t d body ≡ made k t d body
-  unfolding made
-  through-one d body e =
-      let claim = pairs (λ k t. not (isThrough (wayOf k t)) || (scratched k t || (counted k && (is 9 t || counted t)))) refl k t in
-      let (from, to) = and-eq-true-iff (counted k) (is 9 t || counted t) .0 (rw (e, plain) at claim) in
-      by-way k t d body Through e ∙ through-made k t d body from to
+module _ (k t : VectorType) (other : is (byteOf t) k ≡ false) (plain : scratched k t ≡ false) where
+  -- two steps lead only from 1-bit and Float8, where one step makes the same
+  pub one-step : (d : ℕ) (body : List ℕ) → resultOf k t d body ≡ made k t d body
+  unfolding resultOf made
+  one-step d body = by (wayOf k t) refl
+    where
+      by : (w : Way) → wayOf k t ≡ w → resultBy w k t d body ≡ made k t d body
+      by Copied e = absurd (false≢true (rw (e, other) at (pairs (λ k t. is (byteOf t) k || not (isCopied (wayOf k t))) refl k t)))
+      by Straight e = refl
+      by Through e =
+          let claim = pairs (λ k t. not (isThrough (wayOf k t)) || (scratched k t || (counted k && (is 9 t || counted t)))) refl k t in
+          let (from, to) = and-eq-true-iff (counted k) (is 9 t || counted t) .0 (rw (e, plain) at claim) in
+          through-made k t d body from to
 
   -- from sparse in one step only to the dense kinds
-  pub made-plainly : isCopied (wayOf k t) ≡ false → (is 9 k && (is 9 t || counted t)) ≡ false
-  made-plainly e =
-      let claim = pairs (λ k t. isCopied (wayOf k t) || (scratched k t || not (is 9 k && (is 9 t || counted t)))) refl k t in
-      not-true (is 9 k && (is 9 t || counted t)) (rw (e, plain) at claim)
+  pub made-plainly : (is 9 k && (is 9 t || counted t)) ≡ false
+  made-plainly =
+      let claim = pairs (λ k t. is (byteOf t) k || (scratched k t || not (is 9 k && (is 9 t || counted t)))) refl k t in
+      not-true (is 9 k && (is 9 t || counted t)) (rw (other, plain) at claim)
 
 -- ---- from sparse to 1-bit and Float8: the dense body, at the front of scratch, and what is made of it
 module _ (d : ℕ) (body : List ℕ) (inside : some (outside body (count body) d) (count body) ≡ false) where

@@ -8,10 +8,12 @@ use Rattle.convert.specs.Elements.{denseBody}
 use Rattle.convert.specs.Sparse.{sparseBody}
 use Rattle.convert.specs.Bits.{bitBody}
 use Rattle.convert.specs.Quantized.{quantizedBody}
-use Rattle.convert.specs.declared.result.Way.{Way}
-use Rattle.convert.specs.declared.result.Way.the-variants.{Copied, Straight, Through}
 
--- how a pair is converted: from the first kind to the second
+-- how a pair is converted: the body is copied, or made in one step, or in two, through Float32Dense
+pub data Way : Type 0 where
+  Copied Straight Through : Way
+
+-- from the first kind to the second
 abbrev pub wayOf : VectorType → VectorType → Way
 wayOf Float32Dense Float32Dense = Copied
 wayOf Float32Dense Float64Dense = Straight

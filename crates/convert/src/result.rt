@@ -1,4 +1,4 @@
-// Which way a pair is converted, how long the result is, and putting it.
+// How long the result of a pair is, and putting it.
 ghost use mathlib.Core.Path.{_≡_};
 ghost use mathlib.Core.Bool.{false, true, _&&_, _||_};
 ghost use Prim.Native.Nat.{_*_, _≤_};
@@ -9,10 +9,10 @@ ghost use Rattle.vector_types.specs.Layout.{mostDims, is, counted, fits, strays
 ghost use Rattle.vector_types.specs.Read.{readOf};
 ghost use Rattle.vector_types.specs.Parts.{bodyOf};
 ghost use Rattle.vector_types.specs.declared.ReadAnswer.the-variants.{View as Seen};
-ghost use Rattle.convert.specs.Result.{wayOf, made, resultOf};
+ghost use Rattle.convert.specs.Result.{made, resultOf};
 ghost use Rattle.convert.specs.Elements.{denseBody};
 ghost use Rattle.convert.specs.Convert.{convertedTo, answerWith, outWith, answerOf, scratchBy, outBy};
-ghost use Rattle.vector_types.specs.declared.VectorType.the-variants.{Float32Dense, Float64Dense, Float32Sparse, Float1Bit, Float8};
+ghost use Rattle.vector_types.specs.declared.VectorType.the-variants.{Float32Sparse};
 use crate::ConvertAnswer;
 use crate::bits::put_bits;
 use crate::dense::put_doubles;
@@ -25,109 +25,21 @@ use crate::sparse::put_sparse;
 use vector_types::Dims;
 use vector_types::VectorType;
 use vector_types::View;
-
-// How a pair is converted: the body is copied, or made in one step, or in two, through Float32Dense.
-pub enum Way {
-    Copied,
-    Straight,
-    Through,
-}
-
-fn from_dense32(target: VectorType) -> Way
-    ensures { λ r. ⌜ r ≡ wayOf Float32Dense target ⌝ }
-{
-    match target {
-        VectorType::Float32Dense => Way::Copied,
-        VectorType::Float64Dense => Way::Straight,
-        VectorType::Float32Sparse => Way::Straight,
-        VectorType::Float1Bit => Way::Straight,
-        VectorType::Float8 => Way::Straight,
-    }
-}
-
-fn from_dense64(target: VectorType) -> Way
-    ensures { λ r. ⌜ r ≡ wayOf Float64Dense target ⌝ }
-{
-    match target {
-        VectorType::Float32Dense => Way::Straight,
-        VectorType::Float64Dense => Way::Copied,
-        VectorType::Float32Sparse => Way::Straight,
-        VectorType::Float1Bit => Way::Straight,
-        VectorType::Float8 => Way::Straight,
-    }
-}
-
-fn from_sparse(target: VectorType) -> Way
-    ensures { λ r. ⌜ r ≡ wayOf Float32Sparse target ⌝ }
-{
-    match target {
-        VectorType::Float32Dense => Way::Straight,
-        VectorType::Float64Dense => Way::Straight,
-        VectorType::Float32Sparse => Way::Copied,
-        VectorType::Float1Bit => Way::Through,
-        VectorType::Float8 => Way::Through,
-    }
-}
-
-fn from_one_bit(target: VectorType) -> Way
-    ensures { λ r. ⌜ r ≡ wayOf Float1Bit target ⌝ }
-{
-    match target {
-        VectorType::Float32Dense => Way::Straight,
-        VectorType::Float64Dense => Way::Straight,
-        VectorType::Float32Sparse => Way::Through,
-        VectorType::Float1Bit => Way::Copied,
-        VectorType::Float8 => Way::Through,
-    }
-}
-
-fn from_float8(target: VectorType) -> Way
-    ensures { λ r. ⌜ r ≡ wayOf Float8 target ⌝ }
-{
-    match target {
-        VectorType::Float32Dense => Way::Straight,
-        VectorType::Float64Dense => Way::Straight,
-        VectorType::Float32Sparse => Way::Through,
-        VectorType::Float1Bit => Way::Through,
-        VectorType::Float8 => Way::Copied,
-    }
-}
-
-fn way_of(kind: VectorType, target: VectorType) -> Way
-    ensures { λ r. ⌜ r ≡ wayOf kind target ⌝ }
-{
-    match kind {
-        VectorType::Float32Dense => from_dense32(target),
-        VectorType::Float64Dense => from_dense64(target),
-        VectorType::Float32Sparse => from_sparse(target),
-        VectorType::Float1Bit => from_one_bit(target),
-        VectorType::Float8 => from_float8(target),
-    }
-}
+use vector_types::is_same_kind;
+use vector_types::type_byte;
 
 fn is_sparse(kind: VectorType) -> bool
     ensures { λ r. ⌜ r ≡ is 9 kind ⌝ }
 {
-    match kind {
-        VectorType::Float32Sparse => true,
-        VectorType::Float32Dense => false,
-        VectorType::Float64Dense => false,
-        VectorType::Float1Bit => false,
-        VectorType::Float8 => false,
-    }
+    type_byte(kind) == 9
 }
 
 // Whether blobs of a kind carry a trailing count.
 fn is_counted(kind: VectorType) -> bool
     ensures { λ r. ⌜ r ≡ counted kind ⌝ }
 {
-    match kind {
-        VectorType::Float1Bit => true,
-        VectorType::Float8 => true,
-        VectorType::Float32Dense => false,
-        VectorType::Float64Dense => false,
-        VectorType::Float32Sparse => false,
-    }
+    let byte = type_byte(kind);
+    byte == 3 || byte == 4
 }
 
 // How long the body is that one step makes.
@@ -259,7 +171,7 @@ fn convert_through(
     converted(target, dims, need)
 }
 
-// The other pairs.
+// The other pairs: a body is copied to its own kind, and to another made in one step.
 fn convert_body(
     kind: VectorType,
     dims: usize,
@@ -274,17 +186,14 @@ fn convert_body(
     ensures { λ r. ⌜ r ≡ answerWith target dims (resultOf kind target dims (now (body .entry))) (length (now (out .entry))) ⌝ }
     ensures { λ _. ⌜ now (out .exit) ≡ outWith (resultOf kind target dims (now (body .entry))) (now (out .entry)) ⌝ }
 {
-    match way_of(kind, target) {
-        Way::Copied => {
-            if out.len() < body.len() {
-                return ConvertAnswer::Short(body.len());
-            }
-            let need = bytes::copy(body, out);
-            converted(target, dims, need)
-        }
-        Way::Straight => convert_made(kind, dims, body, target, out),
-        Way::Through => convert_made(kind, dims, body, target, out),
+    if !is_same_kind(kind, target) {
+        return convert_made(kind, dims, body, target, out);
     }
+    if out.len() < body.len() {
+        return ConvertAnswer::Short(body.len());
+    }
+    let need = bytes::copy(body, out);
+    converted(target, dims, need)
 }
 
 fn convert_made(

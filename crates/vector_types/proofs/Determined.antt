@@ -4,6 +4,8 @@ use mathlib.Core.List.{List}
 use Prim.Native.Nat.{ℕ}
 use denote.Ref.{now}
 use Rattle.promises.specs.Determined.{Determined}
+use Rattle.vector_types.proofs.kinds.type_byte.Reads as type-byte
+use Rattle.vector_types.proofs.kinds.is_same_kind.Reads as is-same-kind
 use Rattle.vector_types.proofs.reading.read.Reads as read
 use Rattle.vector_types.proofs.strictness.read_strict.Reads as read-strict
 use Rattle.vector_types.proofs.parts.body.Reads as body
@@ -14,6 +16,12 @@ use Rattle.vector_types.proofs.writing.write.Reads as write
 -- the bytes of a part, and where it points
 abbrev pub part : List ℕ → ℕ × ℕ → List ℕ × (ℕ × ℕ)
 part bytes at = (bytes, at)
+
+pub type-byte-determined : (κs : _) (a : _) → Determined (type-byte.Post κs a) (λ r x. r)
+type-byte-determined κs a r r′ x x′ p q = p ∙ sym q
+
+pub is-same-kind-determined : (κs : _) (a : _) → Determined (is-same-kind.Post κs a) (λ r x. r)
+is-same-kind-determined κs a r r′ x x′ p q = p ∙ sym q
 
 pub read-determined : (κs : _) (a : _) → Determined (read.Post κs a) (λ r x. r)
 read-determined κs a r r′ x x′ p q = p ∙ sym q

@@ -10,6 +10,7 @@ pub mod Measured
 pub mod Rewritten
 pub mod RewrittenStrictly
 pub mod Rows
+pub mod SameKind
 pub mod Search
 pub mod Shapes
 pub mod Some

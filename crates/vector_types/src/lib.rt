@@ -1,9 +1,12 @@
 // Blobs: the five kinds, reading, strict reading, the parts of a blob, and writing.
+mod kinds;
 mod parts;
 mod reading;
 mod strictness;
 mod writing;
 
+pub use kinds::is_same_kind;
+pub use kinds::type_byte;
 pub use parts::body;
 pub use parts::indices;
 pub use parts::values;

@@ -1,26 +1,10 @@
--- Each arm is its row.
+-- A kind is sparse where its type byte is 9.
 use borrow.Author.Needs.{needs}
 use Rattle.convert.proofs.result.is_sparse.Statement.{statement}
 use Rattle.convert.proofs.result.is_sparse.Tie as tie
 
 returns : tie.Need-returns
-returns c = rw (c .enum-told .given .1)
-
-returns-2 : tie.Need-returns-2
-returns-2 c = rw (c .enum-told2 .given .1)
-
-returns-3 : tie.Need-returns-3
-returns-3 c = rw (c .enum-told3 .given .1)
-
-returns-4 : tie.Need-returns-4
-returns-4 c = rw (c .enum-told4 .given .1)
-
-returns-5 : tie.Need-returns-5
-returns-5 c = rw (c .enum-told5 .given .1)
+returns c = rw (c .type-byte .ensures)
 
 pub is-sparse-spec : {M : Type 1} → statement M
-is-sparse-spec =
-    tie.close
-    (tie.spec
-    (λ c. search needs) (λ c. search needs) (λ c. search needs) (λ c. search needs) (λ c. search needs)
-    returns returns-2 returns-3 returns-4 returns-5)
+is-sparse-spec = tie.close (tie.spec (λ c κs. search needs) returns)
