@@ -7,9 +7,6 @@ use Rattle.convert.proofs.bits.bit.Tie as tie
 returns : tie.Need-returns
 returns c = simp (le-ltb _ _ (c .if1 .taken))
 
-is-positive-requires : tie.Need-is-positive-requires
-is-positive-requires c κs = search needs
-
 returns-2 : tie.Need-returns-2
 returns-2 c = simp (lt-ltb _ _ (c .before .before .if1 .left), ← (c .before .is-positive .ensures), c .if2 .taken)
 
@@ -17,4 +14,4 @@ returns-3 : tie.Need-returns-3
 returns-3 c = simp (lt-ltb _ _ (c .before .before .if1 .left), ← (c .before .is-positive .ensures), c .if2 .left)
 
 pub bit-spec : {M : Type 1} → statement M
-bit-spec = tie.close (tie.spec returns is-positive-requires returns-2 returns-3)
+bit-spec = tie.close (tie.spec returns (λ c κs. search needs) returns-2 returns-3)

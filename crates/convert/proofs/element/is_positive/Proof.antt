@@ -6,19 +6,10 @@ use Rattle.convert.proofs.Units.{zero-is, own-single}
 use Rattle.convert.proofs.element.is_positive.Statement.{statement}
 use Rattle.convert.proofs.element.is_positive.Tie as tie
 
-enum-told : tie.Need-enum-told
-enum-told c = search needs
-
-mul-f64-at : tie.Need-mul-f64-at
-mul-f64-at c = search needs
-
 f64-at-requires : tie.Need-f64-at-requires
 f64-at-requires c κs =
     let a = c .before .before .before in
     float64-within (a .args .dims) _ (a .args .i) (c .enum-told .given .1) (a .pre .1 .0) (a .pre .1 .1 .1)
-
-single-requires : tie.Need-single-requires
-single-requires c κs = search needs
 
 returns : tie.Need-returns
 unfolding element
@@ -30,4 +21,4 @@ returns-2 c = rw (own-single (c .before .before .before .args .kind) (c .before 
 
 pub is-positive-spec : {M : Type 1} → statement M
 is-positive-spec =
-    tie.close (tie.spec enum-told mul-f64-at f64-at-requires single-requires returns returns-2)
+    tie.close (tie.spec (λ c. search needs) (λ c. search needs) f64-at-requires (λ c κs. search needs) returns returns-2)

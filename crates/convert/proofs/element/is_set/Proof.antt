@@ -8,19 +8,10 @@ use borrow.Author.Needs.{needs}
 use Rattle.convert.proofs.element.is_set.Statement.{statement}
 use Rattle.convert.proofs.element.is_set.Tie as tie
 
-shared-slice-read-result : tie.Need-shared-slice-read-result
-shared-slice-read-result c = search needs
-
-cast-result : tie.Need-cast-result
-cast-result c = search needs
-
-shr-result : tie.Need-shr-result
-shr-result c = search needs
-
 returns : tie.Need-returns
 returns c =
     let i = c .before .args .i in
     ap (λ (b : ℕ). eqb b 1) (and-mask (getD (c .before .args .body .now) (i / 8) 0 / 2 ^ (i % 8)) 1)
 
 pub is-set-spec : {M : Type 1} → statement M
-is-set-spec = tie.close (tie.spec shared-slice-read-result cast-result shr-result returns)
+is-set-spec = tie.close (tie.spec (λ c. search needs) (λ c. search needs) (λ c. search needs) returns)

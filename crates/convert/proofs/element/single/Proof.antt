@@ -9,55 +9,25 @@ use Rattle.convert.proofs.Bodies.{not-sparse, float8-length, float32-wi
 use Rattle.convert.proofs.element.single.Statement.{statement}
 use Rattle.convert.proofs.element.single.Tie as tie
 
-enum-told : tie.Need-enum-told
-enum-told c = search needs
-
-mul-f32-at : tie.Need-mul-f32-at
-mul-f32-at c = search needs
-
 f32-at-requires : tie.Need-f32-at-requires
 f32-at-requires c κs =
     let a = c .before .before .before in
     float32-within (a .args .dims) _ (a .args .i) (c .enum-told .given .1) (a .pre .1 .0) (a .pre .1 .1 .1)
-
-enum-told-2 : tie.Need-enum-told-2
-enum-told-2 c = search needs
-
-mul-f64-at : tie.Need-mul-f64-at
-mul-f64-at c = search needs
 
 f64-at-requires : tie.Need-f64-at-requires
 f64-at-requires c κs =
     let a = c .before .before .before in
     float64-within (a .args .dims) _ (a .args .i) (c .enum-told2 .given .1) (a .pre .1 .0) (a .pre .1 .1 .1)
 
-narrow-requires : tie.Need-narrow-requires
-narrow-requires c κs = search needs
-
-enum-told-3 : tie.Need-enum-told-3
-enum-told-3 c = search needs
-
 unit32-requires : tie.Need-unit32-requires
 unit32-requires c κs =
     let a = c .before .before .before in
     one-bit-within (a .args .dims) _ (a .args .i) (c .enum-told3 .given .1) (a .pre .1 .0) (a .pre .1 .1 .1)
 
-enum-told-4 : tie.Need-enum-told-4
-enum-told-4 c = search needs
-
-add-end : tie.Need-add-end
-add-end c = search needs
-
-mul-end : tie.Need-mul-end
-mul-end c = search needs
-
 f32-at-requires-2 : tie.Need-f32-at-requires-2
 f32-at-requires-2 c κs =
     let a = c .before .before .before in
     omega (arith, float8-length (a .args .dims) _ (c .enum-told4 .given .1) (a .pre .1 .0))
-
-add-f32-at : tie.Need-add-f32-at
-add-f32-at c = search needs
 
 f32-at-requires-3 : tie.Need-f32-at-requires-3
 f32-at-requires-3 c κs =
@@ -68,12 +38,6 @@ shared-slice-read-result : tie.Need-shared-slice-read-result
 shared-slice-read-result c =
     let a = c .before .before .before .before .before .before in
     float8-within (a .args .dims) _ (a .args .i) (c .before .before .before .enum-told4 .given .1) (a .pre .1 .0) (a .pre .1 .1 .1)
-
-int-to-float-result : tie.Need-int-to-float-result
-int-to-float-result c = search needs
-
-enum-told-5 : tie.Need-enum-told-5
-enum-told-5 c = search needs
 
 returns : tie.Need-returns
 unfolding element
@@ -101,24 +65,18 @@ pub single-spec : {M : Type 1} → statement M
 single-spec =
     tie.close
     (tie.spec
-    enum-told
-    mul-f32-at
+    (λ c. search needs) (λ c. search needs)
     f32-at-requires
-    enum-told-2
-    mul-f64-at
+    (λ c. search needs) (λ c. search needs)
     f64-at-requires
-    narrow-requires
-    enum-told-3
+    (λ c κs. search needs) (λ c. search needs)
     unit32-requires
-    enum-told-4
-    add-end
-    mul-end
+    (λ c. search needs) (λ c. search needs) (λ c. search needs)
     f32-at-requires-2
-    add-f32-at
+    (λ c. search needs)
     f32-at-requires-3
     shared-slice-read-result
-    int-to-float-result
-    enum-told-5
+    (λ c. search needs) (λ c. search needs)
     returns
     returns-2
     returns-3

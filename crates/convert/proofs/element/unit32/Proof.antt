@@ -5,9 +5,6 @@ use Rattle.convert.proofs.Units.{unit-set, unit-clear}
 use Rattle.convert.proofs.element.unit32.Statement.{statement}
 use Rattle.convert.proofs.element.unit32.Tie as tie
 
-is-set-requires : tie.Need-is-set-requires
-is-set-requires c κs = search needs
-
 returns : tie.Need-returns
 returns c =
     let a = c .before .before .before .args in
@@ -19,4 +16,4 @@ returns-2 c =
     unit-clear (a .body .now) (a .i) (sym (c .before .is-set .ensures) ∙ c .if1 .left)
 
 pub unit32-spec : {M : Type 1} → statement M
-unit32-spec = tie.close (tie.spec is-set-requires returns returns-2)
+unit32-spec = tie.close (tie.spec (λ c κs. search needs) returns returns-2)

@@ -10,9 +10,6 @@ returns : tie.Need-returns
 unfolding scaleOf ofBits
 returns c = rw (eq-eqb _ _ (c .if1 .taken))
 
-range-of-requires : tie.Need-range-of-requires
-range-of-requires c κs = search needs
-
 returns-2 : tie.Need-returns-2
 unfolding scaleOf ofBits ofInt
 returns-2 c =
@@ -20,4 +17,4 @@ returns-2 c =
     rw (ne-eqb _ _ (c .before .before .if1 .left), r .0, r .1)
 
 pub scale-of-spec : {M : Type 1} → statement M
-scale-of-spec = tie.close (tie.spec returns range-of-requires returns-2)
+scale-of-spec = tie.close (tie.spec returns (λ c κs. search needs) returns-2)

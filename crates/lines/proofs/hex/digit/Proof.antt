@@ -10,9 +10,6 @@ returns : tie.Need-returns
 unfolding digitOf
 returns c = let b = c .before .args .b in simp (lt-leb 48 b (omega arith), lt-leb 97 b (omega arith))
 
-cast-result : tie.Need-cast-result
-cast-result c = search needs
-
 returns-2 : tie.Need-returns-2
 unfolding digitOf
 returns-2 c = let b = c .before .before .args .b in simp (le-leb 48 b (omega arith), le-leb b 57 (omega arith))
@@ -21,12 +18,6 @@ returns-3 : tie.Need-returns-3
 unfolding digitOf
 returns-3 c = let b = c .before .before .before .args .b in
     simp (lt-leb b 57 (omega arith), lt-leb 97 b (omega arith), le-leb 48 b (omega arith))
-
-add-result : tie.Need-add-result
-add-result c = search needs
-
-cast-result-2 : tie.Need-cast-result-2
-cast-result-2 c = search needs
 
 returns-4 : tie.Need-returns-4
 unfolding digitOf
@@ -41,4 +32,4 @@ returns-5 c = let b = c .before .before .before .before .args .b in
 pub digit-spec : {M : Type 1} → statement M
 digit-spec =
     tie.close
-    (tie.spec returns cast-result returns-2 returns-3 add-result cast-result-2 returns-4 returns-5)
+    (tie.spec returns (λ c. search needs) returns-2 returns-3 (λ c. search needs) (λ c. search needs) returns-4 returns-5)

@@ -10,15 +10,6 @@ use Rattle.lines.proofs.Spelled.{length-digits, fewest-most}
 use Rattle.lines.proofs.hex.put_hex.Statement.{statement}
 use Rattle.lines.proofs.hex.put_hex.Tie as tie
 
-hex-requires : tie.Need-hex-requires
-hex-requires c κs = search needs
-
-array-share-prefix-text : tie.Need-array-share-prefix-text
-array-share-prefix-text c = search needs
-
-slice-aggregate-copy : tie.Need-slice-aggregate-copy
-slice-aggregate-copy c = search needs
-
 -- as many digits as asked
 wide : (c : tie.After-hex) → c .hex .result ≡ c .before .before .before .args .width
 wide c =
@@ -33,9 +24,6 @@ wide c =
 copy-requires : tie.Need-copy-requires
 copy-requires c κs = omega (arith, wide (c .before .before))
 
-same-length : tie.Need-same-length
-same-length c = search needs
-
 returns : tie.Need-returns
 returns c =
     let h = c .before .before .before .before .before in
@@ -48,9 +36,7 @@ pub put-hex-spec : {M : Type 1} → statement M
 put-hex-spec =
     tie.close
     (tie.spec
-    hex-requires
-    array-share-prefix-text
-    slice-aggregate-copy
+    (λ c κs. search needs) (λ c. search needs) (λ c. search needs)
     copy-requires
-    same-length
+    (λ c. search needs)
     returns)

@@ -10,20 +10,8 @@ use borrow.Author.Needs.{needs}
 use Rattle.lines.proofs.stream.keep.Statement.{statement}
 use Rattle.lines.proofs.stream.keep.Tie as tie
 
-sub-room : tie.Need-sub-room
-sub-room c = search needs
-
 slice-aggregate-copy : tie.Need-slice-aggregate-copy
 slice-aggregate-copy c = sym (length-take-le _ _ (omega arith))
-
-sub-copy : tie.Need-sub-copy
-sub-copy c = search needs
-
-part-copy-start : tie.Need-part-copy-start
-part-copy-start c = search needs
-
-part-copy-end : tie.Need-part-copy-end
-part-copy-end c = search needs
 
 copy-requires : tie.Need-copy-requires
 copy-requires c κs =
@@ -32,36 +20,12 @@ copy-requires c κs =
     let t : take (length (a .kept .now) - n) (drop n (a .kept .now)) ≡ drop n (a .kept .now) = tail-lent n (a .kept .now) in
     rw t (omega (arith, length-take-le (length (a .kept .now) - n) (a .piece .now) (omega arith), length-drop n (a .kept .now)))
 
-add-count : tie.Need-add-count
-add-count c = search needs
-
-same-length : tie.Need-same-length
-same-length c = search needs
-
 returns : tie.Need-returns
 returns c =
     let a = c .before .before .before .before .before .before .before .before .args in
     let p = c .before .before .copy .ensures in
     let left = c .before .before .copy .last .1 .0 in
     (held-over _ _ (a .held) (omega arith) (omega arith), kept-piece (a .kept .now) (a .piece .now) _ left (a .held .count) refl (p .1))
-
-sub-copy-2 : tie.Need-sub-copy-2
-sub-copy-2 c = search needs
-
-part-copy-start-2 : tie.Need-part-copy-start-2
-part-copy-start-2 c = search needs
-
-part-copy-end-2 : tie.Need-part-copy-end-2
-part-copy-end-2 c = search needs
-
-copy-requires-2 : tie.Need-copy-requires-2
-copy-requires-2 c κs = search needs
-
-add-count-2 : tie.Need-add-count-2
-add-count-2 c = search needs
-
-same-length-2 : tie.Need-same-length-2
-same-length-2 c = search needs
 
 returns-2 : tie.Need-returns-2
 returns-2 c =
@@ -75,19 +39,12 @@ pub keep-spec : {M : Type 1} → statement M
 keep-spec =
     tie.close
     (tie.spec
-    sub-room
+    (λ c. search needs)
     slice-aggregate-copy
-    sub-copy
-    part-copy-start
-    part-copy-end
+    (λ c. search needs) (λ c. search needs) (λ c. search needs)
     copy-requires
-    add-count
-    same-length
+    (λ c. search needs) (λ c. search needs)
     returns
-    sub-copy-2
-    part-copy-start-2
-    part-copy-end-2
-    copy-requires-2
-    add-count-2
-    same-length-2
+    (λ c. search needs) (λ c. search needs) (λ c. search needs) (λ c κs. search needs) (λ c. search needs)
+    (λ c. search needs)
     returns-2)

@@ -6,11 +6,8 @@ use Rattle.lines.proofs.Parting.{slice-from}
 use Rattle.lines.proofs.text.field_end.Statement.{statement}
 use Rattle.lines.proofs.text.field_end.Tie as tie
 
-find-requires : tie.Need-find-requires
-find-requires c κs = search needs
-
 returns : tie.Need-returns
 returns c = (c .find .ensures .0 ∙ rw (zero-add, slice-from), search needs)
 
 pub field-end-spec : {M : Type 1} → statement M
-field-end-spec = tie.close (tie.spec find-requires returns)
+field-end-spec = tie.close (tie.spec (λ c κs. search needs) returns)

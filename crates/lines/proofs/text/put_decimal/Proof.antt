@@ -9,23 +9,11 @@ use Rattle.lines.proofs.Spelled.{fewest-decimal, fewest-most}
 use Rattle.lines.proofs.text.put_decimal.Statement.{statement}
 use Rattle.lines.proofs.text.put_decimal.Tie as tie
 
-decimal-requires : tie.Need-decimal-requires
-decimal-requires c κs = search needs
-
-array-share-prefix-digits : tie.Need-array-share-prefix-digits
-array-share-prefix-digits c = search needs
-
-slice-aggregate-copy : tie.Need-slice-aggregate-copy
-slice-aggregate-copy c = search needs
-
 few : (c : tie.After-decimal) → c .decimal .result ≤ 20
 few c = fewest-most 10 1 (c .before .before .before .args .n) (c .decimal .result) 20 (lit< tt) (lit≤ tt) (omega arith) (c .decimal .ensures .1 .0)
 
 copy-requires : tie.Need-copy-requires
 copy-requires c κs = omega (arith, few (c .before .before))
-
-same-length : tie.Need-same-length
-same-length c = search needs
 
 returns : tie.Need-returns
 returns c =
@@ -39,9 +27,7 @@ pub put-decimal-spec : {M : Type 1} → statement M
 put-decimal-spec =
     tie.close
     (tie.spec
-    decimal-requires
-    array-share-prefix-digits
-    slice-aggregate-copy
+    (λ c κs. search needs) (λ c. search needs) (λ c. search needs)
     copy-requires
-    same-length
+    (λ c. search needs)
     returns)

@@ -27,9 +27,6 @@ narrow-pattern-requires c κs =
     let e : toBits binary64 x % top binary64 ≡ toBits binary64 x = mod-eq-of-lt (omega arith) in
     omega arith
 
-cast-result : tie.Need-cast-result
-cast-result c = search needs
-
 float-from-bits-result : tie.Need-float-from-bits-result
 float-from-bits-result c = no-nan binary32 (c .narrow-pattern .result) (c .narrow-pattern .ensures .fine)
 
@@ -39,12 +36,6 @@ narrow-pattern-requires-2 c κs =
     let s = size-le binary64 x (search needs) (number-value x (c .before .if1 .left)) in
     let l = toBits-lt binary64 x (search needs) in
     omega arith
-
-add-result : tie.Need-add-result
-add-result c = search needs
-
-cast-result-2 : tie.Need-cast-result-2
-cast-result-2 c = search needs
 
 float-from-bits-result-2 : tie.Need-float-from-bits-result-2
 float-from-bits-result-2 c = no-nan-below binary32 (c .narrow-pattern2 .result) (c .narrow-pattern2 .ensures .fine)
@@ -70,11 +61,10 @@ narrow-spec =
     returns
     float-to-bits-b
     narrow-pattern-requires
-    cast-result
+    (λ c. search needs)
     float-from-bits-result
     narrow-pattern-requires-2
-    add-result
-    cast-result-2
+    (λ c. search needs) (λ c. search needs)
     float-from-bits-result-2
     returns-2
     returns-3)

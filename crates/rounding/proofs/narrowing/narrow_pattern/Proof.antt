@@ -22,9 +22,6 @@ at c =
 returns : tie.Need-returns
 returns c = subst (λ (b : ℕ). Narrowing b (ones binary32 * hid binary32)) (sym (c .if1 .taken)) answer-infinite
 
-taken-requires : tie.Need-taken-requires
-taken-requires c κs = search needs
-
 narrow-place-requires : tie.Need-narrow-place-requires
 narrow-place-requires c κs =
     let b = c .before .before .args .b in
@@ -39,4 +36,4 @@ returns-3 c = let S = c .before .before .before .before in answer-over (S .args 
 
 pub narrow-pattern-spec : {M : Type 1} → statement M
 narrow-pattern-spec =
-    tie.close (tie.spec returns taken-requires narrow-place-requires returns-2 returns-3)
+    tie.close (tie.spec returns (λ c κs. search needs) narrow-place-requires returns-2 returns-3)

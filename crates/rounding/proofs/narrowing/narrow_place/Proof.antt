@@ -11,20 +11,8 @@ use native.Mathlib.Omega.{arith}
 use Rattle.rounding.proofs.narrowing.narrow_place.Statement.{statement}
 use Rattle.rounding.proofs.narrowing.narrow_place.Tie as tie
 
-mul-result : tie.Need-mul-result
-mul-result c = search needs
-
-nearest-quotient-requires : tie.Need-nearest-quotient-requires
-nearest-quotient-requires c κs = search needs
-
 add-result : tie.Need-add-result
 add-result c = let m = c .before .before .args .m in let l : closest m (2 ^ 29) ≤ 2 ^ 24 = closest-le m (2 ^ 29) (2 ^ 24) (pow-pos 29) (omega arith) in omega (arith, c .nearest-quotient .ensures)
-
-sub-nearest-quotient : tie.Need-sub-nearest-quotient
-sub-nearest-quotient c = search needs
-
-shl-nearest-quotient : tie.Need-shl-nearest-quotient
-shl-nearest-quotient c = search needs
 
 nearest-quotient-requires-2 : tie.Need-nearest-quotient-requires-2
 nearest-quotient-requires-2 c κs = let k = c .before .before .args .k in rw (one-shl (925 - k) (omega arith)) (pow-pos (925 - k), (pow-mono {i = 925 - k} {j = 62} (omega arith), omega arith))
@@ -52,11 +40,9 @@ pub narrow-place-spec : {M : Type 1} → statement M
 narrow-place-spec =
     tie.close
     (tie.spec
-    mul-result
-    nearest-quotient-requires
+    (λ c. search needs) (λ c κs. search needs)
     add-result
-    sub-nearest-quotient
-    shl-nearest-quotient
+    (λ c. search needs) (λ c. search needs)
     nearest-quotient-requires-2
     returns
     returns-2

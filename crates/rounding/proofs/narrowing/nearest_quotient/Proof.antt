@@ -10,12 +10,6 @@ use native.Mathlib.Omega.{arith}
 use Rattle.rounding.proofs.narrowing.nearest_quotient.Statement.{statement}
 use Rattle.rounding.proofs.narrowing.nearest_quotient.Tie as tie
 
-div-w : tie.Need-div-w
-div-w c = search needs
-
-rem-twice : tie.Need-rem-twice
-rem-twice c = search needs
-
 mul-twice : tie.Need-mul-twice
 mul-twice c = let l = mod-lt (c .args .q) (c .pre .0) in omega arith
 
@@ -37,4 +31,4 @@ returns-3 c = let a = c .before .before .args in sym (ap (nearest (a .q / a .d))
 pub nearest-quotient-spec : {M : Type 1} → statement M
 nearest-quotient-spec =
     tie.close
-    (tie.spec div-w rem-twice mul-twice add-result add-result-2 returns returns-2 returns-3)
+    (tie.spec (λ c. search needs) (λ c. search needs) mul-twice add-result add-result-2 returns returns-2 returns-3)

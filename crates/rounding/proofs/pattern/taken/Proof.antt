@@ -8,12 +8,6 @@ use native.Mathlib.Omega.{arith}
 use Rattle.rounding.proofs.pattern.taken.Statement.{statement}
 use Rattle.rounding.proofs.pattern.taken.Tie as tie
 
-div-field : tie.Need-div-field
-div-field c = search needs
-
-rem-digits : tie.Need-rem-digits
-rem-digits c = search needs
-
 returns : tie.Need-returns
 returns c =
     let z : c .before .args .b / c .before .args .hid ≡ 0 = search needs in
@@ -22,13 +16,10 @@ returns c =
 add-m : tie.Need-add-m
 add-m c = let l : c .before .args .b % c .before .args .hid < c .before .args .hid = mod-lt (c .before .args .b) (omega arith) in omega arith
 
-sub-e : tie.Need-sub-e
-sub-e c = search needs
-
 returns-2 : tie.Need-returns-2
 returns-2 c =
     let n : c .before .args .b / c .before .args .hid ≡ 0 → ⊥ = search needs in
     (rw (ne-eqb (c .before .args .b / c .before .args .hid) 0 n), refl)
 
 pub taken-spec : {M : Type 1} → statement M
-taken-spec = tie.close (tie.spec div-field rem-digits returns add-m sub-e returns-2)
+taken-spec = tie.close (tie.spec (λ c. search needs) (λ c. search needs) returns add-m (λ c. search needs) returns-2)

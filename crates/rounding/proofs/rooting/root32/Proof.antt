@@ -11,14 +11,8 @@ use Rattle.rounding.proofs.rooting.root32.Tie as tie
 float-to-bits-b : tie.Need-float-to-bits-b
 float-to-bits-b c = above-number binary32 (c .before .args .x) (c .if1 .taken)
 
-cast-root-pattern : tie.Need-cast-root-pattern
-cast-root-pattern c = search needs
-
 root-pattern-requires : tie.Need-root-pattern-requires
 root-pattern-requires c κs = (record { digits = refl; lead = refl; least = refl; more = search needs; fits = search needs }, (bits-pos binary32 (c .before .before .args .x) (c .before .if1 .taken) (search needs), search needs))
-
-cast-result : tie.Need-cast-result
-cast-result c = search needs
 
 float-from-bits-result : tie.Need-float-from-bits-result
 float-from-bits-result c = no-nan binary32 (c .root-pattern .result) (le-of-lt (c .root-pattern .ensures .fine))
@@ -40,9 +34,9 @@ root32-spec =
     tie.close
     (tie.spec
     float-to-bits-b
-    cast-root-pattern
+    (λ c. search needs)
     root-pattern-requires
-    cast-result
+    (λ c. search needs)
     float-from-bits-result
     returns
     returns-2

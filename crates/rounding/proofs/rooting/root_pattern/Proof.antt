@@ -65,26 +65,11 @@ normal-requires c κs =
     let less : x .result .m < 2 * S .args .hid = subst (λ (y : ℕ). y < 2 * S .args .hid) (sym (x .ensures .0)) (digits-lt (S .args .hid) (S .args .b) (s .some)) in
     (some, (less, (omega arith, le-trans (s .deep) (pow-mono (le-add-left (S .args .low) (x .result .e))))))
 
-add-grown : tie.Need-add-grown
-add-grown c = search needs
-
 add-grown-2 : tie.Need-add-grown-2
 add-grown-2 c = omega (arith, small c)
 
 add-grown-3 : tie.Need-add-grown-3
 add-grown-3 c = small c
-
-add-grown-4 : tie.Need-add-grown-4
-add-grown-4 c = search needs
-
-mul-root-digits : tie.Need-mul-root-digits
-mul-root-digits c = search needs
-
-sub-root-digits : tie.Need-sub-root-digits
-sub-root-digits c = search needs
-
-shl-root-digits : tie.Need-shl-root-digits
-shl-root-digits c = search needs
 
 root-digits-requires : tie.Need-root-digits-requires
 root-digits-requires c κs =
@@ -96,9 +81,6 @@ root-digits-requires c κs =
 
 sub-result : tie.Need-sub-result
 sub-result c = let S = c .before .before .before .before .before in let y = c .before .before .normal .result in exponent (S .pre .0) (S .args .b) (y .m) (y .e) (S .pre .1 .0) (norm (c .before .before))
-
-add-result : tie.Need-add-result
-add-result c = search needs
 
 mul-result : tie.Need-mul-result
 mul-result c = record { fits = lt-of-le-of-lt (le-add-right _ _) (pattern-lt (answered c)) }
@@ -123,16 +105,13 @@ root-pattern-spec =
     taken-requires
     add-normal
     normal-requires
-    add-grown
+    (λ c. search needs)
     add-grown-2
     add-grown-3
-    add-grown-4
-    mul-root-digits
-    sub-root-digits
-    shl-root-digits
+    (λ c. search needs) (λ c. search needs) (λ c. search needs) (λ c. search needs)
     root-digits-requires
     sub-result
-    add-result
+    (λ c. search needs)
     mul-result
     add-result-2
     add-result-3

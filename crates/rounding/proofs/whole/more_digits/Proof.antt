@@ -12,20 +12,8 @@ facts c = divided (c .args .s) (c .args .r) (c .args .b) (omega arith) (omega ar
 mul-q : tie.Need-mul-q
 mul-q c = omega (arith, facts c .product)
 
-mul-q-2 : tie.Need-mul-q-2
-mul-q-2 c = search needs
-
-div-q : tie.Need-div-q
-div-q c = search needs
-
 mul-u : tie.Need-mul-u
 mul-u c = omega (arith, facts c .product)
-
-mul-u-2 : tie.Need-mul-u-2
-mul-u-2 c = search needs
-
-rem-u : tie.Need-rem-u
-rem-u c = search needs
 
 mul-settled : tie.Need-mul-settled
 mul-settled c = omega (arith, facts c .grown)
@@ -50,11 +38,9 @@ more-digits-spec =
     tie.close
     (tie.spec
     mul-q
-    mul-q-2
-    div-q
+    (λ c. search needs) (λ c. search needs)
     mul-u
-    mul-u-2
-    rem-u
+    (λ c. search needs) (λ c. search needs)
     mul-settled
     add-settled
     mul-settled-2

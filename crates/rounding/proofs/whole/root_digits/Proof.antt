@@ -11,12 +11,6 @@ use native.Mathlib.Omega.{arith}
 use Rattle.rounding.proofs.whole.root_digits.Statement.{statement}
 use Rattle.rounding.proofs.whole.root_digits.Tie as tie
 
-whole-root-requires : tie.Need-whole-root-requires
-whole-root-requires c κs = search needs
-
-shl-more-digits : tie.Need-shl-more-digits
-shl-more-digits c = search needs
-
 more-digits-requires : tie.Need-more-digits-requires
 more-digits-requires c κs =
     let n = c .before .args .n in
@@ -36,4 +30,4 @@ returns c =
 
 pub root-digits-spec : {M : Type 1} → statement M
 root-digits-spec =
-    tie.close (tie.spec whole-root-requires shl-more-digits more-digits-requires returns)
+    tie.close (tie.spec (λ c κs. search needs) (λ c. search needs) more-digits-requires returns)

@@ -8,30 +8,12 @@ use borrow.Author.Needs.{needs}
 use Rattle.rounding.proofs.whole.settled.Statement.{statement}
 use Rattle.rounding.proofs.whole.settled.Tie as tie
 
-sub-t7 : tie.Need-sub-t7
-sub-t7 c = search needs
-
-mul-t8 : tie.Need-mul-t8
-mul-t8 c = search needs
-
-sub-t9 : tie.Need-sub-t9
-sub-t9 c = search needs
-
-add-t10 : tie.Need-add-t10
-add-t10 c = search needs
-
-sub-t11 : tie.Need-sub-t11
-sub-t11 c = search needs
-
 lower : (s y z n : ℕ) → 0 < s → y < z → z ≤ y + (s * 2 - 1) → s * s + y ≡ n + z → Under n (s - 1) (y + (s * 2 - 1) - z)
 lower (suc s) y z n p l h e = let q : suc s - 1 ≡ s = omega arith in rw q (record { is = omega arith; small = omega arith })
 lower zero y z n p l h e = absurd (lt-irrefl 0 p)
-
-returns : tie.Need-returns
-returns c = search needs
 
 returns-2 : tie.Need-returns-2
 returns-2 c = λ n e. lower _ _ _ n (c .before .pre .0) (c .if1 .left) (c .before .pre .1 .1 .1) e
 
 pub settled-spec : {M : Type 1} → statement M
-settled-spec = tie.close (tie.spec sub-t7 mul-t8 sub-t9 add-t10 sub-t11 returns returns-2)
+settled-spec = tie.close (tie.spec (λ c. search needs) (λ c. search needs) (λ c. search needs) (λ c. search needs) (λ c. search needs) (λ c. search needs) returns-2)

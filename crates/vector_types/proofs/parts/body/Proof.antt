@@ -8,22 +8,10 @@ use borrow.Author.Needs.{needs}
 use Rattle.vector_types.proofs.parts.body.Statement.{statement}
 use Rattle.vector_types.proofs.parts.body.Tie as tie
 
-read-requires : tie.Need-read-requires
-read-requires c κs = search needs
-
-enum-known-view : tie.Need-enum-known-view
-enum-known-view c = search needs
-
 slice-aggregate-result : tie.Need-slice-aggregate-result
 slice-aggregate-result c =
     let e = sym (c .before .before .before .before .read .ensures) ∙ c .before .before .view .given .1 in
     simp length-take (omega (arith, told _ _ e .within))
-
-enum-told : tie.Need-enum-told
-enum-told c = search needs
-
-slice-aggregate-result-2 : tie.Need-slice-aggregate-result-2
-slice-aggregate-result-2 c = search needs
 
 returns : tie.Need-returns
 unfolding bodyOf
@@ -41,10 +29,8 @@ pub body-spec : {M : Type 1} → statement M
 body-spec =
     tie.close
     (tie.spec
-    read-requires
-    enum-known-view
+    (λ c κs. search needs) (λ c. search needs)
     slice-aggregate-result
-    enum-told
-    slice-aggregate-result-2
+    (λ c. search needs) (λ c. search needs)
     returns
     returns-2)

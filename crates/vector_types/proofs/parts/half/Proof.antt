@@ -7,18 +7,6 @@ use borrow.Author.Needs.{needs}
 use Rattle.vector_types.proofs.parts.half.Statement.{statement}
 use Rattle.vector_types.proofs.parts.half.Tie as tie
 
-read-requires : tie.Need-read-requires
-read-requires c κs = search needs
-
-enum-known-view : tie.Need-enum-known-view
-enum-known-view c = search needs
-
-half-of-requires : tie.Need-half-of-requires
-half-of-requires c κs = search needs
-
-enum-told : tie.Need-enum-told
-enum-told c = search needs
-
 returns : tie.Need-returns
 returns c =
     let e = sym (c .before .before .before .before .read .ensures) ∙ c .before .before .view .given .1 in
@@ -31,4 +19,4 @@ returns-2 c =
 
 pub half-spec : {M : Type 1} → statement M
 half-spec =
-    tie.close (tie.spec read-requires enum-known-view half-of-requires enum-told returns returns-2)
+    tie.close (tie.spec (λ c κs. search needs) (λ c. search needs) (λ c κs. search needs) (λ c. search needs) returns returns-2)

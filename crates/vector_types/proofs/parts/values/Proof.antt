@@ -7,9 +7,6 @@ use borrow.Author.Needs.{needs}
 use Rattle.vector_types.proofs.parts.values.Statement.{statement}
 use Rattle.vector_types.proofs.parts.values.Tie as tie
 
-half-requires : tie.Need-half-requires
-half-requires c κs = search needs
-
 slice-aggregate-result : tie.Need-slice-aggregate-result
 slice-aggregate-result c = simp length-take (omega arith)
 
@@ -18,4 +15,4 @@ unfolding valuesOf
 returns c = (rw (← c .before .half .ensures .0), refl)
 
 pub values-spec : {M : Type 1} → statement M
-values-spec = tie.close (tie.spec half-requires slice-aggregate-result returns)
+values-spec = tie.close (tie.spec (λ c κs. search needs) slice-aggregate-result returns)

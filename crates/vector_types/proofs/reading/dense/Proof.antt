@@ -5,7 +5,6 @@ use native.Mathlib.Nat.{div-add-mod}
 use native.Mathlib.Omega.{arith}
 use borrow.Author.Tests.{eq-eqb, ne-eqb}
 use borrow.Author.Needs.{needs}
-use borrow.Author.Needs.{needs}
 use Rattle.vector_types.proofs.reading.dense.Statement.{statement}
 use Rattle.vector_types.proofs.reading.dense.Tie as tie
 
@@ -15,26 +14,14 @@ times n w e = omega (arith, e, div-add-mod n w)
 rest : (n w : ℕ) → n ≡ w * (n / w) → n % w ≡ 0
 rest n w e = omega (arith, e, div-add-mod n w)
 
-rem-if1 : tie.Need-rem-if1
-rem-if1 c = search needs
-
-refuse-requires : tie.Need-refuse-requires
-refuse-requires c κs = search needs
-
 returns : tie.Need-returns
 returns c = let a = c .before .before .args in
     let uneven : a .n ≡ a .width * (a .n / a .width) → ⊥ = λ e. c .before .if1 .taken (rest (a .n) (a .width) e) in
     rw (ne-eqb _ _ uneven) (c .refuse .ensures)
-
-div-t4 : tie.Need-div-t4
-div-t4 c = search needs
-
-show-requires : tie.Need-show-requires
-show-requires c κs = search needs
 
 returns-2 : tie.Need-returns-2
 returns-2 c = let a = c .before .before .args in
     rw (eq-eqb _ _ (times (a .n) (a .width) (c .before .if1 .left))) (c .show .ensures)
 
 pub dense-spec : {M : Type 1} → statement M
-dense-spec = tie.close (tie.spec rem-if1 refuse-requires returns div-t4 show-requires returns-2)
+dense-spec = tie.close (tie.spec (λ c. search needs) (λ c κs. search needs) returns (λ c. search needs) (λ c κs. search needs) returns-2)

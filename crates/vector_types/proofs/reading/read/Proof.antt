@@ -4,34 +4,15 @@ use Rattle.vector_types.proofs.ByKind.{read-long, read-dense32, read-de
 use Rattle.vector_types.proofs.Ends.{evenly, before-odd, named-kind, named-5, named-6, named-other}
 use Rattle.vector_types.specs.declared.VectorType.the-variants.{Float32Dense, Float64Dense, Float32Sparse, Float1Bit, Float8}
 use borrow.Author.Needs.{needs}
-use borrow.Author.Needs.{needs}
 use Rattle.vector_types.proofs.reading.read.Statement.{statement}
 use Rattle.vector_types.proofs.reading.read.Tie as tie
-
-refuse-requires : tie.Need-refuse-requires
-refuse-requires c κs = search needs
 
 returns : tie.Need-returns
 returns c = c .refuse .ensures ∙ sym (read-long _ (c .before .if1 .taken))
 
-dense-requires : tie.Need-dense-requires
-dense-requires c κs = search needs
-
 returns-2 : tie.Need-returns-2
 returns-2 c = let even = c .before .if2 .taken in
     c .dense .ensures ∙ sym (read-dense32 _ (c .before .before .if1 .left) _ (evenly _ even .0) (evenly _ even .1))
-
-sub-n : tie.Need-sub-n
-sub-n c = search needs
-
-shared-slice-read-byte : tie.Need-shared-slice-read-byte
-shared-slice-read-byte c = search needs
-
-dense-requires-2 : tie.Need-dense-requires-2
-dense-requires-2 c κs = search needs
-
-dense-requires-3 : tie.Need-dense-requires-3
-dense-requires-3 c κs = search needs
 
 one-bit-requires : tie.Need-one-bit-requires
 one-bit-requires c κs = (c .before .before .before .if1 .left, named-kind _ (c .before .before .if2 .left) Float1Bit (c .match .keys3))
@@ -39,17 +20,8 @@ one-bit-requires c κs = (c .before .before .before .if1 .left, named-kind _ (c 
 float8-requires : tie.Need-float8-requires
 float8-requires c κs = (c .before .before .before .if1 .left, named-kind _ (c .before .before .if2 .left) Float8 (c .match .keys4))
 
-refuse-requires-2 : tie.Need-refuse-requires-2
-refuse-requires-2 c κs = search needs
-
-refuse-requires-3 : tie.Need-refuse-requires-3
-refuse-requires-3 c κs = search needs
-
 sparse-requires : tie.Need-sparse-requires
 sparse-requires c κs = (c .before .before .before .if1 .left, named-kind _ (c .before .before .if2 .left) Float32Sparse (c .match .keys7))
-
-refuse-requires-4 : tie.Need-refuse-requires-4
-refuse-requires-4 c κs = search needs
 
 returns-3 : tie.Need-returns-3
 returns-3 c = let odd = c .before .before .before .if2 .left in
@@ -58,20 +30,11 @@ returns-3 c = let odd = c .before .before .before .if2 .left in
 returns-4 : tie.Need-returns-4
 returns-4 c = c .dense3 .ensures ∙ sym (read-dense64 _ (c .before .before .before .before .if1 .left) (named-kind _ (c .before .before .before .if2 .left) Float64Dense (c .before .match .keys2)))
 
-returns-5 : tie.Need-returns-5
-returns-5 c = search needs
-
-returns-6 : tie.Need-returns-6
-returns-6 c = search needs
-
 returns-7 : tie.Need-returns-7
 returns-7 c = c .refuse2 .ensures ∙ sym (read-unsupported _ (c .before .before .before .before .if1 .left) (named-5 _ (c .before .before .before .if2 .left) (c .before .match .keys5)))
 
 returns-8 : tie.Need-returns-8
 returns-8 c = c .refuse3 .ensures ∙ sym (read-unsupported _ (c .before .before .before .before .if1 .left) (named-6 _ (c .before .before .before .if2 .left) (c .before .match .keys6)))
-
-returns-9 : tie.Need-returns-9
-returns-9 c = search needs
 
 returns-10 : tie.Need-returns-10
 returns-10 c = let r = c .before .match .rest in
@@ -82,25 +45,20 @@ pub read-spec : {M : Type 1} → statement M
 read-spec =
     tie.close
     (tie.spec
-    refuse-requires
+    (λ c κs. search needs)
     returns
-    dense-requires
+    (λ c κs. search needs)
     returns-2
-    sub-n
-    shared-slice-read-byte
-    dense-requires-2
-    dense-requires-3
+    (λ c. search needs) (λ c. search needs) (λ c κs. search needs) (λ c κs. search needs)
     one-bit-requires
     float8-requires
-    refuse-requires-2
-    refuse-requires-3
+    (λ c κs. search needs) (λ c κs. search needs)
     sparse-requires
-    refuse-requires-4
+    (λ c κs. search needs)
     returns-3
     returns-4
-    returns-5
-    returns-6
+    (λ c. search needs) (λ c. search needs)
     returns-7
     returns-8
-    returns-9
+    (λ c. search needs)
     returns-10)

@@ -1,12 +1,8 @@
 -- A view, or refusal 9, by the one test.
 use borrow.Author.Tests.{lt-ltb, le-ltb}
 use borrow.Author.Needs.{needs}
-use borrow.Author.Needs.{needs}
 use Rattle.vector_types.proofs.reading.show.Statement.{statement}
 use Rattle.vector_types.proofs.reading.show.Tie as tie
-
-refuse-requires : tie.Need-refuse-requires
-refuse-requires c κs = search needs
 
 returns : tie.Need-returns
 returns c = rw (lt-ltb _ _ (c .before .if1 .taken)) (c .refuse .ensures)
@@ -15,4 +11,4 @@ returns-2 : tie.Need-returns-2
 returns-2 c = rw (le-ltb _ _ (c .if1 .left))
 
 pub show-spec : {M : Type 1} → statement M
-show-spec = tie.close (tie.spec refuse-requires returns returns-2)
+show-spec = tie.close (tie.spec (λ c κs. search needs) returns returns-2)

@@ -45,14 +45,8 @@ module _ (s : List ℕ) (v : View) (e : readOf s ≡ Seen v) where
       let test : some (unusedSet s (v .dims .0)) (8 * v .length - v .dims .0) ≡ b = rw (length-is h) q in
       strict-bits s v e h ∙ ap (λ (t : Bool). cond t (refused (refusal 11)) (Seen v)) test
 
-enum-told : tie.Need-enum-told
-enum-told c = search needs
-
 first-fall-requires : tie.Need-first-fall-requires
 first-fall-requires c κs = omega (arith, told _ _ (c .before .before .before .before .pre) .within)
-
-refuse-requires : tie.Need-refuse-requires
-refuse-requires c κs = search needs
 
 returns : tie.Need-returns
 returns c =
@@ -61,14 +55,8 @@ returns c =
     (by-falls _ _ (c .before .before .before .before .before .before .before .pre) (c .before .before .before .before .enum-told .given .1) true _
     (c .before .before .first-fall .ensures) (lt-ltb _ _ (c .before .if1 .taken)))
 
-enum-told-2 : tie.Need-enum-told-2
-enum-told-2 c = search needs
-
 unused-set-requires : tie.Need-unused-set-requires
 unused-set-requires c κs = bits-within _ _ (c .before .before .before .pre) (c .enum-told2 .given .1)
-
-refuse-requires-2 : tie.Need-refuse-requires-2
-refuse-requires-2 c κs = search needs
 
 returns-2 : tie.Need-returns-2
 returns-2 c =
@@ -76,15 +64,6 @@ returns-2 c =
     ∙ sym
     (by-bits _ _ (c .before .before .before .before .before .before .pre) (c .before .before .before .enum-told2 .given .1) true
     (sym (c .before .before .unused-set .ensures) ∙ c .before .if2 .taken))
-
-enum-told-3 : tie.Need-enum-told-3
-enum-told-3 c = search needs
-
-enum-told-4 : tie.Need-enum-told-4
-enum-told-4 c = search needs
-
-enum-told-5 : tie.Need-enum-told-5
-enum-told-5 c = search needs
 
 returns-3 : tie.Need-returns-3
 returns-3 c =
@@ -111,17 +90,15 @@ pub hold-spec : {M : Type 1} → statement M
 hold-spec =
     tie.close
     (tie.spec
-    enum-told
+    (λ c. search needs)
     first-fall-requires
-    refuse-requires
+    (λ c κs. search needs)
     returns
-    enum-told-2
+    (λ c. search needs)
     unused-set-requires
-    refuse-requires-2
+    (λ c κs. search needs)
     returns-2
-    enum-told-3
-    enum-told-4
-    enum-told-5
+    (λ c. search needs) (λ c. search needs) (λ c. search needs)
     returns-3
     returns-4
     returns-5

@@ -8,15 +8,6 @@ use Rattle.vector_types.proofs.strictness.unused_set.Tie as tie
 returns : tie.Need-returns
 returns c = let a = c .before .args in none-unused (a .s .now) (a .dims) (c .if1 .taken)
 
-shared-slice-read-result : tie.Need-shared-slice-read-result
-shared-slice-read-result c = search needs
-
-cast-result : tie.Need-cast-result
-cast-result c = search needs
-
-shr-result : tie.Need-shr-result
-shr-result c = search needs
-
 returns-2 : tie.Need-returns-2
 returns-2 c =
     let a = c .before .before .args in
@@ -24,4 +15,4 @@ returns-2 c =
 
 pub unused-set-spec : {M : Type 1} → statement M
 unused-set-spec =
-    tie.close (tie.spec returns shared-slice-read-result cast-result shr-result returns-2)
+    tie.close (tie.spec returns (λ c. search needs) (λ c. search needs) (λ c. search needs) returns-2)

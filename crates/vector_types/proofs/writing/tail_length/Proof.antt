@@ -36,9 +36,7 @@ pub tail-length-spec : {M : Type 1} → statement M
 tail-length-spec =
     tie.close
     (tie.spec
-    (λ c. search needs)
-    (λ c. search needs)
-    (λ c. search needs)
+    (λ c. search needs) (λ c. search needs) (λ c. search needs)
     (λ c. search needs) (λ c. search needs) (λ c κs. search needs) add-result
     (λ c. search needs)
     returns returns-2 returns-3 returns-4 returns-5)
