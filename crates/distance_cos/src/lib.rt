@@ -21,6 +21,49 @@ use sums::CosSums32;
 use sums::CosSums64;
 use vector_types::VectorType;
 
+// The distance of two bodies of one kind and dims.
+pub fn measure_cos(kind: VectorType, dims: usize, a: &[u8], b: &[u8]) -> f64
+    requires { ⌜ dims ≤ mostDims ⌝ }
+    requires { ⌜ fits kind dims (length (now a)) ≡ true ⌝ }
+    requires { ⌜ fits kind dims (length (now b)) ≡ true ⌝ }
+    ensures { λ r. ⌜ r ≡ cosineOf kind dims (now (a .entry)) (now (b .entry)) ⌝ }
+{
+    match kind {
+        VectorType::Float32Dense => vector_f32_distance_cos(dims, a, b),
+        VectorType::Float64Dense => vector_f64_distance_cos(dims, a, b),
+        VectorType::Float32Sparse => vector_f32_sparse_distance_cos(a, b),
+        VectorType::Float1Bit => vector_1bit_distance_cos(dims, a, b),
+        VectorType::Float8 => vector_f8_distance_cos(dims, a, b),
+    }
+}
+
+// The count of differing bits.
+fn vector_1bit_distance_cos(dims: usize, a: &[u8], b: &[u8]) -> f64
+    requires { ⌜ dims ≤ mostDims ⌝ }
+    requires { ⌜ length (now a) ≡ ceil dims 8 ⌝ }
+    requires { ⌜ length (now b) ≡ ceil dims 8 ⌝ }
+    ensures { λ r. ⌜ r ≡ cosineOf Float1Bit dims (now (a .entry)) (now (b .entry)) ⌝ }
+{
+    let count = differing(a, b);
+    count as f64
+}
+
+fn vector_f8_distance_cos(dims: usize, a: &[u8], b: &[u8]) -> f64
+    requires { ⌜ dims ≤ mostDims ⌝ }
+    requires { ⌜ length (now a) ≡ 4 * ceil dims 4 + 8 ⌝ }
+    requires { ⌜ length (now b) ≡ 4 * ceil dims 4 + 8 ⌝ }
+    ensures { λ r. ⌜ r ≡ cosineOf Float8 dims (now (a .entry)) (now (b .entry)) ⌝ }
+{
+    let u = scale_of(dims, a);
+    let v = scale_of(dims, b);
+    let t = totals_of(dims, a, b);
+    let d = dims as u32;
+    let dot = dot_of(u, v, t, d);
+    let norm1 = norm_of(u, t.squares1, t.sum1, d);
+    let norm2 = norm_of(v, t.squares2, t.sum2, d);
+    1.0 - dot / rounding::root64(norm1 * norm2)
+}
+
 fn vector_f32_distance_cos(dims: usize, a: &[u8], b: &[u8]) -> f64
     requires { ⌜ dims ≤ mostDims ⌝ }
     requires { ⌜ length (now a) ≡ 4 * dims ⌝ }
@@ -84,46 +127,4 @@ fn vector_f32_sparse_distance_cos(a: &[u8], b: &[u8]) -> f64
 {
     let sums = sparse_sums(a, b);
     sums.sparse_distance()
-}
-
-// The count of differing bits.
-fn vector_1bit_distance_cos(dims: usize, a: &[u8], b: &[u8]) -> f64
-    requires { ⌜ dims ≤ mostDims ⌝ }
-    requires { ⌜ length (now a) ≡ ceil dims 8 ⌝ }
-    requires { ⌜ length (now b) ≡ ceil dims 8 ⌝ }
-    ensures { λ r. ⌜ r ≡ cosineOf Float1Bit dims (now (a .entry)) (now (b .entry)) ⌝ }
-{
-    let count = differing(a, b);
-    count as f64
-}
-
-fn vector_f8_distance_cos(dims: usize, a: &[u8], b: &[u8]) -> f64
-    requires { ⌜ dims ≤ mostDims ⌝ }
-    requires { ⌜ length (now a) ≡ 4 * ceil dims 4 + 8 ⌝ }
-    requires { ⌜ length (now b) ≡ 4 * ceil dims 4 + 8 ⌝ }
-    ensures { λ r. ⌜ r ≡ cosineOf Float8 dims (now (a .entry)) (now (b .entry)) ⌝ }
-{
-    let u = scale_of(dims, a);
-    let v = scale_of(dims, b);
-    let t = totals_of(dims, a, b);
-    let d = dims as u32;
-    let dot = dot_of(u, v, t, d);
-    let norm1 = norm_of(u, t.squares1, t.sum1, d);
-    let norm2 = norm_of(v, t.squares2, t.sum2, d);
-    1.0 - dot / rounding::root64(norm1 * norm2)
-}
-
-pub fn measure_cos(kind: VectorType, dims: usize, a: &[u8], b: &[u8]) -> f64
-    requires { ⌜ dims ≤ mostDims ⌝ }
-    requires { ⌜ fits kind dims (length (now a)) ≡ true ⌝ }
-    requires { ⌜ fits kind dims (length (now b)) ≡ true ⌝ }
-    ensures { λ r. ⌜ r ≡ cosineOf kind dims (now (a .entry)) (now (b .entry)) ⌝ }
-{
-    match kind {
-        VectorType::Float32Dense => vector_f32_distance_cos(dims, a, b),
-        VectorType::Float64Dense => vector_f64_distance_cos(dims, a, b),
-        VectorType::Float32Sparse => vector_f32_sparse_distance_cos(a, b),
-        VectorType::Float1Bit => vector_1bit_distance_cos(dims, a, b),
-        VectorType::Float8 => vector_f8_distance_cos(dims, a, b),
-    }
 }

@@ -17,6 +17,54 @@ use distance_sums::sparse::Turn;
 use distance_sums::sparse::next_turn;
 use vector_types::VectorType;
 
+// The distance of two bodies of one kind and dims.
+pub fn measure_dot(kind: VectorType, dims: usize, a: &[u8], b: &[u8]) -> f64
+    requires { ⌜ dims ≤ mostDims ⌝ }
+    requires { ⌜ fits kind dims (length (now a)) ≡ true ⌝ }
+    requires { ⌜ fits kind dims (length (now b)) ≡ true ⌝ }
+    ensures { λ r. ⌜ r ≡ dotOf kind dims (now (a .entry)) (now (b .entry)) ⌝ }
+{
+    match kind {
+        VectorType::Float32Dense => vector_f32_distance_dot(dims, a, b),
+        VectorType::Float64Dense => vector_f64_distance_dot(dims, a, b),
+        VectorType::Float32Sparse => vector_f32_sparse_distance_dot(a, b),
+        VectorType::Float1Bit => vector_1bit_distance_dot(dims, a, b),
+        VectorType::Float8 => vector_f8_distance_dot(dims, a, b),
+    }
+}
+
+// Bits stand for 1 and -1, so the dot is dims - 2h, with h the count of differing bits.
+fn bit_dot(dims: u32, count: u32) -> f64
+    requires { ⌜ dims ≤ mostDims ⌝ }
+    requires { ⌜ count ≤ mostDims ⌝ }
+    ensures { λ r. ⌜ r ≡ bitDot dims count ⌝ }
+{
+    -(dims as f64 - 2.0 * count as f64)
+}
+
+fn vector_1bit_distance_dot(dims: usize, a: &[u8], b: &[u8]) -> f64
+    requires { ⌜ dims ≤ mostDims ⌝ }
+    requires { ⌜ length (now a) ≡ ceil dims 8 ⌝ }
+    requires { ⌜ length (now b) ≡ ceil dims 8 ⌝ }
+    ensures { λ r. ⌜ r ≡ dotOf Float1Bit dims (now (a .entry)) (now (b .entry)) ⌝ }
+{
+    let count = differing(a, b);
+    bit_dot(dims as u32, count)
+}
+
+fn vector_f8_distance_dot(dims: usize, a: &[u8], b: &[u8]) -> f64
+    requires { ⌜ dims ≤ mostDims ⌝ }
+    requires { ⌜ length (now a) ≡ 4 * ceil dims 4 + 8 ⌝ }
+    requires { ⌜ length (now b) ≡ 4 * ceil dims 4 + 8 ⌝ }
+    ensures { λ r. ⌜ r ≡ dotOf Float8 dims (now (a .entry)) (now (b .entry)) ⌝ }
+{
+    let u = scale_of(dims, a);
+    let v = scale_of(dims, b);
+    let t = totals_of(dims, a, b);
+    let dot = dot_of(u, v, t, dims as u32);
+    -dot
+}
+
 // The running sum of a dot, with one pair more.
 fn dot_step(sum: f64, x: f64, y: f64) -> f64
     ensures { λ r. ⌜ r ≡ dotsWith sum x y ⌝ }
@@ -85,51 +133,4 @@ fn vector_f32_sparse_distance_dot(a: &[u8], b: &[u8]) -> f64
 {
     let sum = sparse_sum(a, b);
     -sum
-}
-
-// Bits stand for 1 and -1, so the dot is dims - 2h, with h the count of differing bits.
-fn bit_dot(dims: u32, count: u32) -> f64
-    requires { ⌜ dims ≤ mostDims ⌝ }
-    requires { ⌜ count ≤ mostDims ⌝ }
-    ensures { λ r. ⌜ r ≡ bitDot dims count ⌝ }
-{
-    -(dims as f64 - 2.0 * count as f64)
-}
-
-fn vector_1bit_distance_dot(dims: usize, a: &[u8], b: &[u8]) -> f64
-    requires { ⌜ dims ≤ mostDims ⌝ }
-    requires { ⌜ length (now a) ≡ ceil dims 8 ⌝ }
-    requires { ⌜ length (now b) ≡ ceil dims 8 ⌝ }
-    ensures { λ r. ⌜ r ≡ dotOf Float1Bit dims (now (a .entry)) (now (b .entry)) ⌝ }
-{
-    let count = differing(a, b);
-    bit_dot(dims as u32, count)
-}
-
-fn vector_f8_distance_dot(dims: usize, a: &[u8], b: &[u8]) -> f64
-    requires { ⌜ dims ≤ mostDims ⌝ }
-    requires { ⌜ length (now a) ≡ 4 * ceil dims 4 + 8 ⌝ }
-    requires { ⌜ length (now b) ≡ 4 * ceil dims 4 + 8 ⌝ }
-    ensures { λ r. ⌜ r ≡ dotOf Float8 dims (now (a .entry)) (now (b .entry)) ⌝ }
-{
-    let u = scale_of(dims, a);
-    let v = scale_of(dims, b);
-    let t = totals_of(dims, a, b);
-    let dot = dot_of(u, v, t, dims as u32);
-    -dot
-}
-
-pub fn measure_dot(kind: VectorType, dims: usize, a: &[u8], b: &[u8]) -> f64
-    requires { ⌜ dims ≤ mostDims ⌝ }
-    requires { ⌜ fits kind dims (length (now a)) ≡ true ⌝ }
-    requires { ⌜ fits kind dims (length (now b)) ≡ true ⌝ }
-    ensures { λ r. ⌜ r ≡ dotOf kind dims (now (a .entry)) (now (b .entry)) ⌝ }
-{
-    match kind {
-        VectorType::Float32Dense => vector_f32_distance_dot(dims, a, b),
-        VectorType::Float64Dense => vector_f64_distance_dot(dims, a, b),
-        VectorType::Float32Sparse => vector_f32_sparse_distance_dot(a, b),
-        VectorType::Float1Bit => vector_1bit_distance_dot(dims, a, b),
-        VectorType::Float8 => vector_f8_distance_dot(dims, a, b),
-    }
 }

@@ -15,6 +15,24 @@ use distance_sums::sparse::Turn;
 use distance_sums::sparse::next_turn;
 use vector_types::VectorType;
 
+// The distance of two bodies of one kind and dims.
+pub fn measure_l2(kind: VectorType, dims: usize, a: &[u8], b: &[u8]) -> f64
+    requires { ⌜ dims ≤ mostDims ⌝ }
+    requires { ⌜ fits kind dims (length (now a)) ≡ true ⌝ }
+    requires { ⌜ fits kind dims (length (now b)) ≡ true ⌝ }
+    requires { ⌜ is 3 kind ≡ false ⌝ }
+    ensures { λ r. ⌜ some r ≡ l2Of kind dims (now (a .entry)) (now (b .entry)) ⌝ }
+{
+    match kind {
+        VectorType::Float32Dense => vector_f32_distance_l2(dims, a, b),
+        VectorType::Float64Dense => vector_f64_distance_l2(dims, a, b),
+        VectorType::Float32Sparse => vector_f32_sparse_distance_l2(a, b),
+        VectorType::Float8 => vector_f8_distance_l2(dims, a, b),
+        // never: the table has no L2 of 1-bit vectors
+        VectorType::Float1Bit => 0.0,
+    }
+}
+
 // The running sum of an L2, with one pair more.
 fn l2_step32(sum: f32, x: f32, y: f32) -> f32
     ensures { λ r. ⌜ r ≡ squaresWith binary32 sum x y ⌝ }
@@ -30,18 +48,30 @@ fn l2_step64(sum: f64, x: f64, y: f64) -> f64
     sum + d * d
 }
 
-// With one element more that only one of two sparse vectors has.
-fn l2_alone(sum: f32, x: f32) -> f32
-    ensures { λ r. ⌜ r ≡ squaresRule binary32 .left sum x ⌝ }
-{
-    sum + x * x
-}
-
 // The distance of vectors with this sum.
 fn root_of(sum: f64) -> f64
     ensures { λ r. ⌜ r ≡ l2By sum ⌝ }
 {
     rounding::root64(sum)
+}
+
+fn vector_f8_distance_l2(dims: usize, a: &[u8], b: &[u8]) -> f64
+    requires { ⌜ dims ≤ mostDims ⌝ }
+    requires { ⌜ length (now a) ≡ 4 * ceil dims 4 + 8 ⌝ }
+    requires { ⌜ length (now b) ≡ 4 * ceil dims 4 + 8 ⌝ }
+    ensures { λ r. ⌜ some r ≡ l2Of Float8 dims (now (a .entry)) (now (b .entry)) ⌝ }
+{
+    let u = scale_of(dims, a);
+    let v = scale_of(dims, b);
+    let mut sum: f64 = 0.0;
+    let mut i = 0;
+    while i < dims {
+        let x = u.element(a[i]);
+        let y = v.element(b[i]);
+        sum = l2_step64(sum, x, y);
+        i += 1;
+    }
+    root_of(sum)
 }
 
 fn vector_f32_distance_l2(dims: usize, a: &[u8], b: &[u8]) -> f64
@@ -78,6 +108,13 @@ fn vector_f64_distance_l2(dims: usize, a: &[u8], b: &[u8]) -> f64
     root_of(sum)
 }
 
+// The running sum with one element more, which only one of two sparse vectors has.
+fn l2_alone(sum: f32, x: f32) -> f32
+    ensures { λ r. ⌜ r ≡ squaresRule binary32 .left sum x ⌝ }
+{
+    sum + x * x
+}
+
 fn sparse_sum(a: &[u8], b: &[u8]) -> f32
     ensures { λ r. ⌜ r ≡ sparseSquares (now (a .entry)) (now (b .entry)) ⌝ }
 {
@@ -111,40 +148,4 @@ fn vector_f32_sparse_distance_l2(a: &[u8], b: &[u8]) -> f64
 {
     let sum = sparse_sum(a, b);
     root_of(rounding::widen(sum))
-}
-
-fn vector_f8_distance_l2(dims: usize, a: &[u8], b: &[u8]) -> f64
-    requires { ⌜ dims ≤ mostDims ⌝ }
-    requires { ⌜ length (now a) ≡ 4 * ceil dims 4 + 8 ⌝ }
-    requires { ⌜ length (now b) ≡ 4 * ceil dims 4 + 8 ⌝ }
-    ensures { λ r. ⌜ some r ≡ l2Of Float8 dims (now (a .entry)) (now (b .entry)) ⌝ }
-{
-    let u = scale_of(dims, a);
-    let v = scale_of(dims, b);
-    let mut sum: f64 = 0.0;
-    let mut i = 0;
-    while i < dims {
-        let x = u.element(a[i]);
-        let y = v.element(b[i]);
-        sum = l2_step64(sum, x, y);
-        i += 1;
-    }
-    root_of(sum)
-}
-
-pub fn measure_l2(kind: VectorType, dims: usize, a: &[u8], b: &[u8]) -> f64
-    requires { ⌜ dims ≤ mostDims ⌝ }
-    requires { ⌜ fits kind dims (length (now a)) ≡ true ⌝ }
-    requires { ⌜ fits kind dims (length (now b)) ≡ true ⌝ }
-    requires { ⌜ is 3 kind ≡ false ⌝ }
-    ensures { λ r. ⌜ some r ≡ l2Of kind dims (now (a .entry)) (now (b .entry)) ⌝ }
-{
-    match kind {
-        VectorType::Float32Dense => vector_f32_distance_l2(dims, a, b),
-        VectorType::Float64Dense => vector_f64_distance_l2(dims, a, b),
-        VectorType::Float32Sparse => vector_f32_sparse_distance_l2(a, b),
-        VectorType::Float8 => vector_f8_distance_l2(dims, a, b),
-        // never: the table has no L2 of 1-bit vectors
-        VectorType::Float1Bit => 0.0,
-    }
 }

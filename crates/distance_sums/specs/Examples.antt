@@ -14,14 +14,14 @@ use Rattle.distance_sums.specs.Dense.{sharesWith}
 use Rattle.distance_sums.specs.Merged.{merged}
 use Rattle.distance_sums.specs.Values.{cosineOf, l2Of, dotOf, jaccardOf}
 
--- what the definitions say, and what is to come
+-- what the definitions say, and what they are to say
 pub record Example : Type 0 where
   pub defined : Option Float
   pub written : Option Float
 
 -- a distance, by its pattern
-abbrev pub is : Option Float → ℕ → Example
-is x bits = record { defined = x; written = some (ofBits binary64 bits) }
+abbrev pub hasPattern : Option Float → ℕ → Example
+hasPattern x bits = record { defined = x; written = some (ofBits binary64 bits) }
 
 -- dense f32: 0.0, 1.0, 2.0, 0.1
 abbrev pub zero : List ℕ
@@ -46,14 +46,14 @@ nan = 0x7ff8_0000_0000_0000
 abbrev pub table : List Example
 table =
     -- f32 vectors are added up in f32; the root of their L2 is taken in f64
-    is (some (cosineOf Float32Dense 2 (tenth ++ tenth) (one ++ two))) 0x3faa_4630_0000_0000
-    ∷ is (l2Of Float32Dense 2 (zero ++ zero) (one ++ one)) 0x3ff6_a09e_667f_3bcd
+    hasPattern (some (cosineOf Float32Dense 2 (tenth ++ tenth) (one ++ two))) 0x3faa_4630_0000_0000
+    ∷ hasPattern (l2Of Float32Dense 2 (zero ++ zero) (one ++ one)) 0x3ff6_a09e_667f_3bcd
     -- a zero norm of a sparse vector; an element without a partner adds nothing to the dot, and counts as 0 in Jaccard
-    ∷ is (some (cosineOf Float32Sparse 2 [] (oneAt 0))) nan
-    ∷ is (some (dotOf Float32Sparse 2 (oneAt 0) (oneAt 1))) 0x8000_0000_0000_0000
-    ∷ is (some (jaccardOf Float32Sparse 2 (oneAt 0) (oneAt 1))) 0x3ff0_0000_0000_0000
+    ∷ hasPattern (some (cosineOf Float32Sparse 2 [] (oneAt 0))) nan
+    ∷ hasPattern (some (dotOf Float32Sparse 2 (oneAt 0) (oneAt 1))) 0x8000_0000_0000_0000
+    ∷ hasPattern (some (jaccardOf Float32Sparse 2 (oneAt 0) (oneAt 1))) 0x3ff0_0000_0000_0000
     -- dims 1: the bit that differs is an unused one
-    ∷ is (some (cosineOf Float1Bit 1 (2 ∷ []) (0 ∷ []))) 0x3ff0_0000_0000_0000
+    ∷ hasPattern (some (cosineOf Float1Bit 1 (2 ∷ []) (0 ∷ []))) 0x3ff0_0000_0000_0000
     ∷ []
 
 pub table-holds : map (λ (e : Example). e .defined) table ≡ map (λ (e : Example). e .written) table

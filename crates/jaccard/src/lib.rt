@@ -22,6 +22,59 @@ use sums::JaccardSums32;
 use sums::JaccardSums64;
 use vector_types::VectorType;
 
+// The distance of two bodies of one kind and dims.
+pub fn measure_jaccard(kind: VectorType, dims: usize, a: &[u8], b: &[u8]) -> f64
+    requires { ⌜ dims ≤ mostDims ⌝ }
+    requires { ⌜ fits kind dims (length (now a)) ≡ true ⌝ }
+    requires { ⌜ fits kind dims (length (now b)) ≡ true ⌝ }
+    ensures { λ r. ⌜ r ≡ jaccardOf kind dims (now (a .entry)) (now (b .entry)) ⌝ }
+{
+    match kind {
+        VectorType::Float32Dense => vector_f32_distance_jaccard(dims, a, b),
+        VectorType::Float64Dense => vector_f64_distance_jaccard(dims, a, b),
+        VectorType::Float32Sparse => vector_f32_sparse_distance_jaccard(a, b),
+        VectorType::Float1Bit => vector_1bit_distance_jaccard(dims, a, b),
+        VectorType::Float8 => vector_f8_distance_jaccard(dims, a, b),
+    }
+}
+
+// 1 - the bits set in both / the bits set in either.
+fn bit_jaccard(o: Overlap) -> f64
+    ensures { λ r. ⌜ r ≡ bitJaccard o ⌝ }
+{
+    if o.either == 0 {
+        return 0.0 / 0.0;
+    }
+    1.0 - o.both as f64 / o.either as f64
+}
+
+fn vector_1bit_distance_jaccard(dims: usize, a: &[u8], b: &[u8]) -> f64
+    requires { ⌜ dims ≤ mostDims ⌝ }
+    requires { ⌜ length (now a) ≡ ceil dims 8 ⌝ }
+    requires { ⌜ length (now b) ≡ ceil dims 8 ⌝ }
+    ensures { λ r. ⌜ r ≡ jaccardOf Float1Bit dims (now (a .entry)) (now (b .entry)) ⌝ }
+{
+    let o = overlapping(a, b);
+    bit_jaccard(o)
+}
+
+fn vector_f8_distance_jaccard(dims: usize, a: &[u8], b: &[u8]) -> f64
+    requires { ⌜ dims ≤ mostDims ⌝ }
+    requires { ⌜ length (now a) ≡ 4 * ceil dims 4 + 8 ⌝ }
+    requires { ⌜ length (now b) ≡ 4 * ceil dims 4 + 8 ⌝ }
+    ensures { λ r. ⌜ r ≡ jaccardOf Float8 dims (now (a .entry)) (now (b .entry)) ⌝ }
+{
+    let u = scale_of(dims, a);
+    let v = scale_of(dims, b);
+    let mut sums = JaccardSums64::new();
+    let mut i = 0;
+    while i < dims {
+        sums = sums.step(u.element(a[i]), v.element(b[i]));
+        i += 1;
+    }
+    sums.distance()
+}
+
 fn vector_f32_distance_jaccard(dims: usize, a: &[u8], b: &[u8]) -> f64
     requires { ⌜ dims ≤ mostDims ⌝ }
     requires { ⌜ length (now a) ≡ 4 * dims ⌝ }
@@ -86,56 +139,4 @@ fn vector_f32_sparse_distance_jaccard(a: &[u8], b: &[u8]) -> f64
 {
     let sums = sparse_sums(a, b);
     sums.distance()
-}
-
-// 1 - the bits set in both / the bits set in either.
-fn bit_jaccard(o: Overlap) -> f64
-    ensures { λ r. ⌜ r ≡ bitJaccard o ⌝ }
-{
-    if o.either == 0 {
-        return 0.0 / 0.0;
-    }
-    1.0 - o.both as f64 / o.either as f64
-}
-
-fn vector_1bit_distance_jaccard(dims: usize, a: &[u8], b: &[u8]) -> f64
-    requires { ⌜ dims ≤ mostDims ⌝ }
-    requires { ⌜ length (now a) ≡ ceil dims 8 ⌝ }
-    requires { ⌜ length (now b) ≡ ceil dims 8 ⌝ }
-    ensures { λ r. ⌜ r ≡ jaccardOf Float1Bit dims (now (a .entry)) (now (b .entry)) ⌝ }
-{
-    let o = overlapping(a, b);
-    bit_jaccard(o)
-}
-
-fn vector_f8_distance_jaccard(dims: usize, a: &[u8], b: &[u8]) -> f64
-    requires { ⌜ dims ≤ mostDims ⌝ }
-    requires { ⌜ length (now a) ≡ 4 * ceil dims 4 + 8 ⌝ }
-    requires { ⌜ length (now b) ≡ 4 * ceil dims 4 + 8 ⌝ }
-    ensures { λ r. ⌜ r ≡ jaccardOf Float8 dims (now (a .entry)) (now (b .entry)) ⌝ }
-{
-    let u = scale_of(dims, a);
-    let v = scale_of(dims, b);
-    let mut sums = JaccardSums64::new();
-    let mut i = 0;
-    while i < dims {
-        sums = sums.step(u.element(a[i]), v.element(b[i]));
-        i += 1;
-    }
-    sums.distance()
-}
-
-pub fn measure_jaccard(kind: VectorType, dims: usize, a: &[u8], b: &[u8]) -> f64
-    requires { ⌜ dims ≤ mostDims ⌝ }
-    requires { ⌜ fits kind dims (length (now a)) ≡ true ⌝ }
-    requires { ⌜ fits kind dims (length (now b)) ≡ true ⌝ }
-    ensures { λ r. ⌜ r ≡ jaccardOf kind dims (now (a .entry)) (now (b .entry)) ⌝ }
-{
-    match kind {
-        VectorType::Float32Dense => vector_f32_distance_jaccard(dims, a, b),
-        VectorType::Float64Dense => vector_f64_distance_jaccard(dims, a, b),
-        VectorType::Float32Sparse => vector_f32_sparse_distance_jaccard(a, b),
-        VectorType::Float1Bit => vector_1bit_distance_jaccard(dims, a, b),
-        VectorType::Float8 => vector_f8_distance_jaccard(dims, a, b),
-    }
 }
