@@ -14,7 +14,8 @@ use Rattle.vector_types.specs.declared.VectorType.{VectorType}
 use Rattle.vector_types.specs.declared.VectorType.the-variants.{Float32Dense, Float64Dense, Float32Sparse, Float1Bit, Float8}
 use Rattle.convert.proofs.ByKind.{pairs}
 use Rattle.distance.specs.Table.{rowOf, columnOf}
-use Rattle.distance.specs.Values.{existsFor, valueOf, l2Of}
+use Rattle.distance_sums.specs.Values.{l2Of}
+use Rattle.distance.specs.Values.{existsFor, valueOf}
 use Rattle.distance.specs.declared.Distance.{Distance}
 use Rattle.distance.specs.declared.Distance.the-variants.{Cos, L2, Dot, Jaccard}
 

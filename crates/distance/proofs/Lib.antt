@@ -1,10 +1,3 @@
-pub mod Sums
-pub mod Counts
-pub mod Cosines
 pub mod Existing
 pub mod Paired
 pub mod Determined
-pub mod Merging
-pub mod Totalled
-pub mod Exact
-pub mod EitherZero

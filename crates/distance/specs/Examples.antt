@@ -13,7 +13,8 @@ use Rattle.vector_types.specs.Read.{readOf, refusals, shown}
 use Rattle.vector_types.specs.Parts.{bodyOf}
 use Rattle.vector_types.specs.Examples.{Example as Reading, reading}
 use Rattle.vector_types.specs.declared.ReadAnswer.{ReadAnswer}
-use Rattle.distance.specs.Merged.{merged}
+use Rattle.distance_sums.specs.Merged.{merged}
+use Rattle.distance_sums.specs.Examples.{zero, one, nan}
 use Rattle.distance.specs.Answer.{distanceOf, refuses}
 use Rattle.distance.specs.declared.Distance.{Distance}
 use Rattle.distance.specs.declared.Distance.the-variants.{Cos, L2, Dot, Jaccard}
@@ -45,13 +46,7 @@ measures m a b bits = answers m a b (Measured (ofBits binary64 bits))
 abbrev pub bits : ℕ → List ℕ
 bits byte = byte ∷ 0x08 ∷ 0x03 ∷ []
 
--- dense f32: 0.0, 1.0, 3.0, 4.0
-abbrev pub zero : List ℕ
-zero = 0 ∷ 0 ∷ 0 ∷ 0 ∷ []
-
-abbrev pub one : List ℕ
-one = 0 ∷ 0 ∷ 0x80 ∷ 0x3f ∷ []
-
+-- dense f32: 3.0, 4.0
 abbrev pub three : List ℕ
 three = 0 ∷ 0 ∷ 0x40 ∷ 0x40 ∷ []
 
@@ -64,9 +59,6 @@ noEntry = 2 ∷ 0 ∷ 0 ∷ 0 ∷ 9 ∷ []
 
 abbrev pub unscaled : List ℕ
 unscaled = (7 ∷ 0 ∷ 0 ∷ 0 ∷ []) ++ zero ++ zero ++ 0 ∷ 3 ∷ 4 ∷ []
-
-abbrev pub nan : ℕ
-nan = 0x7ff8_0000_0000_0000
 
 abbrev pub distances : List Example
 distances =

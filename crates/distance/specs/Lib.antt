@@ -1,11 +1,3 @@
-pub mod Extremes
-pub mod Dense
-pub mod Merged
-pub mod Sparse
-pub mod OneBit
-pub mod Float8
-pub mod Sums
-pub mod Turns
 pub mod Values
 pub mod Table
 pub mod Answer

@@ -1,11 +1,4 @@
 // The distances of two blobs: cosine, L2, dot and Jaccard.
-mod bits;
-mod distance_cos;
-mod distance_dot;
-mod distance_l2;
-mod float8;
-mod jaccard;
-mod sparse;
 mod table;
 
 ghost use mathlib.Core.Path.{_≡_};

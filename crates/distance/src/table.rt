@@ -1,6 +1,5 @@
 // Which distance exists for which kind.
 ghost use mathlib.Core.Path.{_≡_};
-ghost use Prim.Native.Nat.{_<_};
 ghost use Rattle.vector_types.specs.Layout.{byteOf, is};
 ghost use Rattle.distance.specs.Values.{existsFor};
 ghost use Rattle.distance.specs.Table.{rowOf, columnOf};

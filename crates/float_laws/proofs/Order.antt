@@ -8,7 +8,7 @@ use native.Mathlib.Omega.{arith}
 use borrow.Author.Tests.{ltb-true, ltb-false, lt-ltb, le-ltb}
 use lib.IntN.{ℤ}
 use lib.Dec.{T}
-use lib.Ieee.{Float, nan, inf, fin, Format, up, down, below, lt, eq, ne, isNan, fits}
+use lib.Ieee.{Float, nan, inf, fin, Format, up, down, below, le, lt, eq, ne, isNan, fits}
 use lib.Ieee.Fits.{up-pos, down-pos}
 use lib.Ieee.Compare.{differs-from-itself}
 use lib.Ieee.Positive.{through, first-pos}
@@ -100,6 +100,23 @@ nan-lt x y = unless-nan (lt x y) (isNan x) (lesser-number x y)
 
 pub lt-nan : (x y : Float) → isNan y ≡ true → lt x y ≡ false
 lt-nan x y = unless-nan (lt x y) (isNan y) (greater-number y x)
+
+-- and the same of less or equal
+pub nan-le : (x y : Float) → isNan x ≡ true → le x y ≡ false
+unfolding le lt eq isNan
+nan-le nan y h = refl
+nan-le (inf s) y h = absurd (false≢true h)
+nan-le (fin s m e) y h = absurd (false≢true h)
+
+pub le-nan : (x y : Float) → isNan y ≡ true → le x y ≡ false
+unfolding le lt eq isNan
+le-nan nan y h = refl
+le-nan (inf s) nan h = refl
+le-nan (fin s m e) nan h = refl
+le-nan (inf s) (inf t) h = absurd (false≢true h)
+le-nan (inf s) (fin t n d) h = absurd (false≢true h)
+le-nan (fin s m e) (inf t) h = absurd (false≢true h)
+le-nan (fin s m e) (fin t n d) h = absurd (false≢true h)
 
 -- a number equals itself, and a NaN does not
 pub eq-self : (x : Float) → isNan x ≡ false → eq x x ≡ true

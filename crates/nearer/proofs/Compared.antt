@@ -1,12 +1,12 @@
 -- What the code's tests decide is what `comparedOf` and `chosen` say.
 use mathlib.Core.Path.{_≡_, refl}
-use mathlib.Core.Bool.{Bool, true, false, not, cond, false≢true}
+use mathlib.Core.Bool.{Bool, true, false, not, cond}
 use mathlib.Core.List.{List, [], _∷_, _++_}
 use mathlib.Core.Option.{Option, none, some}
 use Prim.Native.Nat.{ℕ}
 use lib.Dec.{eqb}
-use lib.Ieee.{Float, nan, inf, fin, le, lt, eq, isNan}
-use Rattle.float_laws.proofs.Order.{eq-self, nan-self}
+use lib.Ieee.{Float, le, eq, isNan}
+use Rattle.float_laws.proofs.Order.{nan-le, le-nan, eq-self, nan-self}
 use Rattle.vector_types.specs.Answers.{refusal, Test, test, firstOf, unless}
 use Rattle.vector_types.specs.Layout.{byteOf, is}
 use Rattle.vector_types.specs.declared.View.{View}
@@ -16,7 +16,7 @@ use Rattle.distance.specs.declared.Distance.{Distance}
 use Rattle.distance.specs.declared.DistanceAnswer.{DistanceAnswer}
 use Rattle.distance.specs.declared.DistanceAnswer.the-variants.{Refused as Unmeasured}
 use Rattle.distance.specs.declared.Which.the-variants.{Neither}
-use Rattle.nearer.specs.Nearer.{near, refusesAll, chosen, decided, comparedOf}
+use Rattle.nearer.specs.Nearer.{near, refusedNamingNone, chosen, decided, comparedOf}
 use Rattle.nearer.specs.Deciding.{decidedBy}
 use Rattle.nearer.specs.declared.NearerAnswer.{NearerAnswer}
 use Rattle.nearer.specs.declared.Candidate.the-variants.{First, Second}
@@ -29,7 +29,7 @@ abbrev pair : Bool → Bool → Option Float → DistanceAnswer
 pair dims kinds x = unless (firstOf (tests dims kinds)) (λ r. Unmeasured r Neither) (answered x)
 
 by-tests : (d k e l : Bool) (x y : Option Float)
-    → unless (firstOf (tests d k ++ tests e l)) refusesAll (decided x y) ≡ decidedBy (pair d k x) (pair e l y)
+    → unless (firstOf (tests d k ++ tests e l)) refusedNamingNone (decided x y) ≡ decidedBy (pair d k x) (pair e l y)
 by-tests true k e l x y = refl
 by-tests false true e l x y = refl
 by-tests false false true l none y = refl
@@ -49,25 +49,9 @@ compared-by m v w u p a b =
     (valueOf m (v .kind) (v .dims .0) p a) (valueOf m (v .kind) (v .dims .0) p b)
 
 -- ---- two distances: by the comparisons
-nan-le : (x y : Float) → isNan x ≡ true → le x y ≡ false
-unfolding le lt eq isNan
-nan-le nan y h = refl
-nan-le (inf s) y h = absurd (false≢true h)
-nan-le (fin s m e) y h = absurd (false≢true h)
-
-le-nan : (x y : Float) → isNan y ≡ true → le x y ≡ false
-unfolding le lt eq isNan
-le-nan nan y h = refl
-le-nan (inf s) nan h = refl
-le-nan (fin s m e) nan h = refl
-le-nan (inf s) (inf t) h = absurd (false≢true h)
-le-nan (inf s) (fin t n d) h = absurd (false≢true h)
-le-nan (fin s m e) (inf t) h = absurd (false≢true h)
-le-nan (fin s m e) (fin t n d) h = absurd (false≢true h)
-
 -- x <= y; y is a number; x is one
 abbrev byTests : Bool → Bool → Bool → Float → Float → NearerAnswer
-byTests a b c x y = cond a (near First x) (cond b (near Second y) (cond c (near First x) (refusesAll (refusal 18))))
+byTests a b c x y = cond a (near First x) (cond b (near Second y) (cond c (near First x) (refusedNamingNone (refusal 18))))
 
 by-nan : (x y : Float) (a b : Bool) → isNan x ≡ a → isNan y ≡ b → chosen x y ≡ byTests (le x y) (eq y y) (eq x x) x y
 unfolding chosen

@@ -4,14 +4,14 @@ use lib.Dec.{eqb}
 use Rattle.vector_types.specs.declared.Refusal.{Refusal}
 use Rattle.distance.specs.declared.DistanceAnswer.{DistanceAnswer}
 use Rattle.distance.specs.declared.DistanceAnswer.the-variants.{Measured, Refused as Unmeasured}
-use Rattle.nearer.specs.Nearer.{chosen, refusesAll}
+use Rattle.nearer.specs.Nearer.{chosen, refusedNamingNone}
 use Rattle.nearer.specs.declared.NearerAnswer.{NearerAnswer}
 
 abbrev pub afterAbsent : Refusal → DistanceAnswer → NearerAnswer
-afterAbsent r (Measured y) = refusesAll r
-afterAbsent r (Unmeasured s w) = refusesAll s
+afterAbsent r (Measured y) = refusedNamingNone r
+afterAbsent r (Unmeasured s w) = refusedNamingNone s
 
 abbrev pub decidedBy : DistanceAnswer → DistanceAnswer → NearerAnswer
 decidedBy (Measured x) (Measured y) = chosen x y
-decidedBy (Measured x) (Unmeasured s w) = refusesAll s
-decidedBy (Unmeasured r w) q = cond (eqb (r .number) 14) (afterAbsent r q) (refusesAll r)
+decidedBy (Measured x) (Unmeasured s w) = refusedNamingNone s
+decidedBy (Unmeasured r w) q = cond (eqb (r .number) 14) (afterAbsent r q) (refusedNamingNone r)

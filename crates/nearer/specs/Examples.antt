@@ -10,11 +10,12 @@ use Rattle.vector_types.specs.Search.{firstFrom}
 use Rattle.vector_types.specs.Layout.{named, byByte, before, fits, rowOf}
 use Rattle.vector_types.specs.Read.{readOf, refusals, shown}
 use Rattle.vector_types.specs.Parts.{bodyOf}
-use Rattle.distance.specs.Merged.{merged}
-use Rattle.distance.specs.Examples.{bits, zero, one, noEntry}
+use Rattle.distance_sums.specs.Merged.{merged}
+use Rattle.distance_sums.specs.Examples.{zero, one}
+use Rattle.distance.specs.Examples.{bits, noEntry}
 use Rattle.distance.specs.declared.Distance.{Distance}
 use Rattle.distance.specs.declared.Distance.the-variants.{Cos, L2, Dot}
-use Rattle.nearer.specs.Nearer.{near, refusesAll, nearerOf}
+use Rattle.nearer.specs.Nearer.{near, refusedNamingNone, nearerOf}
 use Rattle.nearer.specs.declared.Candidate.{Candidate}
 use Rattle.nearer.specs.declared.Candidate.the-variants.{First, Second}
 use Rattle.nearer.specs.declared.Among.the-variants.{Probe, First as TheFirst, Second as TheSecond}
@@ -34,7 +35,7 @@ abbrev pub finds : Distance → List ℕ → List ℕ → List ℕ → Candidate
 finds m p a b c pattern = answers m p a b (near c (ofBits binary64 pattern))
 
 abbrev pub refuses : Distance → List ℕ → List ℕ → List ℕ → ℕ → Example
-refuses m p a b n = answers m p a b (refusesAll (refusal n))
+refuses m p a b n = answers m p a b (refusedNamingNone (refusal n))
 
 -- dense f32: -0.0, -1.0 and a NaN
 abbrev pub minusZero : List ℕ

@@ -25,31 +25,31 @@ abbrev pub nearerNumber : NearerAnswer → ℕ
 nearerNumber (Nearer n) = 0
 nearerNumber (Refused r w) = r .number
 
--- a candidate and its distance, and a refusal that is about none of the three
+-- a candidate and its distance, and a refusal that names none of the three blobs
 abbrev pub near : Candidate → Float → NearerAnswer
 near c x = Nearer (record { candidate = c; distance = x })
 
-abbrev pub refusesAll : Refusal → NearerAnswer
-refusesAll r = Refused r Neither
+abbrev pub refusedNamingNone : Refusal → NearerAnswer
+refusedNamingNone r = Refused r Neither
 
 -- of the distances x and y: NaN loses to all else, a tie gives the first, and two NaNs give neither
 unfoldable pub chosen : Float → Float → NearerAnswer
 chosen x y =
-    cond (isNan x && isNan y) (refusesAll (refusal 18))
+    cond (isNan x && isNan y) (refusedNamingNone (refusal 18))
     (cond (isNan y || le x y) (near First x)
     (near Second y))
 
--- where the distance does not exist for the kind, neither does
+-- of the distances of the two pairs; none is a distance that does not exist for the kind, which 14 refuses
 abbrev pub decided : Option Float → Option Float → NearerAnswer
-decided none q = refusesAll (refusal 14)
-decided (some x) none = refusesAll (refusal 14)
+decided none q = refusedNamingNone (refusal 14)
+decided (some x) none = refusedNamingNone (refusal 14)
 decided (some x) (some y) = chosen x y
 
 -- of the views and bodies of probe, first and second: 12 and 13 for the first, then for the second, then 14, then 18
 unfoldable pub comparedOf : Distance → View → View → View → List ℕ → List ℕ → List ℕ → NearerAnswer
 unfolding chosen valueOf
 comparedOf m v w u p a b =
-    unless (firstOf (mismatches v w ++ mismatches v u)) refusesAll
+    unless (firstOf (mismatches v w ++ mismatches v u)) refusedNamingNone
     (decided (valueOf m (v .kind) (v .dims .0) p a) (valueOf m (v .kind) (v .dims .0) p b))
 
 -- of what reading each answers

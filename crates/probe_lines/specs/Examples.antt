@@ -14,7 +14,7 @@ use Rattle.vector_types.specs.Parts.{bodyOf}
 use Rattle.elements.specs.Bytes.{bytesOf, numberAt, put}
 use Rattle.convert.specs.Dense.{spread}
 use Rattle.convert.specs.Convert.{convertOf}
-use Rattle.distance.specs.Merged.{merged}
+use Rattle.distance_sums.specs.Merged.{merged}
 use Rattle.nearer.specs.Nearer.{nearerOf}
 use Rattle.lines.specs.Text.{word, same}
 use Rattle.lines.specs.Hex.{digitOf, numberFrom, patternOf, pairOf, hexBytes, hexOf}

@@ -10,7 +10,7 @@ use Rattle.vector_types.specs.Search.{firstFrom}
 use Rattle.vector_types.specs.Layout.{named, byByte, before, fits, rowOf}
 use Rattle.vector_types.specs.Read.{readOf, refusals, shown}
 use Rattle.vector_types.specs.Parts.{bodyOf}
-use Rattle.distance.specs.Merged.{merged}
+use Rattle.distance_sums.specs.Merged.{merged}
 use Rattle.distance.specs.Answer.{distanceOf}
 use Rattle.lines.specs.Text.{word, same}
 use Rattle.lines.specs.Hex.{digitOf, pairOf, hexBytes}

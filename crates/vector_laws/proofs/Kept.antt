@@ -27,9 +27,10 @@ use Rattle.convert.specs.Elements.{element, denseBody}
 use Rattle.convert.specs.Result.{resultOf, made}
 use Rattle.convert.specs.Convert.{convertedTo, answerOf, outBy, convertOf, leftOut}
 use Rattle.convert.proofs.Lengths.{length-dense}
-use Rattle.distance.specs.Dense.{Products, denseCosine, l2By, dotBy, jaccardBy}
-use Rattle.distance.specs.Sparse.{entriesOf, sparseProducts, sparseCosine}
-use Rattle.distance.specs.Values.{valueOf, cosineOf, l2Of, dotOf, jaccardOf}
+use Rattle.distance_sums.specs.Dense.{Products, denseCosine, l2By, dotBy, jaccardBy}
+use Rattle.distance_sums.specs.Sparse.{entriesOf, sparseProducts, sparseCosine}
+use Rattle.distance_sums.specs.Values.{cosineOf, l2Of, dotOf, jaccardOf}
+use Rattle.distance.specs.Values.{valueOf}
 use Rattle.distance.specs.Answer.{answered, pairOf, distanceOf}
 use Rattle.distance.specs.declared.Distance.{Distance}
 use Rattle.distance.specs.declared.Distance.the-variants.{Cos, L2, Dot, Jaccard}

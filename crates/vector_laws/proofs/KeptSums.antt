@@ -17,11 +17,11 @@ use Rattle.elements.proofs.Floats.{floatAt-fits}
 use Rattle.vector_types.specs.Layout.{strays}
 use Rattle.vector_types.specs.declared.VectorType.the-variants.{Float32Sparse}
 use Rattle.convert.specs.Dense.{spreadBody}
-use Rattle.distance.specs.Dense.{Products, products, productsWith, squares, squaresWith, dots, dotsWith, sharesBy, shares, sharesWith}
-use Rattle.distance.specs.Extremes.{lesser, greater}
-use Rattle.distance.specs.Merged.{Rule, merge}
-use Rattle.distance.specs.Sparse.{entriesOf, productsRule, squaresRule, dotsRule, sharesRule, sparseProducts, sparseSquares, sparseDots, sparseShares}
-use Rattle.distance.proofs.EitherZero.{BothFromZero, one-more, ours-are}
+use Rattle.distance_sums.specs.Dense.{Products, products, productsWith, squares, squaresWith, dots, dotsWith, sharesBy, shares, sharesWith}
+use Rattle.distance_sums.specs.Extremes.{lesser, greater}
+use Rattle.distance_sums.specs.Merged.{Rule, merge}
+use Rattle.distance_sums.specs.Sparse.{entriesOf, productsRule, squaresRule, dotsRule, sharesRule, sparseProducts, sparseSquares, sparseDots, sparseShares}
+use Rattle.distance_sums.proofs.EitherZero.{BothFromZero, one-more, ours-are}
 use Rattle.vector_laws.specs.Walk.{Rising}
 use Rattle.vector_laws.specs.Densely.{AllFinite}
 use Rattle.vector_laws.proofs.SwappedSums.{turned-are}

@@ -30,13 +30,14 @@ use Rattle.vector_types.specs.declared.VectorType.the-variants.{Float1Bit}
 use Rattle.vector_types.specs.declared.View.{View}
 use Rattle.vector_types.specs.declared.ReadAnswer.the-variants.{View as Seen}
 use Rattle.vector_types.proofs.Views.{told}
-use Rattle.distance.specs.OneBit.{wholeBits, differing, bitCosine}
-use Rattle.distance.specs.Values.{cosineOf, valueOf}
+use Rattle.distance_sums.specs.OneBit.{wholeBits, differing, bitCosine}
+use Rattle.distance_sums.specs.Values.{cosineOf}
+use Rattle.distance.specs.Values.{valueOf}
 use Rattle.distance.specs.Answer.{pairOf, distanceOf}
 use Rattle.distance.specs.declared.Distance.the-variants.{Cos}
 use Rattle.distance.specs.declared.DistanceAnswer.{DistanceAnswer}
 use Rattle.distance.specs.declared.DistanceAnswer.the-variants.{Measured, Refused}
-use Rattle.distance.proofs.Counts.{xor-digits, tally-le, Counted, counted-byte}
+use Rattle.distance_sums.proofs.Counts.{xor-digits, tally-le, Counted, counted-byte}
 use Rattle.distance.proofs.Paired.{body-length}
 use Rattle.vector_laws.specs.Packed.{Packed, bitsApart}
 

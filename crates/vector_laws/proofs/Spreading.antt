@@ -20,7 +20,7 @@ use Rattle.vector_types.specs.Layout.{indexAt, strays}
 use Rattle.vector_types.specs.declared.VectorType.the-variants.{Float32Sparse}
 use Rattle.convert.specs.Dense.{count, entryBytes, spread, spreadBody}
 use Rattle.convert.proofs.Spread.{index-below, length-spread}
-use Rattle.distance.specs.Sparse.{entriesOf}
+use Rattle.distance_sums.specs.Sparse.{entriesOf}
 use Rattle.vector_laws.specs.Walk.{lookup, Below}
 use Rattle.vector_laws.proofs.Summed.{orZero, Elements}
 

@@ -9,7 +9,7 @@ use mathlib.Core.Option.{Option, none, some}
 use lib.Dec.{eqb}
 use lib.Ieee.{Float}
 use Rattle.float_laws.specs.Zero.{plusZero}
-use Rattle.distance.specs.Merged.{Entries, Rule, merge}
+use Rattle.distance_sums.specs.Merged.{Entries, Rule, merge}
 use Rattle.vector_laws.specs.Walk.{lookup, turn, walked, Rising, Below}
 use Rattle.vector_laws.proofs.Walked.{merged-walked}
 

@@ -19,10 +19,11 @@ use Rattle.vector_types.specs.declared.View.{View}
 use Rattle.vector_types.specs.declared.ReadAnswer.the-variants.{View as Seen}
 use Rattle.convert.specs.Elements.{element}
 use Rattle.convert.proofs.Fitting.{element-fits}
-use Rattle.distance.specs.Dense.{denseCosine, dotBy, l2By, jaccardBy}
-use Rattle.distance.specs.OneBit.{wholeBits, bitCosine, bitDot, bitJaccard}
-use Rattle.distance.specs.Sparse.{sparseCosine, sparseProducts}
-use Rattle.distance.specs.Values.{cosineOf, l2Of, dotOf, jaccardOf, valueOf}
+use Rattle.distance_sums.specs.Dense.{denseCosine, dotBy, l2By, jaccardBy}
+use Rattle.distance_sums.specs.OneBit.{wholeBits, bitCosine, bitDot, bitJaccard}
+use Rattle.distance_sums.specs.Sparse.{sparseCosine, sparseProducts}
+use Rattle.distance_sums.specs.Values.{cosineOf, l2Of, dotOf, jaccardOf}
+use Rattle.distance.specs.Values.{valueOf}
 use Rattle.distance.specs.Answer.{answered, mismatches, pairOf, distanceOf}
 use Rattle.distance.specs.declared.Distance.{Distance}
 use Rattle.distance.specs.declared.Distance.the-variants.{Cos, L2, Dot, Jaccard}

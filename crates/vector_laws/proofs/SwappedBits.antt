@@ -6,7 +6,7 @@ use native.Mathlib.Nat.{min-comm, max-comm}
 use lib.Bits.{differ}
 use Rattle.float_laws.specs.Running.{total}
 use Rattle.vector_types.specs.Layout.{bitAt}
-use Rattle.distance.specs.OneBit.{tally, differing, overlapOf}
+use Rattle.distance_sums.specs.OneBit.{tally, differing, overlapOf}
 
 differ-swap : (x y : ℕ) → differ x y ≡ differ y x
 differ-swap zero zero = refl

@@ -13,11 +13,11 @@ use Rattle.float_laws.proofs.Running.{plusZero-fromZero}
 use Rattle.float_laws.proofs.Squared.{sub-squared}
 use Rattle.float_laws.proofs.Swap.{mul-comm}
 use Rattle.elements.proofs.Floats.{floatAt-fits}
-use Rattle.distance.specs.Extremes.{lesser, greater}
-use Rattle.distance.specs.Dense.{noProducts, productsWith, squaresWith, dotsWith, Shares, noShares, sharesWith}
-use Rattle.distance.specs.Merged.{Entries, Rule, merged, merge}
-use Rattle.distance.specs.Sparse.{entriesOf, productsRule, squaresRule, dotsRule, sharesRule, sparseProducts, sparseSquares, sparseDots, sparseShares}
-use Rattle.distance.proofs.EitherZero.{BothFromZero, one-more, ours-are}
+use Rattle.distance_sums.specs.Extremes.{lesser, greater}
+use Rattle.distance_sums.specs.Dense.{noProducts, productsWith, squaresWith, dotsWith, Shares, noShares, sharesWith}
+use Rattle.distance_sums.specs.Merged.{Entries, Rule, merged, merge}
+use Rattle.distance_sums.specs.Sparse.{entriesOf, productsRule, squaresRule, dotsRule, sharesRule, sparseProducts, sparseSquares, sparseDots, sparseShares}
+use Rattle.distance_sums.proofs.EitherZero.{BothFromZero, one-more, ours-are}
 use Rattle.vector_laws.proofs.SwappedSums.{crossed, turned-are}
 
 -- a value that f32 holds

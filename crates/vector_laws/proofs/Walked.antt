@@ -9,9 +9,9 @@ use mathlib.Core.Bool.{Bool, true, false}
 use mathlib.Core.Option.{none, some}
 use lib.Dec.{eqb, ltb}
 use borrow.Author.Tests.{eqb-true, eqb-false, ltb-true, ltb-false, eq-eqb, ne-eqb}
-use Rattle.distance.specs.Merged.{Entries, Rule, merge, merged}
-use Rattle.distance.specs.declared.sparse.Turn.the-variants.{Done}
-use Rattle.distance.proofs.Merging.{Merging, merging-none, merging-done, merging-both, merging-left, merging-right}
+use Rattle.distance_sums.specs.Merged.{Entries, Rule, merge, merged}
+use Rattle.distance_sums.specs.declared.sparse.Turn.the-variants.{Done}
+use Rattle.distance_sums.proofs.Merging.{Merging, merging-none, merging-done, merging-both, merging-left, merging-right}
 use Rattle.vector_laws.specs.Walk.{lookup, walked, Rising, Below}
 
 -- ---- looking an index up

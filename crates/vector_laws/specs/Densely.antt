@@ -12,8 +12,8 @@ use Rattle.vector_types.specs.declared.View.{View}
 use Rattle.vector_types.specs.declared.VectorType.the-variants.{Float32Dense, Float32Sparse}
 use Rattle.convert.specs.Dense.{count}
 use Rattle.convert.specs.Result.{resultOf}
-use Rattle.distance.specs.Dense.{Products, isZero}
-use Rattle.distance.specs.Sparse.{sparseProducts}
+use Rattle.distance_sums.specs.Dense.{Products, isZero}
+use Rattle.distance_sums.specs.Sparse.{sparseProducts}
 use Rattle.distance.specs.declared.Distance.{Distance}
 use Rattle.distance.specs.declared.Distance.the-variants.{Cos, L2, Dot, Jaccard}
 

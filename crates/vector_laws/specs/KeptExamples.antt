@@ -21,11 +21,11 @@ use Rattle.convert.specs.Pieces.{each}
 use Rattle.convert.specs.Dense.{spread}
 use Rattle.convert.specs.Result.{resultOf}
 use Rattle.convert.specs.Examples.{words, one, two}
-use Rattle.distance.specs.Extremes.{lesser, greater}
-use Rattle.distance.specs.Dense.{productsWith, squaresWith, dotsWith, sharesWith}
-use Rattle.distance.specs.Merged.{merged}
+use Rattle.distance_sums.specs.Extremes.{lesser, greater}
+use Rattle.distance_sums.specs.Dense.{productsWith, squaresWith, dotsWith, sharesWith}
+use Rattle.distance_sums.specs.Merged.{merged}
 use Rattle.distance.specs.Answer.{distanceOf}
-use Rattle.distance.specs.Examples.{nan}
+use Rattle.distance_sums.specs.Examples.{nan}
 use Rattle.distance.specs.declared.Distance.{Distance}
 use Rattle.distance.specs.declared.Distance.the-variants.{Cos, L2, Dot, Jaccard}
 use Rattle.distance.specs.declared.DistanceAnswer.{DistanceAnswer}

@@ -7,7 +7,7 @@ use Rattle.vector_types.specs.Answers.{seen}
 use Rattle.vector_types.specs.Read.{readOf}
 use Rattle.vector_types.specs.Parts.{bodyOf}
 use Rattle.vector_types.specs.declared.VectorType.the-variants.{Float1Bit}
-use Rattle.distance.specs.OneBit.{differing, wholeBits}
+use Rattle.distance_sums.specs.OneBit.{differing, wholeBits}
 
 pub record Packed (d : ℕ) (s : List ℕ) : Type 0 where
   pub bytes : AreBytes s

@@ -4,7 +4,7 @@ use mathlib.Core.Bool.{cond}
 use mathlib.Core.Option.{Option, none, some}
 use lib.Dec.{eqb}
 use lib.Ieee.{Float}
-use Rattle.distance.specs.Merged.{Entries, Rule}
+use Rattle.distance_sums.specs.Merged.{Entries, Rule}
 
 -- the value at the index t, if there is one: of the first n entries, the last that stands there
 unfoldable pub lookup : Entries → ℕ → ℕ → Option Float

@@ -1,0 +1,2 @@
+pub mod Cosines
+pub mod Determined

@@ -1,0 +1,7 @@
+pub mod Sums
+pub mod Counts
+pub mod Merging
+pub mod Totalled
+pub mod Exact
+pub mod EitherZero
+pub mod Determined

@@ -1,0 +1,9 @@
+pub mod Extremes
+pub mod Dense
+pub mod Merged
+pub mod Sparse
+pub mod OneBit
+pub mod Float8
+pub mod Turns
+pub mod Values
+pub mod Examples
