@@ -1,18 +1,15 @@
--- Which distance exists for which kind: the rule of the table, its agreement with the values, and kinds told apart by their columns.
-use mathlib.Core.Path.{_≡_, refl, sym, ap, _∙_}
-use mathlib.Core.Bool.{Bool, true, false, Bool·beq, true≢false, false≢true}
+-- Which distance exists for which kind: the rule of the table, and its agreement with the values.
+use mathlib.Core.Path.{_≡_, refl, sym, _∙_}
+use mathlib.Core.Bool.{Bool, true, false, true≢false, false≢true}
 use mathlib.Core.List.{List, [], _∷_}
 use mathlib.Core.Option.{Option, none, some}
 use Prim.Native.Nat.{ℕ, _<_}
 use native.Mathlib.Omega.{arith}
-use lib.Dec.{eqb}
 use lib.ListN.{getD}
 use lib.Ieee.{Float}
-use borrow.Author.Tests.{eqb-true}
-use Rattle.vector_types.specs.Layout.{byteOf, is}
+use Rattle.vector_types.specs.Layout.{is}
 use Rattle.vector_types.specs.declared.VectorType.{VectorType}
 use Rattle.vector_types.specs.declared.VectorType.the-variants.{Float32Dense, Float64Dense, Float32Sparse, Float1Bit, Float8}
-use Rattle.convert.proofs.ByKind.{pairs}
 use Rattle.distance.specs.Table.{rowOf, columnOf}
 use Rattle.distance_sums.specs.Values.{l2Of}
 use Rattle.distance.specs.Values.{existsFor, valueOf}
@@ -83,19 +80,3 @@ l2-exists Float64Dense e = refl
 l2-exists Float32Sparse e = refl
 l2-exists Float1Bit e = absurd (false≢true e)
 l2-exists Float8 e = refl
-
--- ---- columns are equal exactly where type bytes are, and then the kinds are
-beq-same : (x y : Bool) → Bool·beq x y ≡ true → x ≡ y
-beq-same true true e = refl
-beq-same true false e = absurd (false≢true e)
-beq-same false true e = absurd (false≢true e)
-beq-same false false e = refl
-
-pub columns-exactly : (k l : VectorType) → eqb (columnOf k) (columnOf l) ≡ is (byteOf l) k
-columns-exactly k l = beq-same _ _ (pairs (λ k l. Bool·beq (eqb (columnOf k) (columnOf l)) (is (byteOf l) k)) refl k l)
-
-pub same-kind : (k l : VectorType) → is (byteOf l) k ≡ true → k ≡ l
-same-kind k l e =
-    sym (in-column (λ k. k) Float8 k)
-    ∙ ap (λ (n : ℕ). getD (along (λ k. k)) n Float8) (eqb-true (columnOf k) (columnOf l) (columns-exactly k l ∙ e))
-    ∙ in-column (λ k. k) Float8 l

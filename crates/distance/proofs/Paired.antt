@@ -18,7 +18,8 @@ use Rattle.distance.specs.Values.{valueOf, existsFor}
 use Rattle.distance.specs.Answer.{refuses, pairOf}
 use Rattle.distance.specs.declared.Distance.{Distance}
 use Rattle.distance.specs.declared.DistanceAnswer.the-variants.{Measured}
-use Rattle.distance.proofs.Existing.{absent, same-kind}
+use Rattle.vector_types.proofs.SameKind.{same-kind}
+use Rattle.distance.proofs.Existing.{absent}
 
 module _ (m : Distance) (v w : View) (a b : List ℕ) where
   pub dims-differ : (v .dims .0 ≡ w .dims .0 → ⊥) → pairOf m v w a b ≡ refuses 12

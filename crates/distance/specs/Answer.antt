@@ -14,7 +14,6 @@ use Rattle.vector_types.specs.declared.ReadAnswer.{ReadAnswer}
 use Rattle.vector_types.specs.declared.ReadAnswer.the-variants.{View as Seen, Refused as Unread}
 use Rattle.distance.specs.Values.{valueOf}
 use Rattle.distance.specs.declared.Distance.{Distance}
-use Rattle.distance.specs.declared.Which.{Which}
 use Rattle.distance.specs.declared.Which.the-variants.{First, Second, Neither}
 use Rattle.distance.specs.declared.DistanceAnswer.{DistanceAnswer}
 use Rattle.distance.specs.declared.DistanceAnswer.the-variants.{Measured, Refused}

@@ -18,7 +18,6 @@ use distance_dot::measure_dot;
 use distance_l2::measure_l2;
 use jaccard::measure_jaccard;
 use table::exists;
-use table::is_same_kind;
 use vector_types::ReadAnswer;
 use vector_types::Refusal;
 use vector_types::VectorType;
@@ -85,7 +84,7 @@ pub fn measure_views(
     }
     let kind = v.kind;
     let other = w.kind;
-    if !is_same_kind(kind, other) {
+    if !vector_types::is_same_kind(kind, other) {
         return refuse(13);
     }
     if !exists(distance, kind) {

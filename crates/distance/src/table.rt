@@ -1,6 +1,5 @@
 // Which distance exists for which kind.
 ghost use mathlib.Core.Path.{_≡_};
-ghost use Rattle.vector_types.specs.Layout.{byteOf, is};
 ghost use Rattle.distance.specs.Values.{existsFor};
 ghost use Rattle.distance.specs.Table.{rowOf, columnOf};
 use crate::Distance;
@@ -43,11 +42,4 @@ pub(crate) fn exists(distance: Distance, kind: VectorType) -> bool
     let d = row(distance);
     let k = column(kind);
     EXISTS[d][k]
-}
-
-pub(crate) fn is_same_kind(kind: VectorType, other: VectorType) -> bool
-    ensures { λ r. ⌜ r ≡ is (byteOf other) kind ⌝ }
-{
-    let k = column(kind);
-    k == column(other)
 }

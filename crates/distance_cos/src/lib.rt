@@ -6,7 +6,7 @@ ghost use mathlib.Core.Bool.{true};
 ghost use Prim.Native.Nat.{_+_, _*_, _≤_};
 ghost use lib.ListN.{length};
 ghost use Rattle.vector_types.specs.Layout.{mostDims, ceil, fits};
-ghost use Rattle.vector_types.specs.declared.VectorType.the-variants.{Float32Dense, Float64Dense, Float32Sparse, Float1Bit, Float8};
+ghost use Rattle.vector_types.specs.declared.VectorType.the-variants.{Float32Dense, Float64Dense, Float1Bit, Float8};
 ghost use Rattle.distance_sums.specs.Sparse.{sparseProducts, sparseCosine};
 ghost use Rattle.distance_sums.specs.Values.{cosineOf};
 ghost use Rattle.distance_cos.specs.Sums.{products32};

@@ -6,7 +6,7 @@ ghost use Prim.Native.Nat.{_+_, _*_, _≤_};
 ghost use lib.ListN.{length};
 ghost use lib.Ieee.{binary32, binary64};
 ghost use Rattle.vector_types.specs.Layout.{mostDims, ceil, is, fits};
-ghost use Rattle.vector_types.specs.declared.VectorType.the-variants.{Float32Dense, Float64Dense, Float32Sparse, Float8};
+ghost use Rattle.vector_types.specs.declared.VectorType.the-variants.{Float32Dense, Float64Dense, Float8};
 ghost use Rattle.distance_sums.specs.Dense.{squaresWith, l2By};
 ghost use Rattle.distance_sums.specs.Sparse.{squaresRule, sparseSquares};
 ghost use Rattle.distance_sums.specs.Values.{l2Of};

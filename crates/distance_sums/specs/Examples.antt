@@ -7,7 +7,6 @@ use lib.Ieee.{Float, add, sub, mul, div, neg, eq, lt, ofInt, ofBits, binary64}
 use Rattle.float_laws.specs.Running.{running, total}
 use Rattle.elements.specs.Bytes.{numberAt}
 use Rattle.rounding.specs.Root.{root}
-use Rattle.vector_types.specs.declared.VectorType.{VectorType}
 use Rattle.vector_types.specs.declared.VectorType.the-variants.{Float32Dense, Float32Sparse, Float1Bit}
 use Rattle.distance_sums.specs.Extremes.{lesser, greater}
 use Rattle.distance_sums.specs.Dense.{sharesWith}

@@ -4,7 +4,7 @@ use mathlib.Core.Bool.{false}
 use mathlib.Core.List.{List}
 use lib.IntN.{pos}
 use lib.ListN.{getD}
-use lib.Ieee.{Float, fin, binary64, add, sub, mul, div, neg, ofInt}
+use lib.Ieee.{Float, fin, binary64, add, sub, mul, div, ofInt}
 use Rattle.float_laws.specs.Running.{total}
 use Rattle.rounding.specs.Root.{root}
 use Rattle.convert.specs.Elements.{alphaOf, shiftOf}

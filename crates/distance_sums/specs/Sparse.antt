@@ -2,7 +2,7 @@
 use Prim.Native.Nat.{ℕ, _*_}
 use mathlib.Core.Bool.{cond, _||_}
 use mathlib.Core.List.{List}
-use lib.Ieee.{Float, nan, Format, binary32, binary64, add}
+use lib.Ieee.{Float, nan, Format, binary32, add}
 use Rattle.float_laws.specs.Zero.{plusZero}
 use Rattle.elements.specs.Bytes.{f32At}
 use Rattle.vector_types.specs.Layout.{indexAt}

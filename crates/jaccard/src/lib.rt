@@ -7,7 +7,7 @@ ghost use Prim.Native.Nat.{_+_, _*_, _≤_};
 ghost use lib.ListN.{length};
 ghost use lib.Ieee.{binary32};
 ghost use Rattle.vector_types.specs.Layout.{mostDims, ceil, fits};
-ghost use Rattle.vector_types.specs.declared.VectorType.the-variants.{Float32Dense, Float64Dense, Float32Sparse, Float1Bit, Float8};
+ghost use Rattle.vector_types.specs.declared.VectorType.the-variants.{Float32Dense, Float64Dense, Float1Bit, Float8};
 ghost use Rattle.distance_sums.specs.Dense.{jaccardBy};
 ghost use Rattle.distance_sums.specs.Sparse.{sparseShares};
 ghost use Rattle.distance_sums.specs.OneBit.{bitJaccard};

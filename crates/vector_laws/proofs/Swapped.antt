@@ -30,7 +30,7 @@ use Rattle.distance.specs.declared.Distance.the-variants.{Cos, L2, Dot, Jaccard
 use Rattle.distance.specs.declared.Which.the-variants.{Neither}
 use Rattle.distance.specs.declared.DistanceAnswer.{DistanceAnswer}
 use Rattle.distance.specs.declared.DistanceAnswer.the-variants.{Refused}
-use Rattle.distance.proofs.Existing.{same-kind}
+use Rattle.vector_types.proofs.SameKind.{same-kind}
 use Rattle.vector_laws.specs.Symmetric.{orderly, symmetric}
 use Rattle.vector_laws.proofs.SwappedSums.{products-swap, dense-crossed, sparse-crossed, squares-swap, dots-swap, shares-swap}
 use Rattle.vector_laws.proofs.SwappedMerge.{sparse-products-swap, sparse-squares-swap, sparse-dots-swap, sparse-shares-swap}

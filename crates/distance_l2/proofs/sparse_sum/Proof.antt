@@ -47,22 +47,18 @@ sparse-sum-spec =
     Inv-loop
     μ-loop
     loop-holds
-    (λ c κs. search needs)
-    (λ c. search needs)
+    (λ c κs. search needs) (λ c. search needs)
     returns
-    (λ c. search needs)
-    (λ c κs. search needs)
+    (λ c. search needs) (λ c κs. search needs)
     (λ c. omega (arith, loop-again c))
     (λ c. omega (arith, loop-again c))
     (λ c. omega (arith, loop-again c))
     loop-again
-    (λ c. search needs)
-    (λ c κs. search needs)
+    (λ c. search needs) (λ c κs. search needs)
     (λ c. omega (arith, loop-again-2 c))
     (λ c. omega (arith, loop-again-2 c))
     loop-again-2
-    (λ c. search needs)
-    (λ c κs. search needs)
+    (λ c. search needs) (λ c κs. search needs)
     (λ c. omega (arith, loop-again-3 c))
     (λ c. omega (arith, loop-again-3 c))
     loop-again-3)
