@@ -19,8 +19,9 @@
  *
  * Three mistakes that lose sessions:
  *
- * - An absent reading is not 0: a reading that is not there is no number, and no number stands in for
- *   it. After a refusal there is no distance at all, whatever the double holds.
+ * - An absent reading is not a reading of 0: a sparse vector without entries has cosine NaN; made dense
+ *   it is a vector of zeros, and the difference is gone. And after a refusal there is no distance,
+ *   whatever the double holds.
  * - Distance zero is not likeness: cosine is 0.0 for two vectors of zeros, and for vectors that only
  *   point the same way. NaN is an answer too, always the pattern 7ff8000000000000, and says that there
  *   is no likeness to measure: test `x != x` before comparing, since every comparison with it is false.
