@@ -1,31 +1,13 @@
+-- `converting::fulandewu_convert` meets its contract: what is told is told of the conversion's answer.
 use borrow.Author.Needs.{needs}
 use Rattle.fulandewu.proofs.converting.fulandewu_convert.Statement.{statement}
 use Rattle.fulandewu.proofs.converting.fulandewu_convert.Tie as tie
-use Rattle.fulandewu.proofs.converting.fulandewu_convert.Reads as reads
-use Rattle.fulandewu.proofs.converting.fulandewu_convert.Lts as lts
-use Rattle.fulandewu.proofs.converting.convert_as.Reads as convert-as-reads
-use Rattle.fulandewu.proofs.converting.tell.Reads as tell-reads
 
--- src/converting.rt:65:9
-convert-as-requires : tie.Need-convert-as-requires
-convert-as-requires c κs = search needs
-
--- src/converting.rt:66:5
-tell-requires : tie.Need-tell-requires
-tell-requires c κs = search needs
-
--- src/converting.rt:48:1
-same-length : tie.Need-same-length
-same-length c = search needs
-
--- src/converting.rt:48:1
-same-length-2 : tie.Need-same-length-2
-same-length-2 c = search needs
-
--- src/converting.rt:48:1
 returns : tie.Need-returns
-returns c = ?
+returns c =
+    let made = c .before .before .before .before .before .before .before .before .convert-as .ensures in
+    let told = rw (made .0) at (c .tell .ensures) in
+    (told .0, (made .1 .0, (made .1 .1, (told .1 .0, (told .1 .1 .0, told .1 .1 .1)))))
 
 pub fulandewu-convert-spec : {M : Type 1} → statement M
-fulandewu-convert-spec =
-    tie.close (tie.spec convert-as-requires tell-requires same-length same-length-2 returns)
+fulandewu-convert-spec = tie.close (tie.spec (λ c κs. search needs) (λ c κs. search needs) (λ c. search needs) (λ c. search needs) returns)

@@ -1,16 +1,14 @@
+-- `numbers::canonical` meets its contract: what differs from itself is NaN, and so is zero by zero.
+use mathlib.Core.Path.{sym, _∙_}
+use lib.Ieee.{binary64}
+use lib.Ieee.Compare.{differs-from-itself}
+use Rattle.float_laws.proofs.Nan.{zero-by-zero}
 use borrow.Author.Needs.{needs}
 use Rattle.fulandewu.proofs.numbers.canonical.Statement.{statement}
 use Rattle.fulandewu.proofs.numbers.canonical.Tie as tie
-use Rattle.fulandewu.proofs.numbers.canonical.Reads as reads
-use Rattle.fulandewu.proofs.numbers.canonical.Lts as lts
 
--- src/numbers.rt:6:1
 returns : tie.Need-returns
-returns c = ?
-
--- src/numbers.rt:6:1
-returns-2 : tie.Need-returns-2
-returns-2 c = search needs
+returns c = zero-by-zero binary64 ∙ sym (differs-from-itself _ (rw (c .if1 .taken) tt))
 
 pub canonical-spec : {M : Type 1} → statement M
-canonical-spec = tie.close (tie.spec returns returns-2)
+canonical-spec = tie.close (tie.spec returns (λ c. search needs))

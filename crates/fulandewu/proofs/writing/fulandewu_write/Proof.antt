@@ -1,26 +1,13 @@
+-- `writing::fulandewu_write` meets its contract: what is told is told of the writer's answer.
 use borrow.Author.Needs.{needs}
 use Rattle.fulandewu.proofs.writing.fulandewu_write.Statement.{statement}
 use Rattle.fulandewu.proofs.writing.fulandewu_write.Tie as tie
-use Rattle.fulandewu.proofs.writing.fulandewu_write.Reads as reads
-use Rattle.fulandewu.proofs.writing.fulandewu_write.Lts as lts
-use Rattle.fulandewu.proofs.writing.tell.Reads as tell-reads
-use Rattle.fulandewu.proofs.writing.write_as.Reads as write-as-reads
 
--- src/writing.rt:56:9
-write-as-requires : tie.Need-write-as-requires
-write-as-requires c κs = search needs
-
--- src/writing.rt:57:5
-tell-requires : tie.Need-tell-requires
-tell-requires c κs = search needs
-
--- src/writing.rt:42:1
-same-length : tie.Need-same-length
-same-length c = search needs
-
--- src/writing.rt:42:1
 returns : tie.Need-returns
-returns c = ?
+returns c =
+    let made = c .before .before .before .before .before .write-as .ensures in
+    let told = rw (made .0) at (c .tell .ensures) in
+    (told .0, (made .1, (told .1 .0, told .1 .1)))
 
 pub fulandewu-write-spec : {M : Type 1} → statement M
-fulandewu-write-spec = tie.close (tie.spec write-as-requires tell-requires same-length returns)
+fulandewu-write-spec = tie.close (tie.spec (λ c κs. search needs) (λ c κs. search needs) (λ c. search needs) returns)
