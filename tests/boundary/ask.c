@@ -15,6 +15,8 @@ const char *const EXPORT_NAMES[EXPORTS] = {
 unsigned long calls;
 unsigned long seen[EXPORTS][REFUSALS];
 
+static const char *const NUMBER_NAMES[NUMBERS] = {"kind", "dims", "length", "written", "needed", "distance", "nearer",
+                                                  "which"};
 static const size_t SIZES[NUMBERS] = {1, sizeof(size_t), sizeof(size_t), sizeof(size_t), sizeof(size_t),
                                       sizeof(double), 1, 1};
 
@@ -108,7 +110,7 @@ static void hear(struct answer *a, const struct call *c, unsigned told, uint8_t 
         uint64_t before = 0;
         memset(&before, fill, SIZES[n]);
         memcpy(&a->number[n], c->number[n], SIZES[n]);
-        if (a->number[n] == before) fail("number %d of its signature's is not written", n);
+        if (a->number[n] == before) fail("%s is not written", NUMBER_NAMES[n]);
     }
 }
 

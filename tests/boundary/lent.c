@@ -20,7 +20,7 @@ struct lent {
     uint8_t *at;    /* the buffer, or NULL if none is lent */
     size_t length;
     uint8_t fill, canary;
-    int guarded; /* against writing */
+    int guarded; /* its pages may not be written */
 };
 
 static struct lent rooms[ROOMS];
@@ -57,6 +57,14 @@ static void fault(int signal) {
 
 static void protect(uint8_t *start, size_t size, int how) {
     if (mprotect(start, size, how) != 0) fail("mprotect failed");
+}
+
+/* What may be done to the pages that a buffer stands on. */
+static void allow(struct lent *room, int how) {
+    uint8_t *from = room->at - (uintptr_t)room->at % PAGE;
+    size_t covered = (size_t)(room->at - from) + room->length;
+    protect(from, (covered + PAGE - 1) / PAGE * PAGE, how);
+    room->guarded = how == PROT_READ;
 }
 
 static void open_room(struct lent *room, size_t size) {
@@ -100,9 +108,10 @@ uint8_t *lend_buffer(enum room which, enum place place, size_t length, uint8_t f
 
 const uint8_t *lend_bytes(enum room which, enum place place, const uint8_t *bytes, size_t length) {
     struct lent *room = lend(which, place, length, 0);
-    if (length > 0) memcpy(room->at, bytes, length);
-    protect(room->start, room->size, PROT_READ);
-    room->guarded = 1;
+    if (length > 0) {
+        memcpy(room->at, bytes, length);
+        allow(room, PROT_READ);
+    }
     return room->at;
 }
 
@@ -117,8 +126,7 @@ void take_back(void) {
         if (room->at == NULL) continue;
         same(room->at - before(room), before(room), room->canary, "a byte before a lent buffer");
         same(room->at + room->length, after(room), room->canary, "a byte after a lent buffer");
-        if (room->guarded) protect(room->start, room->size, PROT_READ | PROT_WRITE);
-        room->guarded = 0;
+        if (room->guarded) allow(room, PROT_READ | PROT_WRITE);
         room->at = NULL;
     }
 }
