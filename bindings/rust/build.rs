@@ -1,0 +1,41 @@
+//! Links libfulandewu.a: from the directory that FULANDEWU_LIB_DIR names, else from the repository's
+//! target/staticlib.
+
+use std::env;
+use std::path::PathBuf;
+
+const ARCHIVE: &str = "libfulandewu.a";
+
+fn main() {
+    println!("cargo:rerun-if-env-changed=FULANDEWU_LIB_DIR");
+    let folder = match env::var_os("FULANDEWU_LIB_DIR") {
+        Some(named) => PathBuf::from(named),
+        None => PathBuf::from(
+            env::var_os("CARGO_MANIFEST_DIR").expect("cargo names the package's directory"),
+        )
+        .join("../../target/staticlib"),
+    };
+    let archive = folder.join(ARCHIVE);
+    println!("cargo:rerun-if-changed={}", archive.display());
+    if !archive.is_file() {
+        eprintln!(
+            "There is no {} in {}.\n\
+             `rt staticlib fulandewu`, in the root of the repository, proves it and writes it to \
+             target/staticlib.\n\
+             If it stands elsewhere, FULANDEWU_LIB_DIR names its directory.",
+            ARCHIVE,
+            folder.display()
+        );
+        std::process::exit(1);
+    }
+    let target = env::var("CARGO_CFG_TARGET_ARCH").unwrap_or_default();
+    if target != "x86_64" {
+        eprintln!(
+            "{} is for x86-64, and this build is for {}.",
+            ARCHIVE, target
+        );
+        std::process::exit(1);
+    }
+    println!("cargo:rustc-link-search=native={}", folder.display());
+    println!("cargo:rustc-link-lib=static=fulandewu");
+}

@@ -1,0 +1,304 @@
+//! Vector blobs read, written, converted, measured and compared by proved functions: safe functions
+//! over `libfulandewu.a`. Every blob, pair and buffer gets a defined answer, and nothing panics.
+//!
+//! ```
+//! use fulandewu::{distance, read, Distance, Reason, VectorType};
+//!
+//! // the readings 60 and 80, and 120 and 160, as Float32Dense
+//! let old = [0, 0, 0x70, 0x42, 0, 0, 0xa0, 0x42];
+//! let new = [0, 0, 0xf0, 0x42, 0, 0, 0x20, 0x43];
+//! let view = read(&old)?;
+//! assert_eq!((view.kind(), view.dims()), (VectorType::Float32Dense, 2));
+//! assert_eq!(distance(Distance::L2, &old, &new)?, 100.0);
+//! // both point the same way, and are not alike
+//! assert_eq!(distance(Distance::Cos, &old, &new)?, 0.0);
+//!
+//! let refusal = distance(Distance::L2, &old, &new[..4]).unwrap_err();
+//! assert_eq!((refusal.reason(), refusal.number()), (Reason::DimsDiffer, 12));
+//! # Ok::<(), fulandewu::Refusal>(())
+//! ```
+//!
+//! Three mistakes lose sessions:
+//!
+//! - An absent reading is not a reading of 0. A sparse vector without entries has cosine NaN; made
+//!   dense it is a vector of zeros, and the difference is gone.
+//! - Distance zero is not likeness. Cosine is 0.0 for two vectors of zeros, and for vectors that only
+//!   point the same way. NaN is an answer too, always of the pattern 7ff8000000000000: there is no
+//!   likeness to measure. It is not far and not near, so test [`f64::is_nan`] before comparing.
+//! - A blob's length is not its dims: ask [`read`].
+//!
+//! ```
+//! use fulandewu::{distance, Distance};
+//!
+//! // two sparse rides of two places with no reading in them
+//! let none = [2, 0, 0, 0, 9];
+//! assert_eq!(distance(Distance::Cos, &none, &none)?.to_bits(), 0x7ff8_0000_0000_0000);
+//! # Ok::<(), fulandewu::Refusal>(())
+//! ```
+
+#![warn(missing_docs)]
+
+mod exports;
+mod refusal;
+mod view;
+
+pub use refusal::{Reason, Refusal, Which};
+pub use view::{VectorType, View};
+
+/// The longest blob, in bytes.
+pub const LONGEST: usize = 524_293;
+
+/// The most elements of a vector.
+pub const MOST_DIMS: usize = 65_536;
+
+/// The four distances.
+#[derive(Clone, Copy, Debug, PartialEq, Eq, Hash)]
+pub enum Distance {
+    /// Cosine; of 1-bit vectors the count of differing bits.
+    Cos,
+    /// Euclidean; there is none of 1-bit vectors.
+    L2,
+    /// The negated dot product.
+    Dot,
+    /// Jaccard.
+    Jaccard,
+}
+
+fn answered(number: u32) -> Result<(), Refusal> {
+    Refusal::numbered(number).map_or(Ok(()), Err)
+}
+
+fn read_by(reader: exports::Reader, blob: &[u8]) -> Result<View<'_>, Refusal> {
+    let (mut kind, mut dims, mut length) = (0, 0, 0);
+    // SAFETY: the blob is a slice, and the numbers are locals of their own.
+    let number = unsafe { reader(blob.as_ptr(), blob.len(), &mut kind, &mut dims, &mut length) };
+    answered(number)?;
+    let kind = VectorType::named(kind).expect("an accepted blob has a kind");
+    Ok(View::new(kind, dims, &blob[..length]))
+}
+
+/// Reads a blob. Refusals: 1 to 9, in that order.
+///
+/// ```
+/// use fulandewu::{read, Reason, VectorType};
+///
+/// let view = read(&[0xaa, 0x08, 3])?;
+/// assert_eq!((view.kind(), view.dims(), view.body()), (VectorType::Float1Bit, 8, &[0xaa][..]));
+///
+/// // the reading 60 at place 1 of 3
+/// let sparse = [0, 0, 0x70, 0x42, 1, 0, 0, 0, 3, 0, 0, 0, 9];
+/// let view = read(&sparse)?;
+/// assert_eq!(view.dims(), 3);
+/// assert_eq!(view.values(), Some(&sparse[..4]));
+/// assert_eq!(view.indices(), Some(&sparse[4..8]));
+///
+/// assert_eq!(read(&[5]).unwrap_err().reason(), Reason::TypeByte5Or6);
+/// # Ok::<(), fulandewu::Refusal>(())
+/// ```
+pub fn read(blob: &[u8]) -> Result<View<'_>, Refusal> {
+    read_by(exports::fulandewu_read, blob)
+}
+
+/// Reads a blob, and asks besides that sparse indices are in order and unused bits zero. Refusals: 1 to
+/// 11, in that order. Conversions and distances read plainly.
+///
+/// ```
+/// use fulandewu::{read, read_strict, Reason};
+///
+/// // one bit does not count, and it is set
+/// assert_eq!(read(&[0xff, 0x09, 3])?.dims(), 7);
+/// assert_eq!(read_strict(&[0xff, 0x09, 3]).unwrap_err().reason(), Reason::UnusedBitSet);
+/// # Ok::<(), fulandewu::Refusal>(())
+/// ```
+pub fn read_strict(blob: &[u8]) -> Result<View<'_>, Refusal> {
+    read_by(exports::fulandewu_read_strict, blob)
+}
+
+/// Writes the blob of a kind, dims and body (a sparse body: values, then indices, without dims) to the
+/// first bytes of `out`, changes no byte past them, and answers its length. It reads back as the same
+/// kind, dims and body. Refusals: 9, 7, 1, 8, 16, 15, in that order; 15 carries the need, so an empty
+/// `out` asks for it.
+///
+/// ```
+/// use fulandewu::{write, VectorType};
+///
+/// let body = [0xaa];
+/// let needed = write(VectorType::Float1Bit, 8, &body, &mut []).unwrap_err().needed().unwrap();
+/// let mut blob = vec![0; needed];
+/// let length = write(VectorType::Float1Bit, 8, &body, &mut blob)?;
+/// assert_eq!(blob[..length], [0xaa, 0x08, 3]);
+/// # Ok::<(), fulandewu::Refusal>(())
+/// ```
+pub fn write(kind: VectorType, dims: usize, body: &[u8], out: &mut [u8]) -> Result<usize, Refusal> {
+    let (mut written, mut needed) = (0, 0);
+    // SAFETY: body and out are slices, which do not overlap, and the numbers are locals of their own.
+    let number = unsafe {
+        exports::fulandewu_write(
+            kind.byte(),
+            dims,
+            body.as_ptr(),
+            body.len(),
+            out.as_mut_ptr(),
+            out.len(),
+            &mut written,
+            &mut needed,
+        )
+    };
+    answered(number).map_err(|refusal| refusal.needing(needed))?;
+    Ok(written)
+}
+
+/// Converts a blob to another kind, or the same: the new body goes to the first bytes of `out`, no byte
+/// past them changes, and the view shows it. It is a body and no blob: [`write()`] makes one of it.
+/// `scratch` is used only from sparse to 1-bit or Float8: 4 * dims bytes, where the dense body is left.
+/// Refusals: 1 to 9, then 17, 15, which carry the need.
+///
+/// ```
+/// use fulandewu::{convert, VectorType};
+///
+/// // the reading 60 at place 1 of 3, made dense: the gaps become zeros
+/// let sparse = [0, 0, 0x70, 0x42, 1, 0, 0, 0, 3, 0, 0, 0, 9];
+/// let mut out = [0; 12];
+/// let view = convert(&sparse, VectorType::Float32Dense, &mut [], &mut out)?;
+/// assert_eq!(view.dims(), 3);
+/// assert_eq!(view.body(), [0, 0, 0, 0, 0, 0, 0x70, 0x42, 0, 0, 0, 0]);
+///
+/// let refusal = convert(&sparse, VectorType::Float1Bit, &mut [], &mut out).unwrap_err();
+/// assert_eq!((refusal.number(), refusal.needed()), (17, Some(12)));
+/// # Ok::<(), fulandewu::Refusal>(())
+/// ```
+pub fn convert<'a>(
+    blob: &[u8],
+    kind: VectorType,
+    scratch: &mut [u8],
+    out: &'a mut [u8],
+) -> Result<View<'a>, Refusal> {
+    let (mut dims, mut length, mut needed) = (0, 0, 0);
+    // SAFETY: blob, scratch and out are slices, which do not overlap, and the numbers are locals of
+    // their own.
+    let number = unsafe {
+        exports::fulandewu_convert(
+            blob.as_ptr(),
+            blob.len(),
+            kind.byte(),
+            scratch.as_mut_ptr(),
+            scratch.len(),
+            out.as_mut_ptr(),
+            out.len(),
+            &mut dims,
+            &mut length,
+            &mut needed,
+        )
+    };
+    answered(number).map_err(|refusal| refusal.needing(needed))?;
+    Ok(View::new(kind, dims, &out[..length]))
+}
+
+/// The distance of two blobs, which may be NaN. Refusals: 1 to 9 of the first blob, then of the second,
+/// which name it ([`Refusal::which`]); 12, 13; L2 of 1-bit vectors: 14.
+///
+/// ```
+/// use fulandewu::{distance, Distance, Which};
+///
+/// let (one, other) = ([0xaa, 0x08, 3], [0xab, 0x08, 3]);
+/// assert_eq!(distance(Distance::Cos, &one, &other)?, 1.0);
+/// assert_eq!(distance(Distance::L2, &one, &other).unwrap_err().number(), 14);
+/// assert_eq!(distance(Distance::Cos, &one, &[7]).unwrap_err().which(), Some(Which::Second));
+/// # Ok::<(), fulandewu::Refusal>(())
+/// ```
+pub fn distance(asked: Distance, first: &[u8], second: &[u8]) -> Result<f64, Refusal> {
+    let measure: exports::Measure = match asked {
+        Distance::Cos => exports::fulandewu_distance_cos,
+        Distance::L2 => exports::fulandewu_distance_l2,
+        Distance::Dot => exports::fulandewu_distance_dot,
+        Distance::Jaccard => exports::fulandewu_distance_jaccard,
+    };
+    let (mut value, mut which) = (0.0, 0);
+    // SAFETY: the blobs are slices, which are only read, and the numbers are locals of their own.
+    let number = unsafe {
+        measure(
+            first.as_ptr(),
+            first.len(),
+            second.as_ptr(),
+            second.len(),
+            &mut value,
+            &mut which,
+        )
+    };
+    answered(number).map_err(|refusal| refusal.about(which))?;
+    Ok(value)
+}
+
+/// The nearer of two candidates.
+#[derive(Clone, Copy, Debug, PartialEq, Eq, Hash)]
+pub enum Candidate {
+    /// The first.
+    First,
+    /// The second.
+    Second,
+}
+
+/// The nearer candidate, and its distance from the probe, which is never NaN.
+#[derive(Clone, Copy, Debug, PartialEq)]
+pub struct Nearer {
+    /// Which.
+    pub candidate: Candidate,
+    /// How far.
+    pub distance: f64,
+}
+
+/// The nearer of two candidates to a probe, which is the first vector of each pair. A tie (0.0 against
+/// -0.0 too) gives the first, and NaN loses to all else. Refusals: 1 to 9 of the probe, the first and
+/// the second, which name it ([`Refusal::which`]); 12, 13 of the first pair, then of the second; 14; 18.
+///
+/// ```
+/// use fulandewu::{nearer, Candidate, Distance};
+///
+/// let probe = [0, 0, 0x70, 0x42];
+/// let (far, near) = ([0, 0, 0x20, 0x43], [0, 0, 0xa0, 0x42]);
+/// let found = nearer(Distance::L2, &probe, &far, &near)?;
+/// assert_eq!((found.candidate, found.distance), (Candidate::Second, 20.0));
+///
+/// // no reading in any of them: nothing is near
+/// let none = [2, 0, 0, 0, 9];
+/// assert_eq!(nearer(Distance::Cos, &none, &none, &none).unwrap_err().number(), 18);
+/// # Ok::<(), fulandewu::Refusal>(())
+/// ```
+pub fn nearer(
+    asked: Distance,
+    probe: &[u8],
+    first: &[u8],
+    second: &[u8],
+) -> Result<Nearer, Refusal> {
+    let chooser: exports::Chooser = match asked {
+        Distance::Cos => exports::fulandewu_nearer_cos,
+        Distance::L2 => exports::fulandewu_nearer_l2,
+        Distance::Dot => exports::fulandewu_nearer_dot,
+        Distance::Jaccard => exports::fulandewu_nearer_jaccard,
+    };
+    let (mut candidate, mut value, mut which) = (0, 0.0, 0);
+    // SAFETY: the blobs are slices, which are only read, and the numbers are locals of their own.
+    let number = unsafe {
+        chooser(
+            probe.as_ptr(),
+            probe.len(),
+            first.as_ptr(),
+            first.len(),
+            second.as_ptr(),
+            second.len(),
+            &mut candidate,
+            &mut value,
+            &mut which,
+        )
+    };
+    answered(number).map_err(|refusal| refusal.about(which))?;
+    let candidate = if candidate == 1 {
+        Candidate::First
+    } else {
+        Candidate::Second
+    };
+    Ok(Nearer {
+        candidate,
+        distance: value,
+    })
+}

@@ -1,0 +1,52 @@
+-- Each export's contract determines its outcome, the number and every lent number and byte: stated over the contract's own reading, so it changes with the contract.
+use mathlib.Core.Path.{_∙_, sym}
+use denote.Ref.{now}
+use Rattle.promises.specs.Determined.{Determined}
+use Rattle.fulandewu.proofs.reading.fulandewu_read.Reads as read
+use Rattle.fulandewu.proofs.reading.fulandewu_read_strict.Reads as read-strict
+use Rattle.fulandewu.proofs.writing.fulandewu_write.Reads as write
+use Rattle.fulandewu.proofs.converting.fulandewu_convert.Reads as convert
+use Rattle.fulandewu.proofs.distances.fulandewu_distance_cos.Reads as distance-cos
+use Rattle.fulandewu.proofs.distances.fulandewu_distance_l2.Reads as distance-l2
+use Rattle.fulandewu.proofs.distances.fulandewu_distance_dot.Reads as distance-dot
+use Rattle.fulandewu.proofs.distances.fulandewu_distance_jaccard.Reads as distance-jaccard
+use Rattle.fulandewu.proofs.nearest.fulandewu_nearer_cos.Reads as nearer-cos
+use Rattle.fulandewu.proofs.nearest.fulandewu_nearer_l2.Reads as nearer-l2
+use Rattle.fulandewu.proofs.nearest.fulandewu_nearer_dot.Reads as nearer-dot
+use Rattle.fulandewu.proofs.nearest.fulandewu_nearer_jaccard.Reads as nearer-jaccard
+
+pub read-determined : (κs : _) (a : _) → Determined (read.Post κs a) (λ r x. r) × (Determined (read.Post κs a) (λ r x. now (x .1 .0)) × (Determined (read.Post κs a) (λ r x. now (x .1 .1 .0)) × Determined (read.Post κs a) (λ r x. now (x .1 .1 .1 .0))))
+read-determined κs a = (λ r r′ x x′ p q. p .0 ∙ sym (q .0), (λ r r′ x x′ p q. p .1 .0 ∙ sym (q .1 .0), (λ r r′ x x′ p q. p .1 .1 .0 ∙ sym (q .1 .1 .0), λ r r′ x x′ p q. p .1 .1 .1 ∙ sym (q .1 .1 .1))))
+
+pub read-strict-determined : (κs : _) (a : _) → Determined (read-strict.Post κs a) (λ r x. r) × (Determined (read-strict.Post κs a) (λ r x. now (x .1 .0)) × (Determined (read-strict.Post κs a) (λ r x. now (x .1 .1 .0)) × Determined (read-strict.Post κs a) (λ r x. now (x .1 .1 .1 .0))))
+read-strict-determined κs a = (λ r r′ x x′ p q. p .0 ∙ sym (q .0), (λ r r′ x x′ p q. p .1 .0 ∙ sym (q .1 .0), (λ r r′ x x′ p q. p .1 .1 .0 ∙ sym (q .1 .1 .0), λ r r′ x x′ p q. p .1 .1 .1 ∙ sym (q .1 .1 .1))))
+
+pub write-determined : (κs : _) (a : _) → Determined (write.Post κs a) (λ r x. r) × (Determined (write.Post κs a) (λ r x. now (x .1 .1 .1 .0)) × (Determined (write.Post κs a) (λ r x. now (x .1 .1 .1 .1 .0)) × Determined (write.Post κs a) (λ r x. now (x .1 .1 .1 .1 .1 .0))))
+write-determined κs a = (λ r r′ x x′ p q. p .0 ∙ sym (q .0), (λ r r′ x x′ p q. p .1 .0 ∙ sym (q .1 .0), (λ r r′ x x′ p q. p .1 .1 .0 ∙ sym (q .1 .1 .0), λ r r′ x x′ p q. p .1 .1 .1 ∙ sym (q .1 .1 .1))))
+
+pub convert-determined : (κs : _) (a : _) → Determined (convert.Post κs a) (λ r x. r) × (Determined (convert.Post κs a) (λ r x. now (x .1 .1 .0)) × (Determined (convert.Post κs a) (λ r x. now (x .1 .1 .1 .0)) × (Determined (convert.Post κs a) (λ r x. now (x .1 .1 .1 .1 .0)) × (Determined (convert.Post κs a) (λ r x. now (x .1 .1 .1 .1 .1 .0)) × Determined (convert.Post κs a) (λ r x. now (x .1 .1 .1 .1 .1 .1 .0))))))
+convert-determined κs a = (λ r r′ x x′ p q. p .0 ∙ sym (q .0), (λ r r′ x x′ p q. p .1 .0 ∙ sym (q .1 .0), (λ r r′ x x′ p q. p .1 .1 .0 ∙ sym (q .1 .1 .0), (λ r r′ x x′ p q. p .1 .1 .1 .0 ∙ sym (q .1 .1 .1 .0), (λ r r′ x x′ p q. p .1 .1 .1 .1 .0 ∙ sym (q .1 .1 .1 .1 .0), λ r r′ x x′ p q. p .1 .1 .1 .1 .1 ∙ sym (q .1 .1 .1 .1 .1))))))
+
+pub distance-cos-determined : (κs : _) (a : _) → Determined (distance-cos.Post κs a) (λ r x. r) × (Determined (distance-cos.Post κs a) (λ r x. now (x .1 .1 .0)) × Determined (distance-cos.Post κs a) (λ r x. now (x .1 .1 .1 .0)))
+distance-cos-determined κs a = (λ r r′ x x′ p q. p .0 ∙ sym (q .0), (λ r r′ x x′ p q. p .1 .0 ∙ sym (q .1 .0), λ r r′ x x′ p q. p .1 .1 ∙ sym (q .1 .1)))
+
+pub distance-l2-determined : (κs : _) (a : _) → Determined (distance-l2.Post κs a) (λ r x. r) × (Determined (distance-l2.Post κs a) (λ r x. now (x .1 .1 .0)) × Determined (distance-l2.Post κs a) (λ r x. now (x .1 .1 .1 .0)))
+distance-l2-determined κs a = (λ r r′ x x′ p q. p .0 ∙ sym (q .0), (λ r r′ x x′ p q. p .1 .0 ∙ sym (q .1 .0), λ r r′ x x′ p q. p .1 .1 ∙ sym (q .1 .1)))
+
+pub distance-dot-determined : (κs : _) (a : _) → Determined (distance-dot.Post κs a) (λ r x. r) × (Determined (distance-dot.Post κs a) (λ r x. now (x .1 .1 .0)) × Determined (distance-dot.Post κs a) (λ r x. now (x .1 .1 .1 .0)))
+distance-dot-determined κs a = (λ r r′ x x′ p q. p .0 ∙ sym (q .0), (λ r r′ x x′ p q. p .1 .0 ∙ sym (q .1 .0), λ r r′ x x′ p q. p .1 .1 ∙ sym (q .1 .1)))
+
+pub distance-jaccard-determined : (κs : _) (a : _) → Determined (distance-jaccard.Post κs a) (λ r x. r) × (Determined (distance-jaccard.Post κs a) (λ r x. now (x .1 .1 .0)) × Determined (distance-jaccard.Post κs a) (λ r x. now (x .1 .1 .1 .0)))
+distance-jaccard-determined κs a = (λ r r′ x x′ p q. p .0 ∙ sym (q .0), (λ r r′ x x′ p q. p .1 .0 ∙ sym (q .1 .0), λ r r′ x x′ p q. p .1 .1 ∙ sym (q .1 .1)))
+
+pub nearer-cos-determined : (κs : _) (a : _) → Determined (nearer-cos.Post κs a) (λ r x. r) × (Determined (nearer-cos.Post κs a) (λ r x. now (x .1 .1 .1 .0)) × (Determined (nearer-cos.Post κs a) (λ r x. now (x .1 .1 .1 .1 .0)) × Determined (nearer-cos.Post κs a) (λ r x. now (x .1 .1 .1 .1 .1 .0))))
+nearer-cos-determined κs a = (λ r r′ x x′ p q. p .0 ∙ sym (q .0), (λ r r′ x x′ p q. p .1 .0 ∙ sym (q .1 .0), (λ r r′ x x′ p q. p .1 .1 .0 ∙ sym (q .1 .1 .0), λ r r′ x x′ p q. p .1 .1 .1 ∙ sym (q .1 .1 .1))))
+
+pub nearer-l2-determined : (κs : _) (a : _) → Determined (nearer-l2.Post κs a) (λ r x. r) × (Determined (nearer-l2.Post κs a) (λ r x. now (x .1 .1 .1 .0)) × (Determined (nearer-l2.Post κs a) (λ r x. now (x .1 .1 .1 .1 .0)) × Determined (nearer-l2.Post κs a) (λ r x. now (x .1 .1 .1 .1 .1 .0))))
+nearer-l2-determined κs a = (λ r r′ x x′ p q. p .0 ∙ sym (q .0), (λ r r′ x x′ p q. p .1 .0 ∙ sym (q .1 .0), (λ r r′ x x′ p q. p .1 .1 .0 ∙ sym (q .1 .1 .0), λ r r′ x x′ p q. p .1 .1 .1 ∙ sym (q .1 .1 .1))))
+
+pub nearer-dot-determined : (κs : _) (a : _) → Determined (nearer-dot.Post κs a) (λ r x. r) × (Determined (nearer-dot.Post κs a) (λ r x. now (x .1 .1 .1 .0)) × (Determined (nearer-dot.Post κs a) (λ r x. now (x .1 .1 .1 .1 .0)) × Determined (nearer-dot.Post κs a) (λ r x. now (x .1 .1 .1 .1 .1 .0))))
+nearer-dot-determined κs a = (λ r r′ x x′ p q. p .0 ∙ sym (q .0), (λ r r′ x x′ p q. p .1 .0 ∙ sym (q .1 .0), (λ r r′ x x′ p q. p .1 .1 .0 ∙ sym (q .1 .1 .0), λ r r′ x x′ p q. p .1 .1 .1 ∙ sym (q .1 .1 .1))))
+
+pub nearer-jaccard-determined : (κs : _) (a : _) → Determined (nearer-jaccard.Post κs a) (λ r x. r) × (Determined (nearer-jaccard.Post κs a) (λ r x. now (x .1 .1 .1 .0)) × (Determined (nearer-jaccard.Post κs a) (λ r x. now (x .1 .1 .1 .1 .0)) × Determined (nearer-jaccard.Post κs a) (λ r x. now (x .1 .1 .1 .1 .1 .0))))
+nearer-jaccard-determined κs a = (λ r r′ x x′ p q. p .0 ∙ sym (q .0), (λ r r′ x x′ p q. p .1 .0 ∙ sym (q .1 .0), (λ r r′ x x′ p q. p .1 .1 .0 ∙ sym (q .1 .1 .0), λ r r′ x x′ p q. p .1 .1 .1 ∙ sym (q .1 .1 .1))))

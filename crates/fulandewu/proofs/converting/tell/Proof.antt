@@ -1,0 +1,24 @@
+-- `converting::tell` meets its contract: each arm writes what the definitions say of its answer.
+use mathlib.Core.Path.{refl}
+use borrow.Author.Needs.{needs}
+use Rattle.fulandewu.proofs.converting.tell.Statement.{statement}
+use Rattle.fulandewu.proofs.converting.tell.Tie as tie
+
+returns : tie.Need-returns
+returns c = rw (c .before .answer .given .1) (refl, (refl, (refl, refl)))
+
+returns-2 : tie.Need-returns-2
+returns-2 c = rw (c .before .before .answer2 .given .1) (refl, (refl, (refl, refl)))
+
+returns-3 : tie.Need-returns-3
+returns-3 c = rw (c .before .answer3 .given .1) (refl, (refl, (refl, refl)))
+
+returns-4 : tie.Need-returns-4
+returns-4 c = rw (c .before .answer4 .given .1) (refl, (refl, (refl, refl)))
+
+pub tell-spec : {M : Type 1} → statement M
+tell-spec =
+    tie.close
+    (tie.spec
+    (λ c. search needs) (λ c. search needs) (λ c. search needs) (λ c. search needs) (λ c. search needs)
+    returns returns-2 returns-3 returns-4)

@@ -1,0 +1,10 @@
+-- `reading::fulandewu_read` meets its contract: what is told is told of the reader's answer.
+use borrow.Author.Needs.{needs}
+use Rattle.fulandewu.proofs.reading.fulandewu_read.Statement.{statement}
+use Rattle.fulandewu.proofs.reading.fulandewu_read.Tie as tie
+
+returns : tie.Need-returns
+returns c = rw (← c .before .before .before .before .read .ensures) (c .tell .ensures)
+
+pub fulandewu-read-spec : {M : Type 1} → statement M
+fulandewu-read-spec = tie.close (tie.spec (λ c κs. search needs) (λ c κs. search needs) returns)

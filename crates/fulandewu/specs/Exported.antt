@@ -1,0 +1,146 @@
+-- What the exports leave in the numbers and buffers that they are lent. A number is written exactly where an answer has a value for it;
+-- in every other case it is as it was `before`. The number returned is `readNumber`, `writeNumber`, `convertNumber`, `distanceNumber` or
+-- `nearerNumber` of the same answer: 0 for an answer, else document 01's number.
+use Prim.Native.Nat.{ℕ}
+use mathlib.Core.List.{List}
+use lib.ListN.{length}
+use lib.Ieee.{Float}
+use Rattle.vector_types.specs.Layout.{byteOf, byByte}
+use Rattle.vector_types.specs.Write.{writeOf, leftOf}
+use Rattle.vector_types.specs.declared.ReadAnswer.{ReadAnswer}
+use Rattle.vector_types.specs.declared.ReadAnswer.the-variants.{View as Seen, Refused as Unread}
+use Rattle.vector_types.specs.declared.WriteAnswer.{WriteAnswer}
+use Rattle.vector_types.specs.declared.WriteAnswer.the-variants.{Written, Refused as Unwritten, Short}
+use Rattle.convert.specs.Convert.{convertOf, leftScratch, leftOut}
+use Rattle.convert.specs.declared.ConvertAnswer.{ConvertAnswer}
+use Rattle.convert.specs.declared.ConvertAnswer.the-variants.{Converted, Refused as Unconverted, ShortScratch, Short as ShortOut}
+use Rattle.distance.specs.declared.Which.{Which}
+use Rattle.distance.specs.declared.Which.the-variants.{First, Second, Neither}
+use Rattle.distance.specs.declared.DistanceAnswer.{DistanceAnswer}
+use Rattle.distance.specs.declared.DistanceAnswer.the-variants.{Measured, Refused as Unmeasured}
+use Rattle.nearer.specs.declared.Candidate.{Candidate}
+use Rattle.nearer.specs.declared.Candidate.the-variants.{First as FirstIs, Second as SecondIs}
+use Rattle.nearer.specs.declared.Among.{Among}
+use Rattle.nearer.specs.declared.Among.the-variants.{Probe, First as TheFirst, Second as TheSecond, Neither as NoneOfThem}
+use Rattle.nearer.specs.declared.NearerAnswer.{NearerAnswer}
+use Rattle.nearer.specs.declared.NearerAnswer.the-variants.{Nearer, Refused as Unfound}
+use Rattle.fulandewu.specs.Kinds.{chosenOf}
+use Rattle.fulandewu.specs.declared.kinds.Chosen.{Chosen}
+use Rattle.fulandewu.specs.declared.kinds.Chosen.the-variants.{Kind, Refused}
+
+-- of reading: the type byte, dims and body length of a view
+abbrev pub kindShown : ReadAnswer → ℕ → ℕ
+kindShown (Seen v) before = byteOf (v .kind)
+kindShown (Unread r) before = before
+
+abbrev pub dimsShown : ReadAnswer → ℕ → ℕ
+dimsShown (Seen v) before = v .dims .0
+dimsShown (Unread r) before = before
+
+abbrev pub lengthShown : ReadAnswer → ℕ → ℕ
+lengthShown (Seen v) before = v .length
+lengthShown (Unread r) before = before
+
+-- of writing: the answer to a type byte, dims and body, for a buffer, and what is left in the buffer
+abbrev pub writeAs : Chosen → ℕ → List ℕ → List ℕ → WriteAnswer
+writeAs (Kind k) d body out = writeOf k d body (length out)
+writeAs (Refused r) d body out = Unwritten r
+
+unfoldable pub writtenBy : ℕ → ℕ → List ℕ → List ℕ → WriteAnswer
+writtenBy byte d body out = writeAs (chosenOf (byByte byte)) d body out
+
+abbrev pub leftAs : Chosen → ℕ → List ℕ → List ℕ → List ℕ
+leftAs (Kind k) d body out = leftOf k d body out
+leftAs (Refused r) d body out = out
+
+unfoldable pub leftBy : ℕ → ℕ → List ℕ → List ℕ → List ℕ
+leftBy byte d body out = leftAs (chosenOf (byByte byte)) d body out
+
+-- the length of a blob that is written, and that of one that did not fit: 15
+abbrev pub lengthWritten : WriteAnswer → ℕ → ℕ
+lengthWritten (Written n) before = n
+lengthWritten (Unwritten r) before = before
+lengthWritten (Short need) before = before
+
+abbrev pub lengthNeeded : WriteAnswer → ℕ → ℕ
+lengthNeeded (Written n) before = before
+lengthNeeded (Unwritten r) before = before
+lengthNeeded (Short need) before = need
+
+-- of converting: the answer to a blob and a type byte, for two buffers, and what is left in each
+abbrev pub convertAs : Chosen → List ℕ → List ℕ → List ℕ → ConvertAnswer
+convertAs (Kind t) blob scratch out = convertOf blob t (length scratch) (length out)
+convertAs (Refused r) blob scratch out = Unconverted r
+
+unfoldable pub convertedBy : List ℕ → ℕ → List ℕ → List ℕ → ConvertAnswer
+convertedBy blob byte scratch out = convertAs (chosenOf (byByte byte)) blob scratch out
+
+abbrev pub scratchAs : Chosen → List ℕ → List ℕ → List ℕ → List ℕ
+scratchAs (Kind t) blob scratch out = leftScratch blob t scratch (length out)
+scratchAs (Refused r) blob scratch out = scratch
+
+unfoldable pub scratchBy : List ℕ → ℕ → List ℕ → List ℕ → List ℕ
+scratchBy blob byte scratch out = scratchAs (chosenOf (byByte byte)) blob scratch out
+
+abbrev pub outAs : Chosen → List ℕ → List ℕ → List ℕ → List ℕ
+outAs (Kind t) blob scratch out = leftOut blob t (length scratch) out
+outAs (Refused r) blob scratch out = out
+
+unfoldable pub outBy : List ℕ → ℕ → List ℕ → List ℕ → List ℕ
+outBy blob byte scratch out = outAs (chosenOf (byByte byte)) blob scratch out
+
+-- the dims and the length of a new body, and how long the buffer would have to be that is too short: 17 or 15
+abbrev pub dimsMade : ConvertAnswer → ℕ → ℕ
+dimsMade (Converted v) before = v .dims .0
+dimsMade (Unconverted r) before = before
+dimsMade (ShortScratch need) before = before
+dimsMade (ShortOut need) before = before
+
+abbrev pub lengthMade : ConvertAnswer → ℕ → ℕ
+lengthMade (Converted v) before = v .length
+lengthMade (Unconverted r) before = before
+lengthMade (ShortScratch need) before = before
+lengthMade (ShortOut need) before = before
+
+abbrev pub roomNeeded : ConvertAnswer → ℕ → ℕ
+roomNeeded (Converted v) before = before
+roomNeeded (Unconverted r) before = before
+roomNeeded (ShortScratch need) before = need
+roomNeeded (ShortOut need) before = need
+
+-- of a distance: the distance, and the blob that a refusal is about
+abbrev pub whichByte : Which → ℕ
+whichByte First = 1
+whichByte Second = 2
+whichByte Neither = 0
+
+abbrev pub distanceMeasured : DistanceAnswer → Float → Float
+distanceMeasured (Measured x) before = x
+distanceMeasured (Unmeasured r w) before = before
+
+abbrev pub whichRefused : DistanceAnswer → ℕ → ℕ
+whichRefused (Measured x) before = before
+whichRefused (Unmeasured r w) before = whichByte w
+
+-- of the nearer of two: the candidate and its distance, and the blob that a refusal is about
+abbrev pub candidateByte : Candidate → ℕ
+candidateByte FirstIs = 1
+candidateByte SecondIs = 2
+
+abbrev pub amongByte : Among → ℕ
+amongByte Probe = 3
+amongByte TheFirst = 1
+amongByte TheSecond = 2
+amongByte NoneOfThem = 0
+
+abbrev pub candidateChosen : NearerAnswer → ℕ → ℕ
+candidateChosen (Nearer n) before = candidateByte (n .candidate)
+candidateChosen (Unfound r w) before = before
+
+abbrev pub distanceChosen : NearerAnswer → Float → Float
+distanceChosen (Nearer n) before = n .distance
+distanceChosen (Unfound r w) before = before
+
+abbrev pub amongRefused : NearerAnswer → ℕ → ℕ
+amongRefused (Nearer n) before = before
+amongRefused (Unfound r w) before = amongByte w

@@ -1,0 +1,45 @@
+// The bytes that name the kinds.
+ghost use mathlib.Core.Path.{_≡_};
+ghost use Rattle.vector_types.specs.Layout.{byteOf, byByte};
+ghost use Rattle.fulandewu.specs.Kinds.{chosenOf};
+use vector_types::Refusal;
+use vector_types::VectorType;
+
+// The kind that a byte names, or the reader's refusal of the byte.
+pub enum Chosen {
+    Kind(VectorType),
+    Refused(Refusal),
+}
+
+pub(crate) fn byte_of(kind: VectorType) -> u8
+    ensures { λ r. ⌜ r ≡ byteOf kind ⌝ }
+{
+    match kind {
+        VectorType::Float32Dense => 1,
+        VectorType::Float64Dense => 2,
+        VectorType::Float32Sparse => 9,
+        VectorType::Float1Bit => 3,
+        VectorType::Float8 => 4,
+    }
+}
+
+fn refuse(number: u8) -> Chosen
+    ensures { λ r. ⌜ r ≡ Chosen.Refused (record { number = number }) ⌝ }
+{
+    Chosen::Refused(Refusal { number })
+}
+
+pub(crate) fn kind_of(byte: u8) -> Chosen
+    ensures { λ r. ⌜ r ≡ chosenOf (byByte byte) ⌝ }
+{
+    match byte {
+        1 => Chosen::Kind(VectorType::Float32Dense),
+        2 => Chosen::Kind(VectorType::Float64Dense),
+        3 => Chosen::Kind(VectorType::Float1Bit),
+        4 => Chosen::Kind(VectorType::Float8),
+        5 => refuse(2),
+        6 => refuse(2),
+        9 => Chosen::Kind(VectorType::Float32Sparse),
+        _ => refuse(3),
+    }
+}

@@ -1,0 +1,23 @@
+// What C and Rust programs call: reading, writing, converting, the distances and the nearer of two.
+// Each export answers document 01's number of a refusal, 0 where there is none. It hands a value out
+// through a lent number, which it writes only where there is such a value.
+mod converting;
+mod distances;
+mod kinds;
+mod nearest;
+mod numbers;
+mod reading;
+mod writing;
+
+pub use converting::fulandewu_convert;
+pub use distances::fulandewu_distance_cos;
+pub use distances::fulandewu_distance_dot;
+pub use distances::fulandewu_distance_jaccard;
+pub use distances::fulandewu_distance_l2;
+pub use nearest::fulandewu_nearer_cos;
+pub use nearest::fulandewu_nearer_dot;
+pub use nearest::fulandewu_nearer_jaccard;
+pub use nearest::fulandewu_nearer_l2;
+pub use reading::fulandewu_read;
+pub use reading::fulandewu_read_strict;
+pub use writing::fulandewu_write;

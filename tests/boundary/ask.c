@@ -1,0 +1,154 @@
+/* Guarded calls: see ask.h. */
+#include "ask.h"
+
+#include <string.h>
+
+#include "../../include/fulandewu.h"
+#include "lent.h"
+
+const char *const EXPORT_NAMES[EXPORTS] = {
+    "fulandewu_read", "fulandewu_read_strict", "fulandewu_write", "fulandewu_convert",
+    "fulandewu_distance_cos", "fulandewu_distance_l2", "fulandewu_distance_dot", "fulandewu_distance_jaccard",
+    "fulandewu_nearer_cos", "fulandewu_nearer_l2", "fulandewu_nearer_dot", "fulandewu_nearer_jaccard",
+};
+
+unsigned long calls;
+unsigned long seen[EXPORTS][REFUSALS];
+
+static const char *const NUMBER_NAMES[NUMBERS] = {"kind", "dims", "length", "written", "needed", "distance", "nearer",
+                                                  "which"};
+static const size_t SIZES[NUMBERS] = {1, sizeof(size_t), sizeof(size_t), sizeof(size_t), sizeof(size_t),
+                                      sizeof(double), 1, 1};
+
+/* The three ways in which everything is lent: against either guarded page, and at an odd address with
+ * NULL for what is empty. What is to be written holds another byte each time. */
+static const struct way {
+    enum place bytes, numbers;
+    uint8_t fill;
+    int empty_is_null;
+} WAYS[3] = {{AT_START, AT_START, 0xa5, 0}, {AT_END, AT_END, 0x5a, 0}, {ODD, AT_START, 0x3c, 1}};
+
+struct call {
+    const uint8_t *bytes[3];
+    uint8_t *scratch, *out;
+    void *number[NUMBERS];
+};
+
+typedef uint32_t reader(const uint8_t *, size_t, uint8_t *, size_t *, size_t *);
+typedef uint32_t measure(const uint8_t *, size_t, const uint8_t *, size_t, double *, uint8_t *);
+typedef uint32_t chooser(const uint8_t *, size_t, const uint8_t *, size_t, const uint8_t *, size_t,
+                         uint8_t *, double *, uint8_t *);
+
+static reader *const READERS[] = {fulandewu_read, fulandewu_read_strict};
+static measure *const MEASURES[] = {fulandewu_distance_cos, fulandewu_distance_l2, fulandewu_distance_dot,
+                                    fulandewu_distance_jaccard};
+static chooser *const CHOOSERS[] = {fulandewu_nearer_cos, fulandewu_nearer_l2, fulandewu_nearer_dot,
+                                    fulandewu_nearer_jaccard};
+
+static uint32_t call_export(const struct request *r, const struct call *c) {
+    const uint8_t *const *b = c->bytes;
+    const struct bytes *l = r->bytes;
+    void *const *n = c->number;
+    calls++;
+    if (r->export <= READ_STRICT)
+        return READERS[r->export - READ](b[0], l[0].length, n[KIND], n[DIMS], n[LENGTH]);
+    if (r->export == WRITE)
+        return fulandewu_write(r->kind, r->dims, b[0], l[0].length, c->out, r->out, n[WRITTEN], n[NEEDED]);
+    if (r->export == CONVERT)
+        return fulandewu_convert(b[0], l[0].length, r->kind, c->scratch, r->scratch, c->out, r->out,
+                                 n[DIMS], n[LENGTH], n[NEEDED]);
+    if (r->export <= DISTANCE_JACCARD)
+        return MEASURES[r->export - DISTANCE_COS](b[0], l[0].length, b[1], l[1].length, n[DISTANCE], n[WHICH]);
+    return CHOOSERS[r->export - NEARER_COS](b[0], l[0].length, b[1], l[1].length, b[2], l[2].length,
+                                            n[NEARER], n[DISTANCE], n[WHICH]);
+}
+
+/* The numbers that an answer or a refusal writes, as a set. */
+static unsigned told_by(enum export export, uint32_t refusal) {
+    int short_of = refusal == FULANDEWU_OUTPUT_TOO_SHORT || refusal == FULANDEWU_SCRATCH_TOO_SHORT;
+    if (export <= READ_STRICT) return refusal ? 0 : 1u << KIND | 1u << DIMS | 1u << LENGTH;
+    if (export == WRITE) return short_of ? 1u << NEEDED : refusal ? 0 : 1u << WRITTEN;
+    if (export == CONVERT) return short_of ? 1u << NEEDED : refusal ? 0 : 1u << DIMS | 1u << LENGTH;
+    if (export <= DISTANCE_JACCARD) return refusal ? 1u << WHICH : 1u << DISTANCE;
+    return refusal ? 1u << WHICH : 1u << NEARER | 1u << DISTANCE;
+}
+
+/* How many first bytes of the buffers an answer writes. */
+static size_t output_of(const struct request *r, const struct answer *a) {
+    if (a->refusal) return 0;
+    return r->export == WRITE ? a->number[WRITTEN] : r->export == CONVERT ? a->number[LENGTH] : 0;
+}
+static size_t scratch_of(const struct request *r, const struct answer *a) {
+    struct bytes blob = r->bytes[0];
+    int sparse = blob.length % 2 == 1 && blob.at[blob.length - 1] == FULANDEWU_FLOAT32_SPARSE;
+    int packed = r->kind == FULANDEWU_FLOAT1BIT || r->kind == FULANDEWU_FLOAT8;
+    return r->export == CONVERT && !a->refusal && sparse && packed ? 4 * a->number[DIMS] : 0;
+}
+
+static struct call lend_all(const struct request *r, const struct way *way) {
+    struct call c;
+    for (int i = 0; i < 3; i++) {
+        c.bytes[i] = lend_bytes((enum room)(BYTES_1 + i), way->bytes, r->bytes[i].at, r->bytes[i].length);
+        if (way->empty_is_null && r->bytes[i].length == 0) c.bytes[i] = NULL;
+    }
+    c.scratch = lend_buffer(SCRATCH, way->bytes, r->scratch, way->fill);
+    c.out = lend_buffer(OUTPUT, way->bytes, r->out, way->fill);
+    if (way->empty_is_null && r->scratch == 0) c.scratch = NULL;
+    if (way->empty_is_null && r->out == 0) c.out = NULL;
+    for (int n = 0; n < NUMBERS; n++)
+        c.number[n] = lend_buffer((enum room)(NUMBER_1 + n), way->numbers, SIZES[n], way->fill);
+    return c;
+}
+
+/* The numbers that are told; every other one holds what it held. */
+static void hear(struct answer *a, const struct call *c, unsigned told, uint8_t fill) {
+    for (int n = 0; n < NUMBERS; n++) {
+        if (!(told >> n & 1)) {
+            untouched_from((enum room)(NUMBER_1 + n), 0);
+            continue;
+        }
+        uint64_t before = 0;
+        memset(&before, fill, SIZES[n]);
+        memcpy(&a->number[n], c->number[n], SIZES[n]);
+        if (a->number[n] == before) fail("%s is not written", NUMBER_NAMES[n]);
+    }
+}
+
+static struct answer ask_one_way(const struct request *r, const struct way *way, uint8_t *kept) {
+    struct answer a;
+    struct call c = lend_all(r, way);
+    memset(&a, 0, sizeof a);
+    a.refusal = call_export(r, &c);
+    if (a.refusal >= REFUSALS) fail("the result is %lu, no refusal's number", (unsigned long)a.refusal);
+    hear(&a, &c, told_by(r->export, a.refusal), way->fill);
+    a.out.length = output_of(r, &a);
+    a.scratch.length = scratch_of(r, &a);
+    untouched_from(OUTPUT, a.out.length);
+    untouched_from(SCRATCH, a.scratch.length);
+    a.out.at = kept;
+    a.scratch.at = kept + a.out.length;
+    if (a.out.length) memcpy(kept, c.out, a.out.length);
+    if (a.scratch.length) memcpy(kept + a.out.length, c.scratch, a.scratch.length);
+    take_back();
+    return a;
+}
+
+static int equal(struct bytes a, struct bytes b) {
+    return a.length == b.length && (a.length == 0 || memcmp(a.at, b.at, a.length) == 0);
+}
+
+struct answer ask(struct request request) {
+    static uint8_t kept[2][1200000];
+    struct answer first;
+    now_calling = EXPORT_NAMES[request.export];
+    first = ask_one_way(&request, &WAYS[0], kept[0]);
+    for (int way = 1; way < 3; way++) {
+        struct answer again = ask_one_way(&request, &WAYS[way], kept[1]);
+        if (again.refusal != first.refusal) fail("another result at another place");
+        if (memcmp(again.number, first.number, sizeof first.number) != 0) fail("other numbers at another place");
+        if (!equal(again.out, first.out) || !equal(again.scratch, first.scratch))
+            fail("other bytes at another place");
+    }
+    seen[request.export][first.refusal]++;
+    return first;
+}

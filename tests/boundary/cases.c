@@ -1,0 +1,213 @@
+/* Cases beside the stored lines: see cases.h. */
+#include "cases.h"
+
+#include <stdio.h>
+#include <string.h>
+
+#include "../../include/fulandewu.h"
+#include "ask.h"
+#include "lent.h"
+
+enum { ROOM = 530000, TOO_LONG = FULANDEWU_LONGEST + 1 };
+
+static uint8_t zeros[ROOM];
+
+static const struct bytes TOO_LONG_BLOB = {zeros, TOO_LONG};
+
+/* Small vectors of two dims each, and what is refused in one way or another. */
+static const uint8_t DENSE[] = {0, 0, 0x70, 0x42, 0, 0, 0xa0, 0x42};
+static const uint8_t NO_NUMBERS[] = {0, 0, 0xc0, 0x7f, 0, 0, 0xc0, 0x7f};
+static const uint8_t ONE_BIT[] = {0x03, 0x0e, FULANDEWU_FLOAT1BIT};
+static const uint8_t SPARSE[] = {2, 0, 0, 0, FULANDEWU_FLOAT32_SPARSE};
+static const uint8_t LONGER[] = {0, 0, 0x70, 0x42, 0, 0, 0xa0, 0x42, 0, 0, 0xa0, 0x42};
+
+#define BYTES(array) ((struct bytes){array, sizeof array})
+
+/* A blob refused by each of the reader's numbers but 1. */
+static const uint8_t REFUSED_2[] = {5}, REFUSED_3[] = {7}, REFUSED_4[] = {3}, REFUSED_5[] = {0xaa, 0x11, 3},
+                     REFUSED_6[] = {0xaa, 7, 3}, REFUSED_7[] = {0xaa, 0x10, 3},
+                     REFUSED_8[] = {0, 0, 0x80, 0x3f, 2, 0, 0, 0, 2, 0, 0, 0, 9}, REFUSED_9[] = {1, 0, 1, 0, 9};
+static const struct bytes REFUSED[10] = {
+    {NULL, 0},         {zeros, TOO_LONG}, {REFUSED_2, 1}, {REFUSED_3, 1},  {REFUSED_4, 1},
+    {REFUSED_5, 3},    {REFUSED_6, 3},    {REFUSED_7, 3}, {REFUSED_8, 13}, {REFUSED_9, 5},
+};
+
+static struct answer expect(struct request request, uint32_t refusal) {
+    struct answer a = ask(request);
+    if (a.refusal != refusal) fail("the result is %u and not %u", (unsigned)a.refusal, (unsigned)refusal);
+    return a;
+}
+
+static void expect_which(struct request request, uint32_t refusal, uint64_t which) {
+    struct answer a = expect(request, refusal);
+    if (a.number[WHICH] != which) fail("refusal %u is not about blob %u", (unsigned)refusal, (unsigned)which);
+}
+
+static struct request on(enum export export, struct bytes a, struct bytes b, struct bytes c) {
+    return (struct request){.export = export, .bytes = {a, b, c}};
+}
+
+/* Each of the reader's refusals, of every blob of every export. */
+static void reader_refusals(void) {
+    const struct bytes good = BYTES(DENSE);
+    now_from = "what the reader refuses";
+    for (uint32_t n = 1; n <= 9; n++) {
+        struct bytes bad = REFUSED[n];
+        struct request convert = {.export = CONVERT, .bytes = {bad}, .kind = FULANDEWU_FLOAT32_DENSE};
+        expect(on(READ, bad, REFUSED[0], REFUSED[0]), n);
+        expect(on(READ_STRICT, bad, REFUSED[0], REFUSED[0]), n);
+        expect(convert, n);
+        for (enum export e = DISTANCE_COS; e <= DISTANCE_JACCARD; e++) {
+            expect_which(on(e, bad, good, REFUSED[0]), n, FULANDEWU_FIRST);
+            expect_which(on(e, good, bad, REFUSED[0]), n, FULANDEWU_SECOND);
+            expect_which(on(e, bad, REFUSED[3], REFUSED[0]), n, FULANDEWU_FIRST);
+        }
+        for (enum export e = NEARER_COS; e <= NEARER_JACCARD; e++) {
+            expect_which(on(e, bad, good, good), n, FULANDEWU_PROBE);
+            expect_which(on(e, good, bad, good), n, FULANDEWU_FIRST);
+            expect_which(on(e, good, good, bad), n, FULANDEWU_SECOND);
+            expect_which(on(e, bad, REFUSED[3], REFUSED[2]), n, FULANDEWU_PROBE);
+        }
+    }
+}
+
+/* The refusals of pairs, which are about neither blob. */
+static void pair_refusals(void) {
+    const struct bytes dense = BYTES(DENSE), bits = BYTES(ONE_BIT), none = BYTES(NO_NUMBERS);
+    now_from = "what pairs are refused";
+    for (int d = 0; d < 4; d++) {
+        enum export distance = (enum export)(DISTANCE_COS + d), nearer = (enum export)(NEARER_COS + d);
+        expect_which(on(distance, dense, BYTES(LONGER), REFUSED[0]), FULANDEWU_DIMS_DIFFER, FULANDEWU_NEITHER);
+        expect_which(on(distance, dense, BYTES(SPARSE), REFUSED[0]), FULANDEWU_KINDS_DIFFER, FULANDEWU_NEITHER);
+        expect_which(on(nearer, dense, dense, BYTES(LONGER)), FULANDEWU_DIMS_DIFFER, FULANDEWU_NEITHER);
+        expect_which(on(nearer, dense, BYTES(SPARSE), dense), FULANDEWU_KINDS_DIFFER, FULANDEWU_NEITHER);
+    }
+    for (int d = 0; d < 3; d++)
+        expect_which(on((enum export)(NEARER_COS + d), dense, none, none), FULANDEWU_BOTH_DISTANCES_NAN,
+                     FULANDEWU_NEITHER);
+    expect_which(on(NEARER_JACCARD, BYTES(SPARSE), BYTES(SPARSE), BYTES(SPARSE)), FULANDEWU_BOTH_DISTANCES_NAN,
+                 FULANDEWU_NEITHER);
+    expect_which(on(DISTANCE_L2, bits, bits, REFUSED[0]), FULANDEWU_L2_OF_FLOAT1BIT, FULANDEWU_NEITHER);
+    expect_which(on(NEARER_L2, bits, bits, bits), FULANDEWU_L2_OF_FLOAT1BIT, FULANDEWU_NEITHER);
+}
+
+static int names_a_kind(unsigned byte) { return (byte >= 1 && byte <= 4) || byte == 9; }
+
+/* All 256 bytes as a kind. One that names none is refused before anything else is looked at. */
+static void kind_bytes(void) {
+    now_from = "the bytes that name kinds";
+    for (unsigned byte = 0; byte < 256; byte++) {
+        uint32_t refusal = byte == 5 || byte == 6 ? FULANDEWU_TYPE_BYTE_5_OR_6 : FULANDEWU_TYPE_BYTE_UNKNOWN;
+        struct request write = {.export = WRITE, .kind = (uint8_t)byte, .dims = SIZE_MAX, .out = 9};
+        struct request convert = {.export = CONVERT, .bytes = {TOO_LONG_BLOB}, .kind = (uint8_t)byte, .out = 9};
+        expect(write, names_a_kind(byte) ? FULANDEWU_DIMS_OVER_LIMIT : refusal);
+        expect(convert, names_a_kind(byte) ? FULANDEWU_LENGTH_OVER_LIMIT : refusal);
+    }
+}
+
+/* What the writer refuses, each tested before the next. */
+static void writer_refusals(void) {
+    static const uint8_t stray[] = {0, 0, 0x80, 0x3f, 2, 0, 0, 0};
+    const struct bytes empty = {zeros, 0}, odd = {zeros, 3}, endless = {zeros, 8 * 65537}, eight = {zeros, 8};
+    struct request r = {.export = WRITE, .kind = FULANDEWU_FLOAT32_SPARSE, .dims = 65537, .bytes = {odd}};
+    now_from = "what the writer refuses";
+    expect(r, FULANDEWU_DIMS_OVER_LIMIT);
+    r.dims = 2;
+    expect(r, FULANDEWU_BODY_LENGTH_UNFIT);
+    r.bytes[0] = endless;
+    r.dims = 0;
+    expect(r, FULANDEWU_LENGTH_OVER_LIMIT);
+    r.bytes[0] = BYTES(stray);
+    r.dims = 2;
+    expect(r, FULANDEWU_INDEX_NOT_BELOW_DIMS);
+    r = (struct request){.export = WRITE, .kind = FULANDEWU_FLOAT1BIT, .bytes = {empty}};
+    expect(r, FULANDEWU_WRITER_DIMS_0);
+    r = (struct request){.export = WRITE, .kind = FULANDEWU_FLOAT8, .bytes = {eight}};
+    expect(r, FULANDEWU_WRITER_DIMS_0);
+    r = (struct request){.export = WRITE, .kind = FULANDEWU_FLOAT64_DENSE, .dims = 1, .bytes = {eight}, .out = 8};
+    if (expect(r, FULANDEWU_OUTPUT_TOO_SHORT).number[NEEDED] != 9) fail("needed is not 9");
+}
+
+/* The longest blob, 65,536 entries, and the most dims: read, strictly too, written and converted. */
+static void at_the_limits(void) {
+    static uint8_t longest[ROOM];
+    const struct bytes sparse = {longest, FULANDEWU_LONGEST};
+    now_from = "blobs at the limits";
+    for (uint32_t i = 0; i < FULANDEWU_MOST_DIMS; i++) {
+        uint8_t *value = longest + 4 * i, *index = longest + 4 * (FULANDEWU_MOST_DIMS + i);
+        value[2] = 0x80, value[3] = 0x3f;
+        index[0] = (uint8_t)(i & 255), index[1] = (uint8_t)(i >> 8);
+    }
+    longest[FULANDEWU_LONGEST - 3] = 1;
+    longest[FULANDEWU_LONGEST - 1] = FULANDEWU_FLOAT32_SPARSE;
+    struct answer a = expect(on(READ_STRICT, sparse, REFUSED[0], REFUSED[0]), 0);
+    if (a.number[DIMS] != FULANDEWU_MOST_DIMS || a.number[LENGTH] != FULANDEWU_LONGEST - 5) fail("another view");
+    struct request write = {.export = WRITE, .kind = FULANDEWU_FLOAT32_SPARSE, .dims = FULANDEWU_MOST_DIMS,
+                            .bytes = {{longest, FULANDEWU_LONGEST - 5}}, .out = FULANDEWU_LONGEST};
+    a = expect(write, 0);
+    if (a.out.length != FULANDEWU_LONGEST || memcmp(a.out.at, longest, a.out.length) != 0) fail("another blob");
+    for (unsigned kind = 1; kind <= 9; kind++) {
+        struct request convert = {.export = CONVERT, .bytes = {sparse}, .kind = (uint8_t)kind,
+                                  .scratch = 4 * FULANDEWU_MOST_DIMS, .out = FULANDEWU_LONGEST};
+        if (names_a_kind(kind)) expect(convert, 0);
+    }
+    for (enum export e = DISTANCE_COS; e <= DISTANCE_JACCARD; e++) expect(on(e, sparse, sparse, REFUSED[0]), 0);
+    for (enum export e = NEARER_COS; e <= NEARER_JACCARD; e++) expect(on(e, sparse, sparse, sparse), 0);
+}
+
+/* One blob lent as both of a pair, which its places in `ask` never show; and NaN by its pattern. */
+static void the_same_blob_twice(void) {
+    double distance = -1;
+    uint8_t which = 9, nearer = 9;
+    uint64_t pattern;
+    now_from = "one blob lent twice";
+    now_calling = EXPORT_NAMES[DISTANCE_L2];
+    if (fulandewu_distance_l2(DENSE, sizeof DENSE, DENSE, sizeof DENSE, &distance, &which) != 0 || distance != 0)
+        fail("L2 of a blob and itself is not 0.0");
+    now_calling = EXPORT_NAMES[NEARER_L2];
+    if (fulandewu_nearer_l2(DENSE, sizeof DENSE, DENSE, sizeof DENSE, DENSE, sizeof DENSE, &nearer, &distance,
+                            &which) != 0 || nearer != FULANDEWU_FIRST || distance != 0)
+        fail("a tie does not give the first at 0.0");
+    now_calling = EXPORT_NAMES[DISTANCE_COS];
+    if (fulandewu_distance_cos(SPARSE, sizeof SPARSE, SPARSE, sizeof SPARSE, &distance, &which) != 0)
+        fail("no reading is refused");
+    memcpy(&pattern, &distance, sizeof pattern);
+    if (pattern != 0x7ff8000000000000u) fail("NaN has the pattern %016llx", (unsigned long long)pattern);
+    if (which != 9) fail("an answer writes which");
+    calls += 3;
+}
+
+void try_cases(void) {
+    reader_refusals();
+    pair_refusals();
+    kind_bytes();
+    writer_refusals();
+    at_the_limits();
+    the_same_blob_twice();
+}
+
+/* Document 01's numbers that an export can give, as a set, 0 among them. */
+static uint32_t can_give(enum export export) {
+    const uint32_t reading = 0x3ff; /* 0 to 9 */
+    const uint32_t pairs = reading | 1u << 12 | 1u << 13;
+    uint32_t l2 = export == DISTANCE_L2 || export == NEARER_L2 ? 1u << 14 : 0;
+    if (export == READ) return reading;
+    if (export == READ_STRICT) return reading | 1u << 10 | 1u << 11;
+    if (export == WRITE) return 1u | 1u << 1 | 1u << 2 | 1u << 3 | 1u << 7 | 1u << 8 | 1u << 9 | 1u << 15 | 1u << 16;
+    if (export == CONVERT) return reading | 1u << 15 | 1u << 17;
+    return export <= DISTANCE_JACCARD ? pairs | l2 : pairs | l2 | 1u << 18;
+}
+
+void all_refusals_seen(void) {
+    now_from = "all of the run";
+    for (int e = 0; e < EXPORTS; e++) {
+        now_calling = EXPORT_NAMES[e];
+        printf("%s:", EXPORT_NAMES[e]);
+        for (unsigned n = 0; n < REFUSALS; n++) {
+            if ((can_give((enum export)e) >> n & 1) != (seen[e][n] > 0))
+                fail("%u was %s", n, seen[e][n] ? "given, and cannot be" : "never given");
+            if (seen[e][n]) printf(" %u (%lu)", n, seen[e][n]);
+        }
+        putchar('\n');
+    }
+}

@@ -1,0 +1,10 @@
+/* What no line of the programs can say: limits, bytes that name no kind, blobs lent twice. */
+#ifndef CASES_H
+#define CASES_H
+
+void try_cases(void);
+
+/* Fails unless every export gave exactly the refusals that it can give. */
+void all_refusals_seen(void);
+
+#endif

@@ -1,0 +1,244 @@
+/* Replays: see replay.h. A line is put to an export, its answer is spelled as the program spells it,
+ * and the two spellings are compared. */
+#include "replay.h"
+
+#include <stdio.h>
+#include <stdlib.h>
+#include <string.h>
+
+#include "../../include/fulandewu.h"
+#include "ask.h"
+#include "lent.h"
+
+enum { FIELDS = 6, LONGEST_REPLY = 2200000 };
+
+/* A text of a known length: a line may have any byte in it. */
+struct text {
+    const char *at;
+    size_t length;
+};
+
+static char reply[LONGEST_REPLY];
+static size_t replied;
+
+static struct text contents(const char *folder, const char *name) {
+    char path[4096];
+    snprintf(path, sizeof path, "%s/%s", folder, name);
+    FILE *file = fopen(path, "rb");
+    if (file == NULL || fseek(file, 0, SEEK_END) != 0) fail("cannot read %s", path);
+    size_t length = (size_t)ftell(file);
+    char *at = malloc(length + 1);
+    rewind(file);
+    if (at == NULL || fread(at, 1, length, file) != length) fail("cannot read %s", path);
+    fclose(file);
+    return (struct text){at, length};
+}
+
+/* Cuts a text up to a byte, which goes too, off the front of another. */
+static struct text cut(struct text *from, char end) {
+    const char *found = memchr(from->at, end, from->length);
+    struct text front = {from->at, found ? (size_t)(found - from->at) : from->length};
+    size_t gone = front.length + (found ? 1 : 0);
+    from->at += gone;
+    from->length -= gone;
+    return front;
+}
+
+static int is(struct text text, const char *word) {
+    return text.length == strlen(word) && memcmp(text.at, word, text.length) == 0;
+}
+
+static unsigned nibble(char digit) {
+    const char *digits = "0123456789abcdef", *found = digit ? strchr(digits, digit) : NULL;
+    if (found == NULL) fail("no lower-case hexadecimal, but an answer is stored");
+    return (unsigned)(found - digits);
+}
+
+static struct bytes unhex(struct text text, uint8_t *room) {
+    if (text.length % 2) fail("half a byte, but an answer is stored");
+    for (size_t i = 0; i < text.length / 2; i++)
+        room[i] = (uint8_t)(nibble(text.at[2 * i]) * 16 + nibble(text.at[2 * i + 1]));
+    return (struct bytes){room, text.length / 2};
+}
+
+static uint64_t decimal(struct text text) {
+    uint64_t value = 0;
+    for (size_t i = 0; i < text.length; i++) value = value * 10 + nibble(text.at[i]);
+    return value;
+}
+
+static void answer_text(const char *text) {
+    size_t length = strlen(text);
+    if (replied + length > LONGEST_REPLY) fail("too long an answer");
+    memcpy(reply + replied, text, length);
+    replied += length;
+}
+
+static void answer_hex(struct bytes bytes) {
+    const char *digits = "0123456789abcdef";
+    if (replied + 2 * bytes.length > LONGEST_REPLY) fail("too long an answer");
+    for (size_t i = 0; i < bytes.length; i++) {
+        reply[replied++] = digits[bytes.at[i] / 16];
+        reply[replied++] = digits[bytes.at[i] % 16];
+    }
+}
+
+static void answer_view(char letter, uint64_t kind, uint64_t dims, struct bytes body) {
+    char text[64];
+    snprintf(text, sizeof text, "%c\t%llu\t%llu\t", letter, (unsigned long long)kind, (unsigned long long)dims);
+    answer_text(text);
+    answer_hex(body);
+}
+
+/* A refusal, and the blob that it is about where there are several. */
+static void answer_refusal(const struct answer *a, const char *which) {
+    char text[32];
+    snprintf(text, sizeof text, which ? "R\t%u\t%c" : "R\t%u", (unsigned)a->refusal,
+             which ? which[a->number[WHICH]] : 0);
+    answer_text(text);
+}
+
+static void replay_read(enum export export, struct text *field) {
+    static uint8_t blob[600000];
+    struct request r = {.export = export, .bytes = {unhex(field[1], blob)}};
+    struct answer a = ask(r);
+    if (a.refusal) {
+        answer_refusal(&a, NULL);
+        return;
+    }
+    if (a.number[LENGTH] > r.bytes[0].length) fail("a body longer than its blob");
+    answer_view('V', a.number[KIND], a.number[DIMS], (struct bytes){blob, a.number[LENGTH]});
+}
+
+/* Asks with empty buffers, then with each as long as was said to be needed: one byte less than that is
+ * refused with the same need, and a few more change nothing. */
+static struct answer ask_for_room(struct request *r) {
+    struct answer a = ask(*r);
+    while (a.refusal == FULANDEWU_OUTPUT_TOO_SHORT || a.refusal == FULANDEWU_SCRATCH_TOO_SHORT) {
+        size_t *room = a.refusal == FULANDEWU_OUTPUT_TOO_SHORT ? &r->out : &r->scratch;
+        if (a.number[NEEDED] <= *room) fail("what is needed was there");
+        *room = a.number[NEEDED] - 1;
+        struct answer less = ask(*r);
+        if (less.refusal != a.refusal || less.number[NEEDED] != a.number[NEEDED]) fail("needed, but not always");
+        *room = a.number[NEEDED];
+        a = ask(*r);
+    }
+    if (a.refusal) return a;
+    r->out += 5;
+    r->scratch += 3;
+    return ask(*r);
+}
+
+static void replay_write(struct text *field) {
+    static uint8_t body[600000];
+    struct request r = {.export = WRITE, .kind = (uint8_t)decimal(field[1]), .dims = decimal(field[2])};
+    r.bytes[0] = unhex(field[3], body);
+    struct answer a = ask_for_room(&r);
+    if (a.refusal) {
+        answer_refusal(&a, NULL);
+        return;
+    }
+    answer_text("W\t");
+    answer_hex(a.out);
+}
+
+/* The scratch of a conversion holds the dense body. */
+static void check_scratch(struct request r, struct bytes left) {
+    static uint8_t kept[300000];
+    memcpy(kept, left.at, left.length);
+    r.kind = FULANDEWU_FLOAT32_DENSE;
+    r.scratch = 0;
+    r.out = left.length;
+    struct answer dense = ask(r);
+    if (dense.refusal || dense.out.length != left.length) fail("scratch is not the length of the dense body");
+    if (memcmp(dense.out.at, kept, left.length) != 0) fail("scratch is not the dense body");
+}
+
+static void replay_convert(struct text *field) {
+    static uint8_t blob[600000];
+    struct request r = {.export = CONVERT, .kind = (uint8_t)decimal(field[1])};
+    r.bytes[0] = unhex(field[2], blob);
+    struct answer a = ask_for_room(&r);
+    if (a.refusal) {
+        answer_refusal(&a, NULL);
+        return;
+    }
+    answer_view('C', r.kind, a.number[DIMS], a.out);
+    if (a.scratch.length) check_scratch(r, a.scratch);
+}
+
+static int distance_of(struct text name) {
+    static const char *const names[] = {"cos", "l2", "dot", "jac"};
+    for (int d = 0; d < 4; d++)
+        if (is(name, names[d])) return d;
+    return -1;
+}
+
+static void answer_distance(const struct answer *a) {
+    char text[32];
+    snprintf(text, sizeof text, "%016llx", (unsigned long long)a->number[DISTANCE]);
+    answer_text(text);
+}
+
+static void replay_distance(struct text *field) {
+    static uint8_t blobs[2][600000];
+    struct request r = {.export = (enum export)(DISTANCE_COS + distance_of(field[0]))};
+    for (int i = 0; i < 2; i++) r.bytes[i] = unhex(field[1 + i], blobs[i]);
+    struct answer a = ask(r);
+    if (a.refusal) {
+        answer_refusal(&a, "-ab?");
+        return;
+    }
+    answer_text("D\t");
+    answer_distance(&a);
+}
+
+static void replay_nearer(struct text *field) {
+    static uint8_t blobs[3][600000];
+    int distance = distance_of(field[1]);
+    if (distance < 0) fail("no distance, but an answer is stored");
+    struct request r = {.export = (enum export)(NEARER_COS + distance)};
+    for (int i = 0; i < 3; i++) r.bytes[i] = unhex(field[2 + i], blobs[i]);
+    struct answer a = ask(r);
+    if (a.refusal) {
+        answer_refusal(&a, "-abp");
+        return;
+    }
+    answer_text(a.number[NEARER] == FULANDEWU_FIRST ? "N\t1\t" : "N\t2\t");
+    answer_distance(&a);
+}
+
+/* Puts a line to its export; false for one about rounding. */
+static int replay_line(struct text line) {
+    struct text field[FIELDS];
+    for (int f = 0; f < FIELDS; f++) field[f] = cut(&line, '\t');
+    replied = 0;
+    if (is(field[0], "read")) replay_read(READ, field);
+    else if (is(field[0], "strict")) replay_read(READ_STRICT, field);
+    else if (is(field[0], "write")) replay_write(field);
+    else if (is(field[0], "conv")) replay_convert(field);
+    else if (is(field[0], "near")) replay_nearer(field);
+    else if (distance_of(field[0]) >= 0) replay_distance(field);
+    else return 0;
+    return 1;
+}
+
+struct replayed replay(const char *folder) {
+    struct replayed counts = {0, 0, 0};
+    struct text asked = contents(folder, "stdin"), stored = contents(folder, "stdout");
+    char from[64];
+    now_from = from;
+    for (unsigned long number = 1; asked.length > 0; number++) {
+        struct text line = cut(&asked, '\n'), answer = cut(&stored, '\n');
+        snprintf(from, sizeof from, "line %lu of %.40s", number, folder);
+        if (decimal(cut(&answer, '\t')) != number) fail("the stored answer has another number");
+        if (is(answer, "X")) counts.shapeless++;
+        else if (!replay_line(line)) counts.rounding++;
+        else if (answer.length != replied || memcmp(answer.at, reply, replied) != 0)
+            fail("answered '%.*s', stored '%.*s'", (int)replied, reply, (int)answer.length, answer.at);
+        else counts.lines++;
+    }
+    if (stored.length > 0) fail("more answers than lines");
+    now_from = "no input";
+    return counts;
+}
