@@ -1,6 +1,6 @@
-// The bytes that name the kinds.
+// The kind that a byte names.
 ghost use mathlib.Core.Path.{_≡_};
-ghost use Rattle.vector_types.specs.Layout.{byteOf, byByte};
+ghost use Rattle.vector_types.specs.Layout.{byByte};
 ghost use Rattle.fulandewu.specs.Kinds.{chosenOf};
 use vector_types::Refusal;
 use vector_types::VectorType;
@@ -9,18 +9,6 @@ use vector_types::VectorType;
 pub enum Chosen {
     Kind(VectorType),
     Refused(Refusal),
-}
-
-pub(crate) fn byte_of(kind: VectorType) -> u8
-    ensures { λ r. ⌜ r ≡ byteOf kind ⌝ }
-{
-    match kind {
-        VectorType::Float32Dense => 1,
-        VectorType::Float64Dense => 2,
-        VectorType::Float32Sparse => 9,
-        VectorType::Float1Bit => 3,
-        VectorType::Float8 => 4,
-    }
 }
 
 fn refuse(number: u8) -> Chosen

@@ -3,7 +3,6 @@ ghost use mathlib.Core.Path.{_≡_};
 ghost use Rattle.vector_types.specs.Answers.{readNumber};
 ghost use Rattle.vector_types.specs.Read.{readOf, strictOf};
 ghost use Rattle.fulandewu.specs.Exported.{kindShown, dimsShown, lengthShown};
-use crate::kinds::byte_of;
 use vector_types::ReadAnswer;
 
 // The number of an answer; a view's type byte, dims and body length are written.
@@ -16,7 +15,7 @@ fn tell(answer: ReadAnswer, kind: &mut u8, dims: &mut usize, length: &mut usize)
     match answer {
         ReadAnswer::View(view) => {
             let named = view.kind;
-            *kind = byte_of(named);
+            *kind = vector_types::type_byte(named);
             *dims = view.dims.0;
             *length = view.length;
             0

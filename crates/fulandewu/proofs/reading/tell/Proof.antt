@@ -5,7 +5,7 @@ use Rattle.fulandewu.proofs.reading.tell.Statement.{statement}
 use Rattle.fulandewu.proofs.reading.tell.Tie as tie
 
 returns : tie.Need-returns
-returns c = rw (c .before .before .answer .given .1) (refl, (c .byte-of .ensures, (refl, refl)))
+returns c = rw (c .before .before .answer .given .1) (refl, (c .type-byte .ensures, (refl, refl)))
 
 returns-2 : tie.Need-returns-2
 returns-2 c = rw (c .before .before .answer2 .given .1) (refl, (refl, (refl, refl)))
