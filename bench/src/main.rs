@@ -49,21 +49,40 @@ mod vector {
 // The names under which the six files look for what they import.
 use stand_ins::{alloc, turso_debug_assert, types, LimboError, Result, ValueBlob};
 
-const USAGE: &str = "usage: bench [--markdown]";
+use cases::Case;
+
+const USAGE: &str = "usage: bench [--markdown]
+       bench --list, or --once ours|theirs NUMBER: the cases by number, or one call of one, for bench/model";
 
 #[no_mangle]
 pub extern "C" fn main() -> i32 {
     let arguments: Vec<String> = std::env::args().skip(1).collect();
-    let markdown = match arguments.iter().map(String::as_str).collect::<Vec<_>>()[..] {
-        [] => false,
-        ["--markdown"] => true,
-        _ => {
-            eprintln!("{USAGE}");
-            return 2;
+    match arguments.iter().map(String::as_str).collect::<Vec<_>>()[..] {
+        [] => return run(false),
+        ["--markdown"] => return run(true),
+        ["--list"] => {
+            for (number, case) in cases::all().iter().enumerate() {
+                println!("{number}\t{case}");
+            }
+            return 0;
         }
-    };
+        ["--once", side @ ("ours" | "theirs"), number] => {
+            let number = number.parse().ok();
+            if let Some(case) = number.and_then(|number: usize| cases::all().into_iter().nth(number)) {
+                case.once(side == "ours");
+                return 0;
+            }
+        }
+        _ => {}
+    }
+    eprintln!("{USAGE}");
+    2
+}
+
+/// Compares, then times; the status of the program.
+fn run(markdown: bool) -> i32 {
     let cases = cases::all();
-    let differences: Vec<String> = cases.iter().filter_map(cases::Case::difference).collect();
+    let differences: Vec<String> = cases.iter().filter_map(Case::difference).collect();
     for difference in &differences {
         println!("{difference}");
     }
