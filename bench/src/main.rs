@@ -68,7 +68,9 @@ pub extern "C" fn main() -> i32 {
         }
         ["--once", side @ ("ours" | "theirs"), number] => {
             let number = number.parse().ok();
-            if let Some(case) = number.and_then(|number: usize| cases::all().into_iter().nth(number)) {
+            if let Some(case) =
+                number.and_then(|number: usize| cases::all().into_iter().nth(number))
+            {
                 case.once(side == "ours");
                 return 0;
             }
