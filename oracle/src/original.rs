@@ -97,14 +97,14 @@ fn view(vector: &Vector) -> View {
 }
 
 /// A copy of a blob that starts at a multiple of 8, as the Rust's slices of floats need it.
-struct Aligned {
+pub struct Aligned {
     room: Vec<u8>,
     start: usize,
     length: usize,
 }
 
 impl Aligned {
-    fn new(blob: &[u8]) -> Self {
+    pub fn new(blob: &[u8]) -> Self {
         let length = blob.len();
         let mut room = vec![0; length + 7];
         let start = room.as_ptr().align_offset(8);

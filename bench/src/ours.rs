@@ -1,0 +1,129 @@
+//! Our side: the exports of the archive, `crates/fulandewu`, which start from blobs.
+
+use crate::rules::{Kind, Measure};
+
+pub type Function =
+    unsafe extern "C" fn(*const u8, usize, *const u8, usize, *mut f64, *mut u8) -> u32;
+
+#[link(name = "fulandewu", kind = "static")]
+extern "C" {
+    fn fulandewu_distance_cos(
+        first: *const u8,
+        first_len: usize,
+        second: *const u8,
+        second_len: usize,
+        distance: *mut f64,
+        which: *mut u8,
+    ) -> u32;
+    fn fulandewu_distance_l2(
+        first: *const u8,
+        first_len: usize,
+        second: *const u8,
+        second_len: usize,
+        distance: *mut f64,
+        which: *mut u8,
+    ) -> u32;
+    fn fulandewu_distance_dot(
+        first: *const u8,
+        first_len: usize,
+        second: *const u8,
+        second_len: usize,
+        distance: *mut f64,
+        which: *mut u8,
+    ) -> u32;
+    fn fulandewu_distance_jaccard(
+        first: *const u8,
+        first_len: usize,
+        second: *const u8,
+        second_len: usize,
+        distance: *mut f64,
+        which: *mut u8,
+    ) -> u32;
+    fn fulandewu_convert(
+        blob: *const u8,
+        blob_len: usize,
+        kind: u8,
+        scratch: *mut u8,
+        scratch_len: usize,
+        out: *mut u8,
+        out_len: usize,
+        dims: *mut usize,
+        length: *mut usize,
+        needed: *mut usize,
+    ) -> u32;
+}
+
+pub fn function(measure: Measure) -> Function {
+    match measure {
+        Measure::Cos => fulandewu_distance_cos,
+        Measure::L2 => fulandewu_distance_l2,
+        Measure::Dot => fulandewu_distance_dot,
+        Measure::Jac => fulandewu_distance_jaccard,
+    }
+}
+
+/// A distance, or the number of the refusal.
+pub fn distance(function: Function, first: &[u8], second: &[u8]) -> Result<f64, u32> {
+    let (mut distance, mut which) = (0.0, 0);
+    // SAFETY: each pair is a slice, and the two places are this function's own.
+    let number = unsafe {
+        function(
+            first.as_ptr(),
+            first.len(),
+            second.as_ptr(),
+            second.len(),
+            &mut distance,
+            &mut which,
+        )
+    };
+    if number == 0 {
+        Ok(distance)
+    } else {
+        Err(number)
+    }
+}
+
+/// What a conversion is lent: room for the dense f32 body, and for the greatest result.
+pub struct Room {
+    scratch: Vec<u8>,
+    out: Vec<u8>,
+}
+
+impl Room {
+    pub fn new(dims: usize) -> Self {
+        Self {
+            scratch: vec![0; 4 * dims],
+            out: vec![0; 8 * dims + 8],
+        }
+    }
+}
+
+/// The dims and the body of a conversion's result, or the number of the refusal.
+pub fn convert<'a>(
+    blob: &[u8],
+    target: Kind,
+    room: &'a mut Room,
+) -> Result<(usize, &'a [u8]), u32> {
+    let Room { scratch, out } = room;
+    let (mut dims, mut length, mut needed) = (0, 0, 0);
+    // SAFETY: each pair is a slice, no two overlap, and the three places are this function's own.
+    let number = unsafe {
+        fulandewu_convert(
+            blob.as_ptr(),
+            blob.len(),
+            target as u8,
+            scratch.as_mut_ptr(),
+            scratch.len(),
+            out.as_mut_ptr(),
+            out.len(),
+            &mut dims,
+            &mut length,
+            &mut needed,
+        )
+    };
+    if number == 0 {
+        Ok((dims, &out[..length]))
+    } else {
+        Err(number)
+    }
+}
