@@ -3,8 +3,10 @@
 -- where F is the pattern of the nearer one's distance in sixteen digits, and p, a, b or - is the blob that a refusal is about.
 use Prim.Native.Nat.{ℕ}
 use mathlib.Core.List.{List}
+use lib.ListN.{take, drop}
 use Rattle.lines.specs.Text.{word}
 use Rattle.lines.specs.Fields.{other, spelled}
+use Rattle.distance.specs.declared.Distance.{Distance}
 use Rattle.nearer.specs.Nearer.{nearerOf}
 use Rattle.nearer.specs.declared.Candidate.{Candidate}
 use Rattle.nearer.specs.declared.Candidate.the-variants.{First, Second}
@@ -30,10 +32,17 @@ unfoldable pub nearerText : NearerAnswer → List ℕ
 nearerText (Nearer n) = valueText (markOf (n .candidate)) (n .distance)
 nearerText (Refused r w) = refusalText (r .number) (amongOf w)
 
--- the answer to the blobs that P, A and B spell, where D names a distance
+-- the answer to three blobs that stand one after another in s: the probe ends at i, the first candidate at j
+abbrev pub partsText : Distance → ℕ → ℕ → List ℕ → List ℕ
+partsText m i j s = let both = take j s in nearerText (nearerOf m (take i both) (drop i both) (drop j s))
+
+-- the answer to the probe p and the blobs that A and B spell
+abbrev pub candidatesText : Distance → List ℕ → List ℕ → List ℕ → List ℕ
+candidatesText m p first second = spelled (λ a. spelled (λ b. nearerText (nearerOf m p a b)) second) first
+
+-- the same of the blob that P spells, where D names a distance
 abbrev pub nearBy : Asked → List ℕ → List ℕ → List ℕ → List ℕ
-nearBy (Known m) probe first second =
-    spelled (λ p. spelled (λ a. spelled (λ b. nearerText (nearerOf m p a b)) second) first) probe
+nearBy (Known m) probe first second = spelled (λ p. candidatesText m p first second) probe
 nearBy Unknown probe first second = other
 
 unfoldable pub nearText : List ℕ → List ℕ → List ℕ → List ℕ → List ℕ

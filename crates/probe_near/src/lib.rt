@@ -1,11 +1,12 @@
 // The lines about a probe and two candidates: near.
 ghost use mathlib.Core.Path.{_≡_};
 ghost use Prim.Native.Nat.{_+_, _*_, _≤_};
-ghost use lib.ListN.{length};
+ghost use lib.ListN.{length, take};
 ghost use Rattle.promises.specs.Onto.{onto};
 ghost use Rattle.lines.specs.Parts.{fieldsOf};
 ghost use Rattle.lines.specs.Fields.{four};
-ghost use Rattle.probe_near.specs.Near.{nearerText, nearBy, nearText};
+ghost use Rattle.probe_near.specs.Near.{nearerText, partsText, candidatesText, nearBy, nearText};
+use distance::Distance;
 use lines::text::put_other;
 use nearer::Among;
 use nearer::Candidate;
@@ -38,8 +39,51 @@ fn put_nearer(answer: NearerAnswer, out: &mut [u8]) -> usize
     }
 }
 
+// Puts which candidate is nearer, or a refusal, at the start of out. The probe is the first `probe` of
+// these bytes, the first candidate those up to `pair`, and the second one the rest.
+fn put_blobs(distance: Distance, probe: usize, pair: usize, blobs: &[u8], out: &mut [u8]) -> usize
+    requires { ⌜ probe ≤ pair ⌝ }
+    requires { ⌜ pair ≤ length (now blobs) ⌝ }
+    requires { ⌜ 32 ≤ length (now out) ⌝ }
+    ensures { λ r. ⌜ r ≡ length (partsText distance probe pair (now (blobs .entry))) ⌝ }
+    ensures { λ _. ⌜ now (out .exit) ≡ onto (partsText distance probe pair (now (blobs .entry))) (now (out .entry)) ⌝ }
+{
+    let both = &blobs[..pair];
+    put_nearer(
+        nearer::nearer(distance, &both[..probe], &both[probe..], &blobs[pair..]),
+        out,
+    )
+}
+
+// The answer to near|D|P|A|B, of which D is found, the first `probe` bytes of `spelled` are those that P
+// spells, and these are A and B. The bytes that they spell are put after those, one after the other.
+fn near_candidates(
+    distance: Distance,
+    probe: usize,
+    first: &[u8],
+    second: &[u8],
+    spelled: &mut [u8],
+    out: &mut [u8],
+) -> usize
+    requires { ⌜ 2 * probe + (length (now first) + length (now second)) ≤ 2 * length (now spelled) ⌝ }
+    requires { ⌜ 32 ≤ length (now out) ⌝ }
+    ensures { λ r. ⌜ r ≡ length (candidatesText distance (take probe (now (spelled .entry))) (now (first .entry)) (now (second .entry))) ⌝ }
+    ensures { λ _. ⌜ now (out .exit) ≡ onto (candidatesText distance (take probe (now (spelled .entry))) (now (first .entry)) (now (second .entry))) (now (out .entry)) ⌝ }
+{
+    let m = lines::hex::bytes(first, &mut spelled[probe..]);
+    if 2 * m != first.len() {
+        return put_other(out);
+    }
+    let pair = probe + m;
+    let n = lines::hex::bytes(second, &mut spelled[pair..]);
+    if 2 * n != second.len() {
+        return put_other(out);
+    }
+    put_blobs(distance, probe, pair, &spelled[..pair + n], out)
+}
+
 // The answer to near|D|P|A|B, of which D is found and these are P, A and B. The bytes that they spell
-// are put into `spelled`, one after the other.
+// are put into `spelled`.
 fn near_fields(
     asked: Asked,
     probe: &[u8],
@@ -56,25 +100,11 @@ fn near_fields(
     let Asked::Known(distance) = asked else {
         return put_other(out);
     };
-    let a = lines::hex::bytes(probe, spelled);
-    if 2 * a != probe.len() {
+    let count = lines::hex::bytes(probe, spelled);
+    if 2 * count != probe.len() {
         return put_other(out);
     }
-    let m = lines::hex::bytes(first, &mut spelled[a..]);
-    if 2 * m != first.len() {
-        return put_other(out);
-    }
-    let b = a + m;
-    let n = lines::hex::bytes(second, &mut spelled[b..]);
-    if 2 * n != second.len() {
-        return put_other(out);
-    }
-    let blobs = &spelled[..b + n];
-    let pair = &blobs[..b];
-    put_nearer(
-        nearer::nearer(distance, &pair[..a], &pair[a..], &blobs[b..]),
-        out,
-    )
+    near_candidates(distance, count, first, second, spelled, out)
 }
 
 // The answer to near|D|P|A|B, of which this is D|P|A|B.
