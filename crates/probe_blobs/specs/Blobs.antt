@@ -36,9 +36,12 @@ use Rattle.probe_blobs.specs.declared.Kind.the-variants.{Known, Unknown}
 abbrev pub refusalText : ℕ → List ℕ
 refusalText n = word "R\t" ++ decimalOf n
 
--- a kind, dims and a body, after a mark
+-- a kind and dims after a mark, and a body after these
+abbrev pub headerText : List ℕ → VectorType → ℕ → List ℕ
+headerText mark k d = mark ++ (headOf (byteOf k) ++ headOf d)
+
 abbrev pub vectorText : List ℕ → View → List ℕ → List ℕ
-vectorText mark v body = mark ++ (headOf (byteOf (v .kind)) ++ (headOf (v .dims .0) ++ hexOf body))
+vectorText mark v body = headerText mark (v .kind) (v .dims .0) ++ hexOf body
 
 -- a view of the blob s
 unfoldable pub viewText : ReadAnswer → List ℕ → List ℕ

@@ -7,7 +7,7 @@ ghost use Rattle.lines.specs.Parts.{fieldsOf};
 ghost use Rattle.vector_types.specs.Layout.{longest as longestBlob, byteOf};
 ghost use Rattle.lines.specs.Fields.{two, three};
 ghost use Rattle.probe_blobs.specs.Limits.{answerRoom, scratchRoom, blobRoom};
-ghost use Rattle.probe_blobs.specs.Blobs.{refusalText, vectorText, readerOf, shownText, readText, kindOf, madeText, writtenBy, writeText, convertedText, convertedBy, convText};
+ghost use Rattle.probe_blobs.specs.Blobs.{refusalText, headerText, vectorText, readerOf, shownText, readText, kindOf, madeText, writtenBy, writeText, convertedText, convertedBy, convText};
 use convert::ConvertAnswer;
 use lines::hex::Found;
 use lines::text::put_other;
@@ -52,8 +52,20 @@ fn type_byte(kind: VectorType) -> u64
     }
 }
 
-// Puts a vector at the start of out: a mark, the kind, the dims and the body, the first bytes of
-// these, parted by tabs.
+// Puts what stands before a body at the start of out: a mark, the kind and the dims, parted by tabs.
+fn put_header(mark: &[u8], kind: VectorType, dims: usize, out: &mut [u8]) -> usize
+    requires { ⌜ length (now mark) ≡ 2 ⌝ }
+    requires { ⌜ 44 ≤ length (now out) ⌝ }
+    ensures { λ r. ⌜ r ≡ length (headerText (now (mark .entry)) kind dims) ⌝ }
+    ensures { λ _. ⌜ now (out .exit) ≡ onto (headerText (now (mark .entry)) kind dims) (now (out .entry)) ⌝ }
+    ensures { λ r. ⌜ r ≤ 44 ⌝ }
+{
+    let marked = bytes::copy(mark, out);
+    let named = marked + lines::text::put_head(type_byte(kind), &mut out[marked..]);
+    named + lines::text::put_head(dims as u64, &mut out[named..])
+}
+
+// Puts a vector at the start of out: what stands before the body, and the body, the first of these bytes.
 fn put_vector(mark: &[u8], view: View, bytes: &[u8], out: &mut [u8]) -> usize
     requires { ⌜ length (now mark) ≡ 2 ⌝ }
     requires { ⌜ view .length ≤ length (now bytes) ⌝ }
@@ -65,10 +77,9 @@ fn put_vector(mark: &[u8], view: View, bytes: &[u8], out: &mut [u8]) -> usize
     let kind = view.kind;
     let dims = view.dims;
     let length = view.length;
-    let marked = bytes::copy(mark, out);
-    let named = marked + lines::text::put_head(type_byte(kind), &mut out[marked..]);
-    let sized = named + lines::text::put_head(dims.0 as u64, &mut out[named..]);
-    sized + lines::hex::put_bytes(&bytes[..length], &mut out[sized..])
+    let head = put_header(mark, kind, dims.0, out);
+    let digits = lines::hex::put_bytes(&bytes[..length], &mut out[head..]);
+    head + digits
 }
 
 fn read_by(reader: Reader, blob: &[u8]) -> ReadAnswer
