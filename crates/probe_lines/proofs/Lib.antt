@@ -1,4 +1,3 @@
 -- Laws of the answers
 pub mod Fields
-pub mod BlobTexts
 pub mod Determined

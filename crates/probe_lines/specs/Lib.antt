@@ -1,5 +1,3 @@
 pub mod Limits
-pub mod Blobs
-pub mod Near
 pub mod Line
 pub mod Examples

@@ -1,24 +1,15 @@
 // What vecprobe answers to a line, by its first field.
-mod blobs;
-mod float;
-mod near;
-
 ghost use mathlib.Core.Path.{_≡_};
 ghost use Prim.Native.Nat.{_*_, _≤_};
 ghost use lib.ListN.{length};
 ghost use Rattle.promises.specs.Onto.{onto};
 ghost use Rattle.lines.specs.Parts.{fieldsOf};
-ghost use Rattle.lines.specs.Fields.{two};
-ghost use Rattle.probe_lines.specs.Limits.{limit, scratchRoom, blobRoom};
-ghost use Rattle.probe_lines.specs.Line.{answerOf, verbOf, ofWidth};
-use blobs::Reader;
-use blobs::convert_line;
-use blobs::read_line;
-use blobs::write_line;
-use float::Work;
-use float::computed;
+ghost use Rattle.probe_blobs.specs.Limits.{scratchRoom, blobRoom};
+ghost use Rattle.probe_lines.specs.Limits.{limit};
+ghost use Rattle.probe_lines.specs.Line.{answerOf, answerTo, verbOf};
 use lines::text::put_other;
-use near::near_line;
+use probe_blobs::Reader;
+use probe_floats::Work;
 
 // What a line asks for, by its first field.
 pub enum Verb {
@@ -64,27 +55,6 @@ fn verb_of(word: &[u8]) -> Verb
     Verb::Other
 }
 
-// The answer to root|W|F, of which this is W|F.
-fn root(rest: &[u8], out: &mut [u8]) -> usize
-    requires { ⌜ 18 ≤ length (now out) ⌝ }
-    ensures { λ r. ⌜ r ≡ length (two ofWidth (fieldsOf (now (rest .entry)))) ⌝ }
-    ensures { λ _. ⌜ now (out .exit) ≡ onto (two ofWidth (fieldsOf (now (rest .entry)))) (now (out .entry)) ⌝ }
-{
-    let end = lines::text::field_end(rest);
-    if end == rest.len() {
-        return put_other(out);
-    }
-    let width = &rest[..end];
-    let field = &rest[end + 1..];
-    if check::same(width, b"32") {
-        return computed(Work::Root32, field, out);
-    }
-    if check::same(width, b"64") {
-        return computed(Work::Root64, field, out);
-    }
-    put_other(out)
-}
-
 // As many bytes as a line may have before its newline; no answer has more.
 pub const LIMIT: usize = 1100000;
 
@@ -95,6 +65,33 @@ pub const SPELLED: usize = LIMIT / 2;
 pub const SCRATCH: usize = 4 * vector_types::MOST_DIMS;
 
 pub const BLOB: usize = vector_types::LONGEST;
+
+// Puts the answer to a line, of which the verb is found and this is the rest, at the start of out.
+fn answer_to(
+    verb: Verb,
+    rest: &[u8],
+    spelled: &mut [u8],
+    scratch: &mut [u8],
+    made: &mut [u8],
+    out: &mut [u8],
+) -> usize
+    requires { ⌜ length (now rest) ≤ 2 * length (now spelled) ⌝ }
+    requires { ⌜ length (now scratch) ≡ scratchRoom ⌝ }
+    requires { ⌜ length (now made) ≡ blobRoom ⌝ }
+    requires { ⌜ limit ≤ length (now out) ⌝ }
+    ensures { λ r. ⌜ r ≡ length (answerTo verb (fieldsOf (now (rest .entry)))) ⌝ }
+    ensures { λ _. ⌜ now (out .exit) ≡ onto (answerTo verb (fieldsOf (now (rest .entry)))) (now (out .entry)) ⌝ }
+{
+    match verb {
+        Verb::Root => probe_floats::root_line(rest, out),
+        Verb::Float(work) => probe_floats::float_line(work, rest, out),
+        Verb::Read(reader) => probe_blobs::read_line(reader, rest, spelled, out),
+        Verb::Write => probe_blobs::write_line(rest, spelled, made, out),
+        Verb::Convert => probe_blobs::convert_line(rest, spelled, scratch, made, out),
+        Verb::Near => probe_near::near_line(rest, spelled, out),
+        Verb::Other => put_other(out),
+    }
+}
 
 // Puts the answer to a line at the start of out, and answers its length; the others are room to work in.
 pub fn answer(
@@ -117,13 +114,5 @@ pub fn answer(
     }
     let verb = verb_of(&line[..end]);
     let rest = &line[end + 1..];
-    match verb {
-        Verb::Root => root(rest, out),
-        Verb::Float(work) => computed(work, rest, out),
-        Verb::Read(reader) => read_line(reader, rest, spelled, out),
-        Verb::Write => write_line(rest, spelled, made, out),
-        Verb::Convert => convert_line(rest, spelled, scratch, made, out),
-        Verb::Near => near_line(rest, spelled, out),
-        Verb::Other => put_other(out),
-    }
+    answer_to(verb, rest, spelled, scratch, made, out)
 }

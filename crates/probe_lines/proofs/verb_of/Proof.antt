@@ -9,8 +9,8 @@ use Rattle.lines.proofs.Fields.{named, told}
 use Rattle.probe_lines.specs.Line.{verbOf}
 use Rattle.probe_lines.specs.declared.Verb.{Verb}
 use Rattle.probe_lines.specs.declared.Verb.the-variants.{Root, Float, Read, Write, Convert, Near, Other}
-use Rattle.probe_lines.specs.declared.blobs.Reader.the-variants.{Plain, Strict}
-use Rattle.probe_lines.specs.declared.float.Work.the-variants.{Narrow, Widen, Trunc}
+use Rattle.probe_blobs.specs.declared.Reader.the-variants.{Plain, Strict}
+use Rattle.probe_floats.specs.declared.Work.the-variants.{Narrow, Widen, Trunc}
 use borrow.Author.Needs.{needs}
 use Rattle.probe_lines.proofs.verb_of.Statement.{statement}
 use Rattle.probe_lines.proofs.verb_of.Tie as tie

@@ -2,7 +2,7 @@
 use mathlib.Core.Path.{sym}
 use Prim.Native.Nat.{ℕ}
 use lib.ListN.{length-replicate}
-use Rattle.probe_lines.specs.Limits.{blobRoom}
+use Rattle.probe_blobs.specs.Limits.{blobRoom}
 use Rattle.replies.proofs.running.blob_room.Statement.{statement}
 use Rattle.replies.proofs.running.blob_room.Tie as tie
 

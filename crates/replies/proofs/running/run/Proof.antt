@@ -6,7 +6,8 @@ use native.Mathlib.Omega.{arith}
 use lib.ListN.{length, take}
 use lib.Seq.{length-take-le, length-front}
 use Rattle.lines.specs.declared.stream.Held.{Held}
-use Rattle.probe_lines.specs.Limits.{limit, spelledRoom, scratchRoom, blobRoom}
+use Rattle.probe_blobs.specs.Limits.{scratchRoom, blobRoom}
+use Rattle.probe_lines.specs.Limits.{limit, spelledRoom}
 use borrow.Author.Needs.{needs}
 use Rattle.replies.proofs.running.run.Statement.{statement}
 use Rattle.replies.proofs.running.run.Tie as tie

@@ -2,7 +2,7 @@
 use mathlib.Core.Path.{sym}
 use Prim.Native.Nat.{ℕ}
 use lib.ListN.{length-replicate}
-use Rattle.probe_lines.specs.Limits.{scratchRoom}
+use Rattle.probe_blobs.specs.Limits.{scratchRoom}
 use Rattle.replies.proofs.running.scratch_room.Statement.{statement}
 use Rattle.replies.proofs.running.scratch_room.Tie as tie
 

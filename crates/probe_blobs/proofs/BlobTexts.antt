@@ -1,0 +1,111 @@
+-- Laws of the answers about blobs: what a view, a written blob and a converted one measure, and the fields of a line.
+use mathlib.Core.Path.{_≡_, refl, ap}
+use mathlib.Core.Bool.{Bool, true, false, cond, _&&_}
+use mathlib.Core.List.{List}
+use Prim.Native.Nat.{ℕ, suc, _*_, _<_, _≤_}
+use native.Mathlib.Omega.{arith}
+use lib.Dec.{ltb}
+use lib.ListN.{length, take, drop}
+use lib.Seq.{take-at}
+use borrow.Author.Tests.{ltb-false}
+use Rattle.bytes.specs.Bytes.{indexOf}
+use Rattle.lines.specs.Text.{tab}
+use Rattle.lines.specs.Decimal.{numeralOf}
+use Rattle.lines.specs.Parts.{fieldsOf}
+use Rattle.lines.specs.declared.hex.Found.{Found}
+use Rattle.lines.specs.declared.hex.Found.the-variants.{Number, Nothing}
+use Rattle.vector_types.specs.Layout.{longest}
+use Rattle.vector_types.specs.Read.{readOf}
+use Rattle.vector_types.specs.Parts.{bodyOf}
+use Rattle.vector_types.specs.Write.{blobOf, writeOf, leftOf}
+use Rattle.vector_types.specs.declared.VectorType.{VectorType}
+use Rattle.vector_types.specs.declared.View.{View}
+use Rattle.vector_types.specs.declared.ReadAnswer.{ReadAnswer}
+use Rattle.vector_types.specs.declared.ReadAnswer.the-variants.{View as Seen, Refused as Unread}
+use Rattle.vector_types.specs.declared.WriteAnswer.the-variants.{Written}
+use Rattle.convert.specs.Result.{resultOf}
+use Rattle.convert.specs.Convert.{convertedTo, scratched, answerOf, outBy, convertIn, convertOf, outIn, leftOut}
+use Rattle.convert.specs.declared.ConvertAnswer.{ConvertAnswer}
+use Rattle.convert.specs.declared.ConvertAnswer.the-variants.{Converted, Refused, ShortScratch, Short}
+use Rattle.vector_types.proofs.Views.{told}
+use Rattle.vector_types.proofs.Strict.{strict-plain}
+use Rattle.vector_types.proofs.Written.{writable, written-blob}
+use Rattle.lines.specs.Fields.{one, two, other}
+use Rattle.lines.proofs.Fields.{after, spelled-tab, one-field, two-fields}
+use Rattle.probe_blobs.specs.Blobs.{readerOf, shownText, readText, kindOf, madeText, writtenBy, writeText, newBody, convertedText, convertedBy, convText}
+use Rattle.probe_blobs.specs.declared.Reader.{Reader}
+use Rattle.probe_blobs.specs.declared.Reader.the-variants.{Plain, Strict}
+use Rattle.probe_blobs.specs.declared.Kind.{Kind}
+use Rattle.probe_blobs.specs.declared.Kind.the-variants.{Known, Unknown}
+
+-- ---- what is shown and what is written
+plain-within : (s : List ℕ) (v : View) → readOf s ≡ Seen v → (v .length ≤ length s) × (v .length ≤ longest)
+plain-within s v e = let t = told s v e in (t .within, omega (arith, t .within, t .short))
+
+pub seen-within : (reader : Reader) (s : List ℕ) (v : View) → readerOf reader s ≡ Seen v → (v .length ≤ length s) × (v .length ≤ longest)
+seen-within Plain s v e = plain-within s v e
+seen-within Strict s v e = plain-within s v (strict-plain s v e)
+
+-- the first n bytes of the room are the blob
+pub written-room : (k : VectorType) (d : ℕ) (body made : List ℕ) (n : ℕ) → writeOf k d body (length made) ≡ Written n
+    → (n ≤ longest) × (take n (leftOf k d body made) ≡ blobOf k d body)
+written-room k d body made n e =
+    let (clear, size, left) = written-blob k d body made n e in
+    (omega (arith, writable k d body clear .short, size), left)
+
+-- one more than the length of what was made
+abbrev reach : ConvertAnswer → ℕ
+reach (Converted v) = suc (v .length)
+reach (Refused r) = 0
+reach (ShortScratch need) = 0
+reach (Short need) = 0
+
+fitted : (few over : Bool) (need size : ℕ) (t : VectorType) (d : ℕ) (v : View)
+    → cond few (ShortScratch need) (cond over (Short size) (convertedTo t d size)) ≡ Converted v → (over ≡ false) × (size ≡ v .length)
+fitted true over need size t d v e = let z = ap reach e in absurd (omega arith)
+fitted false true need size t d v e = let z = ap reach e in absurd (omega arith)
+fitted false false need size t d v e = let z = ap reach e in (refl, omega arith)
+
+-- the first bytes of the room are the new body
+module _ (t : VectorType) (scratch : ℕ) (made : List ℕ) (v : View) where
+  made-by : (k : VectorType) (d : ℕ) (body : List ℕ) → answerOf k d body t scratch (length made) ≡ Converted v
+      → (v .length ≤ length made) × (take (v .length) (outBy k d body t scratch made) ≡ resultOf k t d body)
+  unfolding answerOf outBy
+  made-by k d body e =
+      let new = resultOf k t d body in
+      let (fits, size) = fitted (scratched k t && ltb scratch (4 * d)) (ltb (length made) (length new)) (4 * d) (length new) t d v e in
+      (omega (arith, ltb-false (length made) (length new) fits, size), rw e (take-at new (drop (length new) made) (v .length) size))
+
+  made-in : (r : ReadAnswer) (body : List ℕ) → convertIn r body t scratch (length made) ≡ Converted v
+      → (v .length ≤ length made) × (take (v .length) (outIn r body t scratch made) ≡ newBody t r body)
+  made-in (Seen w) body e = made-by (w .kind) (w .dims .0) body e
+  made-in (Unread r) body e = let z = ap reach e in absurd (omega arith)
+
+  pub converted-room : (s : List ℕ) → convertOf s t scratch (length made) ≡ Converted v
+      → (v .length ≤ length made) × (take (v .length) (leftOut s t scratch made) ≡ newBody t (readOf s) (bodyOf s))
+  unfolding convertOf leftOut
+  converted-room s e = made-in (readOf s) (bodyOf s) e
+
+-- ---- H is the last field
+pub last-read : (reader : Reader) (s : List ℕ) → one (readText reader) (fieldsOf s) ≡ readText reader s
+unfolding readText
+last-read reader s = one-field (readText reader) s (spelled-tab (shownText reader) s)
+
+written-tab : (kind : Kind) (number : Found) (s : List ℕ) → indexOf tab s < length s → writtenBy kind number s ≡ other
+written-tab (Known k) (Number d) s less = spelled-tab (madeText k d) s less
+written-tab (Known k) Nothing s less = refl
+written-tab Unknown number s less = refl
+
+pub write-fields : (kind s : List ℕ) (stop : ℕ) → stop ≡ indexOf tab s → stop < length s
+    → writeText kind (take stop s) (after stop s) ≡ two (writeText kind) (fieldsOf s)
+unfolding writeText
+write-fields kind s stop e less = two-fields (writeText kind) s stop e less (written-tab (kindOf kind) (numeralOf 10 (take stop s)))
+
+converted-tab : (kind : Kind) (s : List ℕ) → indexOf tab s < length s → convertedBy kind s ≡ other
+converted-tab (Known t) s less = spelled-tab (convertedText t) s less
+converted-tab Unknown s less = refl
+
+pub conv-fields : (s : List ℕ) (end : ℕ) → end ≡ indexOf tab s → end < length s
+    → convText (take end s) (after end s) ≡ two convText (fieldsOf s)
+unfolding convText
+conv-fields s end e less = two-fields convText s end e less (converted-tab (kindOf (take end s)))

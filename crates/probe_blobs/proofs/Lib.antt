@@ -1,0 +1,3 @@
+-- Laws of the answers about blobs
+pub mod BlobTexts
+pub mod Determined

@@ -1,0 +1,14 @@
+-- The rooms for an answer and to work in.
+use Prim.Native.Nat.{ℕ, _+_, _*_}
+use Rattle.vector_types.specs.Layout.{longest as longestBlob, mostDims}
+
+-- no answer has more bytes: a mark, a kind and dims, and the longest blob in hexadecimal
+abbrev pub answerRoom : ℕ
+answerRoom = 44 + 2 * longestBlob
+
+-- room for the elements that a conversion goes through, and for the longest blob
+abbrev pub scratchRoom : ℕ
+scratchRoom = 4 * mostDims
+
+abbrev pub blobRoom : ℕ
+blobRoom = longestBlob

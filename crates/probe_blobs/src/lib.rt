@@ -1,0 +1,280 @@
+// The lines about one blob: read, strict, write, conv.
+ghost use mathlib.Core.Path.{_≡_};
+ghost use Prim.Native.Nat.{_*_, _≤_};
+ghost use lib.ListN.{length, take};
+ghost use Rattle.promises.specs.Onto.{onto};
+ghost use Rattle.lines.specs.Parts.{fieldsOf};
+ghost use Rattle.vector_types.specs.Layout.{longest as longestBlob, byteOf};
+ghost use Rattle.lines.specs.Fields.{two, three};
+ghost use Rattle.probe_blobs.specs.Limits.{answerRoom, scratchRoom, blobRoom};
+ghost use Rattle.probe_blobs.specs.Blobs.{refusalText, headerText, vectorText, readerOf, shownText, readText, kindOf, madeText, writtenBy, writeText, convertedText, convertedBy, convText};
+use convert::ConvertAnswer;
+use lines::hex::Found;
+use lines::text::put_other;
+use vector_types::Dims;
+use vector_types::ReadAnswer;
+use vector_types::VectorType;
+use vector_types::View;
+use vector_types::WriteAnswer;
+
+// Which of the two readers is asked.
+pub enum Reader {
+    Plain,
+    Strict,
+}
+
+// The kind that a field names, if any.
+pub enum Kind {
+    Known(VectorType),
+    Unknown,
+}
+
+// Puts R, a tab and the number of a refusal at the start of out, and answers their length.
+fn put_refusal(number: u8, out: &mut [u8]) -> usize
+    requires { ⌜ 22 ≤ length (now out) ⌝ }
+    ensures { λ r. ⌜ r ≡ length (refusalText number) ⌝ }
+    ensures { λ _. ⌜ now (out .exit) ≡ onto (refusalText number) (now (out .entry)) ⌝ }
+{
+    let head = bytes::copy(b"R\t", out);
+    let digits = lines::text::put_decimal(number as u64, &mut out[head..]);
+    head + digits
+}
+
+fn type_byte(kind: VectorType) -> u64
+    ensures { λ r. ⌜ r ≡ byteOf kind ⌝ }
+{
+    match kind {
+        VectorType::Float32Dense => 1,
+        VectorType::Float64Dense => 2,
+        VectorType::Float32Sparse => 9,
+        VectorType::Float1Bit => 3,
+        VectorType::Float8 => 4,
+    }
+}
+
+// Puts what stands before a body at the start of out: a mark, the kind and the dims, parted by tabs.
+fn put_header(mark: &[u8], kind: VectorType, dims: usize, out: &mut [u8]) -> usize
+    requires { ⌜ length (now mark) ≡ 2 ⌝ }
+    requires { ⌜ 44 ≤ length (now out) ⌝ }
+    ensures { λ r. ⌜ r ≡ length (headerText (now (mark .entry)) kind dims) ⌝ }
+    ensures { λ _. ⌜ now (out .exit) ≡ onto (headerText (now (mark .entry)) kind dims) (now (out .entry)) ⌝ }
+    ensures { λ r. ⌜ r ≤ 44 ⌝ }
+{
+    let marked = bytes::copy(mark, out);
+    let named = marked + lines::text::put_head(type_byte(kind), &mut out[marked..]);
+    named + lines::text::put_head(dims as u64, &mut out[named..])
+}
+
+// Puts a vector at the start of out: what stands before the body, and the body, the first of these bytes.
+fn put_vector(mark: &[u8], view: View, bytes: &[u8], out: &mut [u8]) -> usize
+    requires { ⌜ length (now mark) ≡ 2 ⌝ }
+    requires { ⌜ view .length ≤ length (now bytes) ⌝ }
+    requires { ⌜ view .length ≤ longestBlob ⌝ }
+    requires { ⌜ answerRoom ≤ length (now out) ⌝ }
+    ensures { λ r. ⌜ r ≡ length (vectorText (now (mark .entry)) view (take (view .length) (now (bytes .entry)))) ⌝ }
+    ensures { λ _. ⌜ now (out .exit) ≡ onto (vectorText (now (mark .entry)) view (take (view .length) (now (bytes .entry)))) (now (out .entry)) ⌝ }
+{
+    let kind = view.kind;
+    let dims = view.dims;
+    let length = view.length;
+    let head = put_header(mark, kind, dims.0, out);
+    let digits = lines::hex::put_bytes(&bytes[..length], &mut out[head..]);
+    head + digits
+}
+
+fn read_by(reader: Reader, blob: &[u8]) -> ReadAnswer
+    ensures { λ r. ⌜ r ≡ readerOf reader (now (blob .entry)) ⌝ }
+{
+    match reader {
+        Reader::Plain => vector_types::read(blob),
+        Reader::Strict => vector_types::read_strict(blob),
+    }
+}
+
+// Puts what a reader answers of a blob at the start of out.
+fn put_read(reader: Reader, blob: &[u8], out: &mut [u8]) -> usize
+    requires { ⌜ answerRoom ≤ length (now out) ⌝ }
+    ensures { λ r. ⌜ r ≡ length (shownText reader (now (blob .entry))) ⌝ }
+    ensures { λ _. ⌜ now (out .exit) ≡ onto (shownText reader (now (blob .entry))) (now (out .entry)) ⌝ }
+{
+    match read_by(reader, blob) {
+        ReadAnswer::View(view) => put_vector(b"V\t", view, blob, out),
+        ReadAnswer::Refused(refusal) => put_refusal(refusal.number, out),
+    }
+}
+
+// The answer to read|H or strict|H. The bytes that H spells are put into `spelled`.
+pub fn read_line(reader: Reader, field: &[u8], spelled: &mut [u8], out: &mut [u8]) -> usize
+    requires { ⌜ length (now field) ≤ 2 * length (now spelled) ⌝ }
+    requires { ⌜ answerRoom ≤ length (now out) ⌝ }
+    ensures { λ r. ⌜ r ≡ length (readText reader (now (field .entry))) ⌝ }
+    ensures { λ _. ⌜ now (out .exit) ≡ onto (readText reader (now (field .entry))) (now (out .entry)) ⌝ }
+{
+    let count = lines::hex::bytes(field, spelled);
+    if 2 * count != field.len() {
+        return put_other(out);
+    }
+    put_read(reader, &spelled[..count], out)
+}
+
+fn kind_of(field: &[u8]) -> Kind
+    ensures { λ r. ⌜ r ≡ kindOf (now (field .entry)) ⌝ }
+{
+    if check::same(field, b"1") {
+        return Kind::Known(VectorType::Float32Dense);
+    }
+    if check::same(field, b"2") {
+        return Kind::Known(VectorType::Float64Dense);
+    }
+    if check::same(field, b"3") {
+        return Kind::Known(VectorType::Float1Bit);
+    }
+    if check::same(field, b"4") {
+        return Kind::Known(VectorType::Float8);
+    }
+    if check::same(field, b"9") {
+        return Kind::Known(VectorType::Float32Sparse);
+    }
+    Kind::Unknown
+}
+
+// Writes a blob into `made`, and puts it at the start of out: W, a tab, and the blob.
+fn put_written(kind: VectorType, dims: usize, body: &[u8], made: &mut [u8], out: &mut [u8]) -> usize
+    requires { ⌜ length (now made) ≡ blobRoom ⌝ }
+    requires { ⌜ answerRoom ≤ length (now out) ⌝ }
+    ensures { λ r. ⌜ r ≡ length (madeText kind dims (now (body .entry))) ⌝ }
+    ensures { λ _. ⌜ now (out .exit) ≡ onto (madeText kind dims (now (body .entry))) (now (out .entry)) ⌝ }
+{
+    match vector_types::write(kind, Dims(dims), body, made) {
+        WriteAnswer::Written(length) => {
+            let head = bytes::copy(b"W\t", out);
+            let digits = lines::hex::put_bytes(&made[..length], &mut out[head..]);
+            head + digits
+        }
+        WriteAnswer::Refused(refusal) => put_refusal(refusal.number, out),
+        WriteAnswer::Short(_) => put_refusal(15, out),
+    }
+}
+
+// The answer to write|K|N|H, of which K and N are found and this is H.
+fn write_found(
+    kind: Kind,
+    number: Found,
+    field: &[u8],
+    spelled: &mut [u8],
+    made: &mut [u8],
+    out: &mut [u8],
+) -> usize
+    requires { ⌜ length (now field) ≤ 2 * length (now spelled) ⌝ }
+    requires { ⌜ length (now made) ≡ blobRoom ⌝ }
+    requires { ⌜ answerRoom ≤ length (now out) ⌝ }
+    ensures { λ r. ⌜ r ≡ length (writtenBy kind number (now (field .entry))) ⌝ }
+    ensures { λ _. ⌜ now (out .exit) ≡ onto (writtenBy kind number (now (field .entry))) (now (out .entry)) ⌝ }
+{
+    let Kind::Known(named) = kind else {
+        return put_other(out);
+    };
+    let Found::Number(dims) = number else {
+        return put_other(out);
+    };
+    let count = lines::hex::bytes(field, spelled);
+    if 2 * count != field.len() {
+        return put_other(out);
+    }
+    put_written(named, dims as usize, &spelled[..count], made, out)
+}
+
+// The answer to write|K|N|H, of which this is K|N|H.
+pub fn write_line(rest: &[u8], spelled: &mut [u8], made: &mut [u8], out: &mut [u8]) -> usize
+    requires { ⌜ length (now rest) ≤ 2 * length (now spelled) ⌝ }
+    requires { ⌜ length (now made) ≡ blobRoom ⌝ }
+    requires { ⌜ answerRoom ≤ length (now out) ⌝ }
+    ensures { λ r. ⌜ r ≡ length (three writeText (fieldsOf (now (rest .entry)))) ⌝ }
+    ensures { λ _. ⌜ now (out .exit) ≡ onto (three writeText (fieldsOf (now (rest .entry)))) (now (out .entry)) ⌝ }
+{
+    let end = lines::text::field_end(rest);
+    if end == rest.len() {
+        return put_other(out);
+    }
+    let kind = kind_of(&rest[..end]);
+    let more = &rest[end + 1..];
+    let stop = lines::text::field_end(more);
+    if stop == more.len() {
+        return put_other(out);
+    }
+    let number = lines::text::numeral(10, &more[..stop]);
+    let field = &more[stop + 1..];
+    write_found(kind, number, field, spelled, made, out)
+}
+
+// Converts a blob to a kind, and puts what is made at the start of out.
+fn put_converted(
+    target: VectorType,
+    blob: &[u8],
+    scratch: &mut [u8],
+    made: &mut [u8],
+    out: &mut [u8],
+) -> usize
+    requires { ⌜ length (now scratch) ≡ scratchRoom ⌝ }
+    requires { ⌜ length (now made) ≡ blobRoom ⌝ }
+    requires { ⌜ answerRoom ≤ length (now out) ⌝ }
+    ensures { λ r. ⌜ r ≡ length (convertedText target (now (blob .entry))) ⌝ }
+    ensures { λ _. ⌜ now (out .exit) ≡ onto (convertedText target (now (blob .entry))) (now (out .entry)) ⌝ }
+{
+    match convert::convert(blob, target, scratch, made) {
+        ConvertAnswer::Converted(view) => put_vector(b"C\t", view, made, out),
+        ConvertAnswer::Refused(refusal) => put_refusal(refusal.number, out),
+        ConvertAnswer::ShortScratch(_) => put_refusal(17, out),
+        ConvertAnswer::Short(_) => put_refusal(15, out),
+    }
+}
+
+// The answer to conv|K|H, of which K is found and this is H.
+fn convert_found(
+    kind: Kind,
+    field: &[u8],
+    spelled: &mut [u8],
+    scratch: &mut [u8],
+    made: &mut [u8],
+    out: &mut [u8],
+) -> usize
+    requires { ⌜ length (now field) ≤ 2 * length (now spelled) ⌝ }
+    requires { ⌜ length (now scratch) ≡ scratchRoom ⌝ }
+    requires { ⌜ length (now made) ≡ blobRoom ⌝ }
+    requires { ⌜ answerRoom ≤ length (now out) ⌝ }
+    ensures { λ r. ⌜ r ≡ length (convertedBy kind (now (field .entry))) ⌝ }
+    ensures { λ _. ⌜ now (out .exit) ≡ onto (convertedBy kind (now (field .entry))) (now (out .entry)) ⌝ }
+{
+    let Kind::Known(target) = kind else {
+        return put_other(out);
+    };
+    let count = lines::hex::bytes(field, spelled);
+    if 2 * count != field.len() {
+        return put_other(out);
+    }
+    put_converted(target, &spelled[..count], scratch, made, out)
+}
+
+// The answer to conv|K|H, of which this is K|H.
+pub fn convert_line(
+    rest: &[u8],
+    spelled: &mut [u8],
+    scratch: &mut [u8],
+    made: &mut [u8],
+    out: &mut [u8],
+) -> usize
+    requires { ⌜ length (now rest) ≤ 2 * length (now spelled) ⌝ }
+    requires { ⌜ length (now scratch) ≡ scratchRoom ⌝ }
+    requires { ⌜ length (now made) ≡ blobRoom ⌝ }
+    requires { ⌜ answerRoom ≤ length (now out) ⌝ }
+    ensures { λ r. ⌜ r ≡ length (two convText (fieldsOf (now (rest .entry)))) ⌝ }
+    ensures { λ _. ⌜ now (out .exit) ≡ onto (two convText (fieldsOf (now (rest .entry)))) (now (out .entry)) ⌝ }
+{
+    let end = lines::text::field_end(rest);
+    if end == rest.len() {
+        return put_other(out);
+    }
+    let kind = kind_of(&rest[..end]);
+    let field = &rest[end + 1..];
+    convert_found(kind, field, spelled, scratch, made, out)
+}

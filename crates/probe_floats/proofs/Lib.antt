@@ -1,0 +1,3 @@
+-- Laws of the answers about floats
+pub mod Fields
+pub mod Determined

@@ -1,0 +1,87 @@
+-- `float_line` meets its contract: the row's answer to the number that was found, or X.
+use mathlib.Core.Path.{_≡_, sym, ap, ap₂, _∙_}
+use Prim.Native.Nat.{ℕ}
+use native.Mathlib.Omega.{arith}
+use Rattle.lines.specs.Hex.{patternOf}
+use Rattle.lines.specs.declared.hex.Found.the-variants.{Number}
+use Rattle.lines.proofs.Digits.{pattern-below}
+use Rattle.lines.proofs.Fields.{answered}
+use Rattle.probe_floats.specs.Floats.{rowOf, floatOf, byFound, computedOf}
+use Rattle.probe_floats.proofs.Fields.{wide}
+use borrow.Author.Needs.{needs}
+use Rattle.probe_floats.proofs.float_line.Statement.{statement}
+use Rattle.probe_floats.proofs.float_line.Tie as tie
+
+widths-requires : tie.Need-widths-requires
+widths-requires c κs = search needs
+
+pattern-requires : tie.Need-pattern-requires
+pattern-requires c κs = omega (arith, c .widths .ensures .0, wide (c .before .before .before .args .work) .takes)
+
+enum-known-found : tie.Need-enum-known-found
+enum-known-found c = search needs
+
+-- what is asked of the field, and the number that was found
+asked : (c : tie.After-pattern) → let a = c .before .before .before .before .args in c .pattern .result ≡ patternOf (rowOf (a .work) .takes) (a .field .now)
+asked c = c .pattern .ensures ∙ ap (λ (k : ℕ). patternOf k (c .before .before .before .before .args .field .now)) (c .before .widths .ensures .0)
+
+read : (c : tie.After-found) → let a = c .before .before .before .before .before .before .args in
+    patternOf (rowOf (a .work) .takes) (a .field .now) ≡ Number (c .found .given .0 .0)
+read c = sym (asked (c .before .before)) ∙ c .found .given .1
+
+result-requires : tie.Need-result-requires
+result-requires c κs = pattern-below _ _ _ (read (c .before))
+
+put-float-requires : tie.Need-put-float-requires
+put-float-requires c κs =
+    let d = c .before .before .before .before .before .before in
+    let w = wide (d .before .before .before .args .work) in
+    let g = d .widths .ensures .1 in
+    (omega (arith, w .some, g), (omega (arith, w .gives, g), (rw g (c .before .result .ensures .1), omega arith)))
+
+enum-told : tie.Need-enum-told
+enum-told c = search needs
+
+put-other-requires : tie.Need-put-other-requires
+put-other-requires c κs = search needs
+
+same-length : tie.Need-same-length
+same-length c = search needs
+
+returns : tie.Need-returns
+unfolding computedOf
+returns c =
+    let d = c .before .before .before .before .before .before .before .before .before in
+    let work = d .before .before .before .args .work in
+    let found = read (c .before .before .before .before .before .before) in
+    let value = c .before .before .before .before .result .ensures .0 in
+    let e = ap₂ floatOf (d .widths .ensures .1) value ∙ sym (ap (byFound (rowOf work)) found) in
+    answered _ _ _ _ _ e (c .before .before .put-float .ensures)
+
+same-length-2 : tie.Need-same-length-2
+same-length-2 c = search needs
+
+returns-2 : tie.Need-returns-2
+unfolding computedOf
+returns-2 c =
+    let told = c .before .before .before .before in
+    let p = told .before .before in
+    let work = p .before .before .before .before .args .work in
+    let e = sym (asked p) ∙ told .enum-told .given .1 in
+    answered _ _ _ _ _ (sym (ap (byFound (rowOf work)) e)) (c .before .before .put-other .ensures)
+
+pub float-line-spec : {M : Type 1} → statement M
+float-line-spec =
+    tie.close
+    (tie.spec
+    widths-requires
+    pattern-requires
+    enum-known-found
+    result-requires
+    put-float-requires
+    enum-told
+    put-other-requires
+    same-length
+    returns
+    same-length-2
+    returns-2)

@@ -1,0 +1,149 @@
+-- `root_line` meets its contract: the tests of W pick the case of `ofWidth`.
+use mathlib.Core.Path.{_≡_, sym, _∙_}
+use mathlib.Core.Bool.{false}
+use mathlib.Core.List.{List}
+use Prim.Native.Nat.{ℕ, _+_, _-_}
+use native.Mathlib.Omega.{arith}
+use lib.ListN.{length, take, drop}
+use lib.Seq.{length-take-le}
+use Rattle.bytes.specs.Bytes.{indexOf}
+use Rattle.lines.specs.Text.{word, same, tab}
+use Rattle.lines.specs.Parts.{fieldsOf}
+use Rattle.lines.proofs.Same.{tested}
+use Rattle.lines.specs.Fields.{two, other}
+use Rattle.lines.proofs.Fields.{two-short, answered}
+use Rattle.probe_floats.specs.Floats.{computedOf, ofWidth}
+use Rattle.probe_floats.specs.declared.Work.the-variants.{Root32, Root64}
+use Rattle.probe_floats.proofs.Fields.{root-fields}
+use borrow.Author.Needs.{needs}
+use Rattle.probe_floats.proofs.root_line.Statement.{statement}
+use Rattle.probe_floats.proofs.root_line.Tie as tie
+
+field-end-requires : tie.Need-field-end-requires
+field-end-requires c κs = search needs
+
+put-other-requires : tie.Need-put-other-requires
+put-other-requires c κs = search needs
+
+same-length : tie.Need-same-length
+same-length c = search needs
+
+returns : tie.Need-returns
+returns c =
+    let t = c .before .before .before .before in
+    let rest = t .before .before .before .before .args .rest .now in
+    let all : indexOf tab rest ≡ length rest = sym (t .before .field-end .ensures .0) ∙ t .if1 .taken in
+    answered _ _ _ _ _ (sym (two-short ofWidth rest all)) (c .before .before .put-other .ensures)
+
+slice-aggregate-width : tie.Need-slice-aggregate-width
+slice-aggregate-width c = sym (length-take-le _ _ (omega arith))
+
+add-field : tie.Need-add-field
+add-field c = omega arith
+
+sub-field : tie.Need-sub-field
+sub-field c = omega arith
+
+part-field-start : tie.Need-part-field-start
+part-field-start c = omega arith
+
+part-field-end : tie.Need-part-field-end
+part-field-end c = search needs
+
+slice-aggregate-same : tie.Need-slice-aggregate-same
+slice-aggregate-same c = search needs
+
+same-requires : tie.Need-same-requires
+same-requires c κs = search needs
+
+float-line-requires : tie.Need-float-line-requires
+float-line-requires c κs = search needs
+
+same-length-2 : tie.Need-same-length-2
+same-length-2 c = search needs
+
+-- W|F, W and F
+abbrev rest : tie.After-field → List ℕ
+rest c = c .before .before .before .before .before .before .args .rest .now
+
+abbrev width : tie.After-field → List ℕ
+width c = take (c .before .before .before .field-end .result) (rest c)
+
+abbrev field : tie.After-field → List ℕ
+field c = let from = c .before .before .before .field-end .result + 1 in take (length (rest c) - from) (drop from (rest c))
+
+by-width : (c : tie.After-field) (x : List ℕ) → x ≡ ofWidth (width c) (field c) → x ≡ two ofWidth (fieldsOf (rest c))
+by-width c x e = e ∙ root-fields (rest c) _ (c .before .before .before .field-end .ensures .0) (omega arith)
+
+not-32 : (c : tie.Else2) → same (width (c .before .before .before)) (word "32") ≡ false
+not-32 c = tested _ _ _ (c .before .same .ensures) ∙ c .if2 .left
+
+returns-2 : tie.Need-returns-2
+unfolding ofWidth
+returns-2 c =
+    let t = c .before .before .before .before in
+    let here = t .before .before .before in
+    let is-32 = tested _ _ _ (t .before .same .ensures) ∙ t .if2 .taken in
+    answered _ _ _ _ _ (by-width here (computedOf Root32 (field here)) (rw is-32)) (c .before .before .float-line .ensures)
+
+slice-aggregate-same-2 : tie.Need-slice-aggregate-same-2
+slice-aggregate-same-2 c = search needs
+
+same-requires-2 : tie.Need-same-requires-2
+same-requires-2 c κs = search needs
+
+float-line-requires-2 : tie.Need-float-line-requires-2
+float-line-requires-2 c κs = search needs
+
+same-length-3 : tie.Need-same-length-3
+same-length-3 c = search needs
+
+returns-3 : tie.Need-returns-3
+unfolding ofWidth
+returns-3 c =
+    let t = c .before .before .before .before in
+    let e = t .before .before .before in
+    let here = e .before .before .before in
+    let is-64 = tested _ _ _ (t .before .same2 .ensures) ∙ t .if3 .taken in
+    answered _ _ _ _ _ (by-width here (computedOf Root64 (field here)) (rw (not-32 e, is-64))) (c .before .before .float-line2 .ensures)
+
+put-other-requires-2 : tie.Need-put-other-requires-2
+put-other-requires-2 c κs = search needs
+
+same-length-4 : tie.Need-same-length-4
+same-length-4 c = search needs
+
+returns-4 : tie.Need-returns-4
+unfolding ofWidth
+returns-4 c =
+    let t = c .before .before .before .before in
+    let e = t .before .before .before in
+    let not-64 = tested _ _ _ (t .before .same2 .ensures) ∙ t .if3 .left in
+    answered _ _ _ _ _ (by-width (e .before .before .before) other (rw (not-32 e, not-64))) (c .before .before .put-other2 .ensures)
+
+pub root-line-spec : {M : Type 1} → statement M
+root-line-spec =
+    tie.close
+    (tie.spec
+    field-end-requires
+    put-other-requires
+    same-length
+    returns
+    slice-aggregate-width
+    add-field
+    sub-field
+    part-field-start
+    part-field-end
+    slice-aggregate-same
+    same-requires
+    float-line-requires
+    same-length-2
+    returns-2
+    slice-aggregate-same-2
+    same-requires-2
+    float-line-requires-2
+    same-length-3
+    returns-3
+    put-other-requires-2
+    same-length-4
+    returns-4)

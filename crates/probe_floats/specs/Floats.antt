@@ -1,0 +1,53 @@
+-- The answers to lines about one float. With | for a tab the lines are
+--     root|W|F    narrow|F    widen|F    trunc|F
+-- where W is 32 or 64 and F is a float's pattern in lower-case hexadecimal, the highest digit first. The answer is F|, and the
+-- pattern of the result, or for trunc a number of two digits; it is X where W or F is none.
+use Prim.Native.Nat.{ℕ}
+use mathlib.Core.Bool.{cond}
+use mathlib.Core.List.{List, _++_}
+use lib.Ieee.{binary32, binary64, ofBits, toBits}
+use Rattle.io.specs.Digits.{digits}
+use Rattle.rounding.specs.Root.{root}
+use Rattle.rounding.specs.Narrow.{narrowed}
+use Rattle.rounding.specs.Truncate.{truncated}
+use Rattle.lines.specs.Text.{word, same}
+use Rattle.lines.specs.Hex.{patternOf}
+use Rattle.lines.specs.Fields.{other}
+use Rattle.lines.specs.declared.hex.Found.{Found}
+use Rattle.lines.specs.declared.hex.Found.the-variants.{Number, Nothing}
+use Rattle.probe_floats.specs.declared.Work.{Work}
+use Rattle.probe_floats.specs.declared.Work.the-variants.{Root32, Root64, Narrow, Widen, Trunc}
+
+-- how many digits F has, how many the result has, and the result
+pub record Row : Type 0 where
+  pub takes : ℕ
+  pub gives : ℕ
+  pub result : ℕ → ℕ
+
+abbrev pub row : ℕ → ℕ → (ℕ → ℕ) → Row
+row t g r = record { takes = t; gives = g; result = r }
+
+abbrev pub rowOf : Work → Row
+rowOf Root32 = row 8 8 (λ n. toBits binary32 (root binary32 (ofBits binary32 n)))
+rowOf Root64 = row 16 16 (λ n. toBits binary64 (root binary64 (ofBits binary64 n)))
+rowOf Narrow = row 16 8 (λ n. toBits binary32 (narrowed (ofBits binary64 n)))
+rowOf Widen = row 8 16 (λ n. toBits binary64 (ofBits binary32 n))
+rowOf Trunc = row 8 2 (λ n. truncated (ofBits binary32 n))
+
+abbrev pub floatOf : ℕ → ℕ → List ℕ
+floatOf width n = word "F\t" ++ digits 16 width n
+
+-- the answer of a row to what was found for F
+abbrev pub byFound : Row → Found → List ℕ
+byFound r (Number n) = floatOf (r .gives) (r .result n)
+byFound r Nothing = other
+
+unfoldable pub computedOf : Work → List ℕ → List ℕ
+computedOf work field = byFound (rowOf work) (patternOf (rowOf work .takes) field)
+
+unfoldable pub ofWidth : List ℕ → List ℕ → List ℕ
+unfolding computedOf
+ofWidth width field =
+    cond (same width (word "32")) (computedOf Root32 field)
+    (cond (same width (word "64")) (computedOf Root64 field)
+    other)

@@ -1,0 +1,128 @@
+// The lines about one float: root, narrow, widen, trunc.
+ghost use mathlib.Core.Path.{_≡_};
+ghost use Prim.Native.Nat.{_≤_, _<_, _^_};
+ghost use lib.ListN.{length};
+ghost use Rattle.promises.specs.Onto.{onto};
+ghost use Rattle.lines.specs.Parts.{fieldsOf};
+ghost use Rattle.lines.specs.Fields.{two};
+ghost use Rattle.probe_floats.specs.Floats.{rowOf, floatOf, computedOf, ofWidth};
+use lines::hex::Found;
+use lines::text::put_other;
+
+// What is asked of a float's pattern.
+pub enum Work {
+    Root32,
+    Root64,
+    Narrow,
+    Widen,
+    Trunc,
+}
+
+// How many digits the pattern has, and how many the result.
+struct Digits {
+    takes: usize,
+    gives: usize,
+}
+
+fn widths(work: Work) -> Digits
+    ensures { λ r. ⌜ (r .takes ≡ rowOf work .takes) × (r .gives ≡ rowOf work .gives) ⌝ }
+{
+    match work {
+        Work::Root32 => Digits { takes: 8, gives: 8 },
+        Work::Root64 => Digits {
+            takes: 16,
+            gives: 16,
+        },
+        Work::Narrow => Digits {
+            takes: 16,
+            gives: 8,
+        },
+        Work::Widen => Digits {
+            takes: 8,
+            gives: 16,
+        },
+        Work::Trunc => Digits { takes: 8, gives: 2 },
+    }
+}
+
+// The result for the pattern n.
+fn result(work: Work, n: u64) -> u64
+    requires { ⌜ n < 16 ^ (rowOf work .takes) ⌝ }
+    ensures { λ r. ⌜ r ≡ rowOf work .result n ⌝ }
+    ensures { λ r. ⌜ r < 16 ^ (rowOf work .gives) ⌝ }
+{
+    match work {
+        Work::Root32 => {
+            let x = elements::f32_of(n as u32);
+            elements::bits32(rounding::root32(x)) as u64
+        }
+        Work::Root64 => {
+            let x = elements::f64_of(n);
+            elements::bits64(rounding::root64(x))
+        }
+        Work::Narrow => {
+            let x = elements::f64_of(n);
+            elements::bits32(rounding::narrow(x)) as u64
+        }
+        Work::Widen => {
+            let x = elements::f32_of(n as u32);
+            elements::bits64(rounding::widen(x))
+        }
+        Work::Trunc => {
+            let x = elements::f32_of(n as u32);
+            rounding::truncate(x) as u64
+        }
+    }
+}
+
+// Puts F, a tab and n in `width` digits at the start of out, and answers their length.
+fn put_float(width: usize, n: u64, out: &mut [u8]) -> usize
+    requires { ⌜ 1 ≤ width ⌝ }
+    requires { ⌜ width ≤ 16 ⌝ }
+    requires { ⌜ n < 16 ^ width ⌝ }
+    requires { ⌜ 18 ≤ length (now out) ⌝ }
+    ensures { λ r. ⌜ r ≡ length (floatOf width n) ⌝ }
+    ensures { λ _. ⌜ now (out .exit) ≡ onto (floatOf width n) (now (out .entry)) ⌝ }
+{
+    let head = bytes::copy(b"F\t", out);
+    let digits = lines::hex::put_hex(width, n, &mut out[head..]);
+    head + digits
+}
+
+// The answer to narrow|F, widen|F or trunc|F, of which the work is found and this is F.
+pub fn float_line(work: Work, field: &[u8], out: &mut [u8]) -> usize
+    requires { ⌜ 18 ≤ length (now out) ⌝ }
+    ensures { λ r. ⌜ r ≡ length (computedOf work (now (field .entry))) ⌝ }
+    ensures { λ _. ⌜ now (out .exit) ≡ onto (computedOf work (now (field .entry))) (now (out .entry)) ⌝ }
+{
+    let w = widths(work);
+    let found = lines::hex::pattern(w.takes, field);
+    match found {
+        Found::Number(n) => {
+            let value = result(work, n);
+            put_float(w.gives, value, out)
+        }
+        Found::Nothing => put_other(out),
+    }
+}
+
+// The answer to root|W|F, of which this is W|F.
+pub fn root_line(rest: &[u8], out: &mut [u8]) -> usize
+    requires { ⌜ 18 ≤ length (now out) ⌝ }
+    ensures { λ r. ⌜ r ≡ length (two ofWidth (fieldsOf (now (rest .entry)))) ⌝ }
+    ensures { λ _. ⌜ now (out .exit) ≡ onto (two ofWidth (fieldsOf (now (rest .entry)))) (now (out .entry)) ⌝ }
+{
+    let end = lines::text::field_end(rest);
+    if end == rest.len() {
+        return put_other(out);
+    }
+    let width = &rest[..end];
+    let field = &rest[end + 1..];
+    if check::same(width, b"32") {
+        return float_line(Work::Root32, field, out);
+    }
+    if check::same(width, b"64") {
+        return float_line(Work::Root64, field, out);
+    }
+    put_other(out)
+}

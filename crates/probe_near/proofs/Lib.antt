@@ -1,0 +1,2 @@
+-- Laws of the answers about candidates
+pub mod Determined

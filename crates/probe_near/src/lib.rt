@@ -1,0 +1,140 @@
+// The lines about a probe and two candidates: near.
+ghost use mathlib.Core.Path.{_≡_};
+ghost use Prim.Native.Nat.{_+_, _*_, _≤_};
+ghost use lib.ListN.{length, take};
+ghost use Rattle.promises.specs.Onto.{onto};
+ghost use Rattle.lines.specs.Parts.{fieldsOf};
+ghost use Rattle.lines.specs.Fields.{four};
+ghost use Rattle.probe_near.specs.Near.{nearerText, partsText, candidatesText, nearBy, nearText};
+use distance::Distance;
+use lines::text::put_other;
+use nearer::Among;
+use nearer::Candidate;
+use nearer::NearerAnswer;
+use vecdist_lines::Asked;
+use vecdist_lines::asked_of;
+use vecdist_lines::put_refusal;
+use vecdist_lines::put_value;
+
+// Puts which candidate is nearer and its distance, or a refusal, at the start of out.
+fn put_nearer(answer: NearerAnswer, out: &mut [u8]) -> usize
+    requires { ⌜ 32 ≤ length (now out) ⌝ }
+    ensures { λ r. ⌜ r ≡ length (nearerText answer) ⌝ }
+    ensures { λ _. ⌜ now (out .exit) ≡ onto (nearerText answer) (now (out .entry)) ⌝ }
+{
+    match answer {
+        NearerAnswer::Nearer(found) => {
+            let candidate = found.candidate;
+            match candidate {
+                Candidate::First => put_value(b"N\t1\t", found.distance, out),
+                Candidate::Second => put_value(b"N\t2\t", found.distance, out),
+            }
+        }
+        NearerAnswer::Refused(refusal, among) => match among {
+            Among::Probe => put_refusal(refusal.number, b"p", out),
+            Among::First => put_refusal(refusal.number, b"a", out),
+            Among::Second => put_refusal(refusal.number, b"b", out),
+            Among::Neither => put_refusal(refusal.number, b"-", out),
+        },
+    }
+}
+
+// Puts which candidate is nearer, or a refusal, at the start of out. The probe is the first `probe` of
+// these bytes, the first candidate those up to `pair`, and the second one the rest.
+fn put_blobs(distance: Distance, probe: usize, pair: usize, blobs: &[u8], out: &mut [u8]) -> usize
+    requires { ⌜ probe ≤ pair ⌝ }
+    requires { ⌜ pair ≤ length (now blobs) ⌝ }
+    requires { ⌜ 32 ≤ length (now out) ⌝ }
+    ensures { λ r. ⌜ r ≡ length (partsText distance probe pair (now (blobs .entry))) ⌝ }
+    ensures { λ _. ⌜ now (out .exit) ≡ onto (partsText distance probe pair (now (blobs .entry))) (now (out .entry)) ⌝ }
+{
+    let both = &blobs[..pair];
+    put_nearer(
+        nearer::nearer(distance, &both[..probe], &both[probe..], &blobs[pair..]),
+        out,
+    )
+}
+
+// The answer to near|D|P|A|B, of which D is found, the first `probe` bytes of `spelled` are those that P
+// spells, and these are A and B. The bytes that they spell are put after those, one after the other.
+fn near_candidates(
+    distance: Distance,
+    probe: usize,
+    first: &[u8],
+    second: &[u8],
+    spelled: &mut [u8],
+    out: &mut [u8],
+) -> usize
+    requires { ⌜ 2 * probe + (length (now first) + length (now second)) ≤ 2 * length (now spelled) ⌝ }
+    requires { ⌜ 32 ≤ length (now out) ⌝ }
+    ensures { λ r. ⌜ r ≡ length (candidatesText distance (take probe (now (spelled .entry))) (now (first .entry)) (now (second .entry))) ⌝ }
+    ensures { λ _. ⌜ now (out .exit) ≡ onto (candidatesText distance (take probe (now (spelled .entry))) (now (first .entry)) (now (second .entry))) (now (out .entry)) ⌝ }
+{
+    let m = lines::hex::bytes(first, &mut spelled[probe..]);
+    if 2 * m != first.len() {
+        return put_other(out);
+    }
+    let pair = probe + m;
+    let n = lines::hex::bytes(second, &mut spelled[pair..]);
+    if 2 * n != second.len() {
+        return put_other(out);
+    }
+    put_blobs(distance, probe, pair, &spelled[..pair + n], out)
+}
+
+// The answer to near|D|P|A|B, of which D is found and these are P, A and B. The bytes that they spell
+// are put into `spelled`.
+fn near_fields(
+    asked: Asked,
+    probe: &[u8],
+    first: &[u8],
+    second: &[u8],
+    spelled: &mut [u8],
+    out: &mut [u8],
+) -> usize
+    requires { ⌜ length (now probe) + (length (now first) + length (now second)) ≤ 2 * length (now spelled) ⌝ }
+    requires { ⌜ 32 ≤ length (now out) ⌝ }
+    ensures { λ r. ⌜ r ≡ length (nearBy asked (now (probe .entry)) (now (first .entry)) (now (second .entry))) ⌝ }
+    ensures { λ _. ⌜ now (out .exit) ≡ onto (nearBy asked (now (probe .entry)) (now (first .entry)) (now (second .entry))) (now (out .entry)) ⌝ }
+{
+    let Asked::Known(distance) = asked else {
+        return put_other(out);
+    };
+    let count = lines::hex::bytes(probe, spelled);
+    if 2 * count != probe.len() {
+        return put_other(out);
+    }
+    near_candidates(distance, count, first, second, spelled, out)
+}
+
+// The answer to near|D|P|A|B, of which this is D|P|A|B.
+pub fn near_line(rest: &[u8], spelled: &mut [u8], out: &mut [u8]) -> usize
+    requires { ⌜ length (now rest) ≤ 2 * length (now spelled) ⌝ }
+    requires { ⌜ 32 ≤ length (now out) ⌝ }
+    ensures { λ r. ⌜ r ≡ length (four nearText (fieldsOf (now (rest .entry)))) ⌝ }
+    ensures { λ _. ⌜ now (out .exit) ≡ onto (four nearText (fieldsOf (now (rest .entry)))) (now (out .entry)) ⌝ }
+{
+    let end = lines::text::field_end(rest);
+    if end == rest.len() {
+        return put_other(out);
+    }
+    let asked = asked_of(&rest[..end]);
+    let blobs = &rest[end + 1..];
+    let stop = lines::text::field_end(blobs);
+    if stop == blobs.len() {
+        return put_other(out);
+    }
+    let candidates = &blobs[stop + 1..];
+    let middle = lines::text::field_end(candidates);
+    if middle == candidates.len() {
+        return put_other(out);
+    }
+    near_fields(
+        asked,
+        &blobs[..stop],
+        &candidates[..middle],
+        &candidates[middle + 1..],
+        spelled,
+        out,
+    )
+}
