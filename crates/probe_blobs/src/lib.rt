@@ -4,7 +4,7 @@ ghost use Prim.Native.Nat.{_*_, _≤_};
 ghost use lib.ListN.{length, take};
 ghost use Rattle.promises.specs.Onto.{onto};
 ghost use Rattle.lines.specs.Parts.{fieldsOf};
-ghost use Rattle.vector_types.specs.Layout.{longest as longestBlob, byteOf};
+ghost use Rattle.vector_types.specs.Layout.{longest as longestBlob};
 ghost use Rattle.lines.specs.Fields.{two, three};
 ghost use Rattle.probe_blobs.specs.Limits.{answerRoom, scratchRoom, blobRoom};
 ghost use Rattle.probe_blobs.specs.Blobs.{refusalText, headerText, vectorText, readerOf, shownText, readText, kindOf, madeText, writtenBy, writeText, convertedText, convertedBy, convText};
@@ -16,6 +16,7 @@ use vector_types::ReadAnswer;
 use vector_types::VectorType;
 use vector_types::View;
 use vector_types::WriteAnswer;
+use vector_types::type_byte;
 
 // Which of the two readers is asked.
 pub enum Reader {
@@ -40,18 +41,6 @@ fn put_refusal(number: u8, out: &mut [u8]) -> usize
     head + digits
 }
 
-fn type_byte(kind: VectorType) -> u64
-    ensures { λ r. ⌜ r ≡ byteOf kind ⌝ }
-{
-    match kind {
-        VectorType::Float32Dense => 1,
-        VectorType::Float64Dense => 2,
-        VectorType::Float32Sparse => 9,
-        VectorType::Float1Bit => 3,
-        VectorType::Float8 => 4,
-    }
-}
-
 // Puts what stands before a body at the start of out: a mark, the kind and the dims, parted by tabs.
 fn put_header(mark: &[u8], kind: VectorType, dims: usize, out: &mut [u8]) -> usize
     requires { ⌜ length (now mark) ≡ 2 ⌝ }
@@ -61,7 +50,7 @@ fn put_header(mark: &[u8], kind: VectorType, dims: usize, out: &mut [u8]) -> usi
     ensures { λ r. ⌜ r ≤ 44 ⌝ }
 {
     let marked = bytes::copy(mark, out);
-    let named = marked + lines::text::put_head(type_byte(kind), &mut out[marked..]);
+    let named = marked + lines::text::put_head(type_byte(kind) as u64, &mut out[marked..]);
     named + lines::text::put_head(dims as u64, &mut out[named..])
 }
 

@@ -12,14 +12,8 @@ use borrow.Author.Needs.{needs}
 use Rattle.probe_floats.proofs.float_line.Statement.{statement}
 use Rattle.probe_floats.proofs.float_line.Tie as tie
 
-widths-requires : tie.Need-widths-requires
-widths-requires c κs = search needs
-
 pattern-requires : tie.Need-pattern-requires
 pattern-requires c κs = omega (arith, c .widths .ensures .0, wide (c .before .before .before .args .work) .takes)
-
-enum-known-found : tie.Need-enum-known-found
-enum-known-found c = search needs
 
 -- what is asked of the field, and the number that was found
 asked : (c : tie.After-pattern) → let a = c .before .before .before .before .args in c .pattern .result ≡ patternOf (rowOf (a .work) .takes) (a .field .now)
@@ -39,15 +33,6 @@ put-float-requires c κs =
     let g = d .widths .ensures .1 in
     (omega (arith, w .some, g), (omega (arith, w .gives, g), (rw g (c .before .result .ensures .1), omega arith)))
 
-enum-told : tie.Need-enum-told
-enum-told c = search needs
-
-put-other-requires : tie.Need-put-other-requires
-put-other-requires c κs = search needs
-
-same-length : tie.Need-same-length
-same-length c = search needs
-
 returns : tie.Need-returns
 unfolding computedOf
 returns c =
@@ -57,9 +42,6 @@ returns c =
     let value = c .before .before .before .before .result .ensures .0 in
     let e = ap₂ floatOf (d .widths .ensures .1) value ∙ sym (ap (byFound (rowOf work)) found) in
     answered _ _ _ _ _ e (c .before .before .put-float .ensures)
-
-same-length-2 : tie.Need-same-length-2
-same-length-2 c = search needs
 
 returns-2 : tie.Need-returns-2
 unfolding computedOf
@@ -74,14 +56,12 @@ pub float-line-spec : {M : Type 1} → statement M
 float-line-spec =
     tie.close
     (tie.spec
-    widths-requires
+    (λ c κs. search needs)
     pattern-requires
-    enum-known-found
+    (λ c. search needs)
     result-requires
     put-float-requires
-    enum-told
-    put-other-requires
-    same-length
+    (λ c. search needs) (λ c κs. search needs) (λ c. search needs)
     returns
-    same-length-2
+    (λ c. search needs)
     returns-2)

@@ -10,30 +10,6 @@ use borrow.Author.Needs.{needs}
 use Rattle.probe_floats.proofs.put_float.Statement.{statement}
 use Rattle.probe_floats.proofs.put_float.Tie as tie
 
-slice-aggregate-copy : tie.Need-slice-aggregate-copy
-slice-aggregate-copy c = search needs
-
-copy-requires : tie.Need-copy-requires
-copy-requires c κs = search needs
-
-sub-put-hex : tie.Need-sub-put-hex
-sub-put-hex c = search needs
-
-part-put-hex-start : tie.Need-part-put-hex-start
-part-put-hex-start c = search needs
-
-part-put-hex-end : tie.Need-part-put-hex-end
-part-put-hex-end c = search needs
-
-put-hex-requires : tie.Need-put-hex-requires
-put-hex-requires c κs = search needs
-
-add-result : tie.Need-add-result
-add-result c = search needs
-
-same-length : tie.Need-same-length
-same-length c = search needs
-
 returns : tie.Need-returns
 returns c =
     let h = c .before .before .before .before .before .before .copy in
@@ -48,12 +24,6 @@ pub put-float-spec : {M : Type 1} → statement M
 put-float-spec =
     tie.close
     (tie.spec
-    slice-aggregate-copy
-    copy-requires
-    sub-put-hex
-    part-put-hex-start
-    part-put-hex-end
-    put-hex-requires
-    add-result
-    same-length
+    (λ c. search needs) (λ c κs. search needs) (λ c. search needs) (λ c. search needs) (λ c. search needs)
+    (λ c κs. search needs) (λ c. search needs) (λ c. search needs)
     returns)

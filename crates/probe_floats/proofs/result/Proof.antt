@@ -11,80 +11,14 @@ use borrow.Author.Needs.{needs}
 use Rattle.probe_floats.proofs.result.Statement.{statement}
 use Rattle.probe_floats.proofs.result.Tie as tie
 
-enum-told : tie.Need-enum-told
-enum-told c = search needs
-
 cast-f32-of : tie.Need-cast-f32-of
 cast-f32-of c = omega (arith, rw (c .enum-told .given .1) at (c .before .before .pre))
-
-f32-of-requires : tie.Need-f32-of-requires
-f32-of-requires c κs = search needs
-
-root32-requires : tie.Need-root32-requires
-root32-requires c κs = search needs
-
-bits32-requires : tie.Need-bits32-requires
-bits32-requires c κs = search needs
-
-cast-result : tie.Need-cast-result
-cast-result c = search needs
-
-enum-told-2 : tie.Need-enum-told-2
-enum-told-2 c = search needs
-
-f64-of-requires : tie.Need-f64-of-requires
-f64-of-requires c κs = search needs
-
-root64-requires : tie.Need-root64-requires
-root64-requires c κs = search needs
-
-bits64-requires : tie.Need-bits64-requires
-bits64-requires c κs = search needs
-
-enum-told-3 : tie.Need-enum-told-3
-enum-told-3 c = search needs
-
-f64-of-requires-2 : tie.Need-f64-of-requires-2
-f64-of-requires-2 c κs = search needs
-
-narrow-requires : tie.Need-narrow-requires
-narrow-requires c κs = search needs
-
-bits32-requires-2 : tie.Need-bits32-requires-2
-bits32-requires-2 c κs = search needs
-
-cast-result-2 : tie.Need-cast-result-2
-cast-result-2 c = search needs
-
-enum-told-4 : tie.Need-enum-told-4
-enum-told-4 c = search needs
 
 cast-f32-of-2 : tie.Need-cast-f32-of-2
 cast-f32-of-2 c = omega (arith, rw (c .enum-told4 .given .1) at (c .before .before .pre))
 
-f32-of-requires-2 : tie.Need-f32-of-requires-2
-f32-of-requires-2 c κs = search needs
-
-widen-requires : tie.Need-widen-requires
-widen-requires c κs = search needs
-
-bits64-requires-2 : tie.Need-bits64-requires-2
-bits64-requires-2 c κs = search needs
-
-enum-told-5 : tie.Need-enum-told-5
-enum-told-5 c = search needs
-
 cast-f32-of-3 : tie.Need-cast-f32-of-3
 cast-f32-of-3 c = omega (arith, rw (c .enum-told5 .given .1) at (c .before .before .pre))
-
-f32-of-requires-3 : tie.Need-f32-of-requires-3
-f32-of-requires-3 c κs = search needs
-
-truncate-requires : tie.Need-truncate-requires
-truncate-requires c κs = search needs
-
-cast-result-3 : tie.Need-cast-result-3
-cast-result-3 c = search needs
 
 returns : tie.Need-returns
 returns c =
@@ -114,31 +48,15 @@ pub result-spec : {M : Type 1} → statement M
 result-spec =
     tie.close
     (tie.spec
-    enum-told
+    (λ c. search needs)
     cast-f32-of
-    f32-of-requires
-    root32-requires
-    bits32-requires
-    cast-result
-    enum-told-2
-    f64-of-requires
-    root64-requires
-    bits64-requires
-    enum-told-3
-    f64-of-requires-2
-    narrow-requires
-    bits32-requires-2
-    cast-result-2
-    enum-told-4
+    (λ c κs. search needs) (λ c κs. search needs) (λ c κs. search needs) (λ c. search needs) (λ c. search needs)
+    (λ c κs. search needs) (λ c κs. search needs) (λ c κs. search needs) (λ c. search needs) (λ c κs. search needs)
+    (λ c κs. search needs) (λ c κs. search needs) (λ c. search needs) (λ c. search needs)
     cast-f32-of-2
-    f32-of-requires-2
-    widen-requires
-    bits64-requires-2
-    enum-told-5
+    (λ c κs. search needs) (λ c κs. search needs) (λ c κs. search needs) (λ c. search needs)
     cast-f32-of-3
-    f32-of-requires-3
-    truncate-requires
-    cast-result-3
+    (λ c κs. search needs) (λ c κs. search needs) (λ c. search needs)
     returns
     returns-2
     returns-3

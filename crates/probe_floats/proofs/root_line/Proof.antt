@@ -19,15 +19,6 @@ use borrow.Author.Needs.{needs}
 use Rattle.probe_floats.proofs.root_line.Statement.{statement}
 use Rattle.probe_floats.proofs.root_line.Tie as tie
 
-field-end-requires : tie.Need-field-end-requires
-field-end-requires c κs = search needs
-
-put-other-requires : tie.Need-put-other-requires
-put-other-requires c κs = search needs
-
-same-length : tie.Need-same-length
-same-length c = search needs
-
 returns : tie.Need-returns
 returns c =
     let t = c .before .before .before .before in
@@ -46,21 +37,6 @@ sub-field c = omega arith
 
 part-field-start : tie.Need-part-field-start
 part-field-start c = omega arith
-
-part-field-end : tie.Need-part-field-end
-part-field-end c = search needs
-
-slice-aggregate-same : tie.Need-slice-aggregate-same
-slice-aggregate-same c = search needs
-
-same-requires : tie.Need-same-requires
-same-requires c κs = search needs
-
-float-line-requires : tie.Need-float-line-requires
-float-line-requires c κs = search needs
-
-same-length-2 : tie.Need-same-length-2
-same-length-2 c = search needs
 
 -- W|F, W and F
 abbrev rest : tie.After-field → List ℕ
@@ -86,18 +62,6 @@ returns-2 c =
     let is-32 = tested _ _ _ (t .before .same .ensures) ∙ t .if2 .taken in
     answered _ _ _ _ _ (by-width here (computedOf Root32 (field here)) (rw is-32)) (c .before .before .float-line .ensures)
 
-slice-aggregate-same-2 : tie.Need-slice-aggregate-same-2
-slice-aggregate-same-2 c = search needs
-
-same-requires-2 : tie.Need-same-requires-2
-same-requires-2 c κs = search needs
-
-float-line-requires-2 : tie.Need-float-line-requires-2
-float-line-requires-2 c κs = search needs
-
-same-length-3 : tie.Need-same-length-3
-same-length-3 c = search needs
-
 returns-3 : tie.Need-returns-3
 unfolding ofWidth
 returns-3 c =
@@ -106,12 +70,6 @@ returns-3 c =
     let here = e .before .before .before in
     let is-64 = tested _ _ _ (t .before .same2 .ensures) ∙ t .if3 .taken in
     answered _ _ _ _ _ (by-width here (computedOf Root64 (field here)) (rw (not-32 e, is-64))) (c .before .before .float-line2 .ensures)
-
-put-other-requires-2 : tie.Need-put-other-requires-2
-put-other-requires-2 c κs = search needs
-
-same-length-4 : tie.Need-same-length-4
-same-length-4 c = search needs
 
 returns-4 : tie.Need-returns-4
 unfolding ofWidth
@@ -125,25 +83,15 @@ pub root-line-spec : {M : Type 1} → statement M
 root-line-spec =
     tie.close
     (tie.spec
-    field-end-requires
-    put-other-requires
-    same-length
+    (λ c κs. search needs) (λ c κs. search needs) (λ c. search needs)
     returns
     slice-aggregate-width
     add-field
     sub-field
     part-field-start
-    part-field-end
-    slice-aggregate-same
-    same-requires
-    float-line-requires
-    same-length-2
+    (λ c. search needs) (λ c. search needs) (λ c κs. search needs) (λ c κs. search needs) (λ c. search needs)
     returns-2
-    slice-aggregate-same-2
-    same-requires-2
-    float-line-requires-2
-    same-length-3
+    (λ c. search needs) (λ c κs. search needs) (λ c κs. search needs) (λ c. search needs)
     returns-3
-    put-other-requires-2
-    same-length-4
+    (λ c κs. search needs) (λ c. search needs)
     returns-4)

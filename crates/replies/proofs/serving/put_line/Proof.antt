@@ -37,14 +37,10 @@ pub put-line-spec : {M : Type 1} → statement M
 put-line-spec =
     tie.close
     (tie.spec
-    (λ c. search needs)
-    (λ c. search needs)
+    (λ c. search needs) (λ c. search needs)
     slice-aggregate-answer-held
     answer-held-requires
     slice-write-out
     add-result
-    (λ c. search needs)
-    (λ c. search needs)
-    (λ c. search needs)
-    (λ c. search needs)
+    (λ c. search needs) (λ c. search needs) (λ c. search needs) (λ c. search needs)
     returns)
