@@ -1,5 +1,6 @@
 // The bytes that name the kinds.
 ghost use mathlib.Core.Path.{_≡_};
+ghost use Rattle.vector_types.specs.Answers.{refusal};
 ghost use Rattle.vector_types.specs.Layout.{byteOf, byByte};
 ghost use Rattle.fulandewu.specs.Kinds.{chosenOf};
 use vector_types::Refusal;
@@ -24,7 +25,7 @@ pub(crate) fn byte_of(kind: VectorType) -> u8
 }
 
 fn refuse(number: u8) -> Chosen
-    ensures { λ r. ⌜ r ≡ Chosen.Refused (record { number = number }) ⌝ }
+    ensures { λ r. ⌜ r ≡ Chosen.Refused (refusal number) ⌝ }
 {
     Chosen::Refused(Refusal { number })
 }
