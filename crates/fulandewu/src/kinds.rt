@@ -1,5 +1,6 @@
 // The kind that a byte names.
 ghost use mathlib.Core.Path.{_≡_};
+ghost use Rattle.vector_types.specs.Answers.{refusal};
 ghost use Rattle.vector_types.specs.Layout.{byByte};
 ghost use Rattle.fulandewu.specs.Kinds.{chosenOf};
 use vector_types::Refusal;
@@ -12,7 +13,7 @@ pub enum Chosen {
 }
 
 fn refuse(number: u8) -> Chosen
-    ensures { λ r. ⌜ r ≡ Chosen.Refused (record { number = number }) ⌝ }
+    ensures { λ r. ⌜ r ≡ Chosen.Refused (refusal number) ⌝ }
 {
     Chosen::Refused(Refusal { number })
 }
