@@ -1,5 +1,6 @@
 -- `convert_line` meets its contract: X for a single field, else what `convert_found` answers to both.
 use mathlib.Core.Path.{_≡_, sym, ap, _∙_}
+use lib.Arith.{lt-of-le-ne}
 use lib.ListN.{length, take}
 use lib.Seq.{length-take-le}
 use Rattle.bytes.specs.Bytes.{indexOf}
@@ -32,7 +33,7 @@ returns-2 c =
     let rest = k .before .before .before .before .before .before .before .before .before .args .rest .now in
     let field = after end rest in
     let found : convertedBy (k .kind-of .result) field ≡ convText (take end rest) field = ap (λ (x : Kind). convertedBy x field) (k .kind-of .ensures) in
-    answered _ _ _ _ _ (found ∙ conv-fields rest end (f .ensures .0) (omega (arith, k .before .before))) (c .before .before .before .before .before .before .before .before .convert-found .ensures)
+    answered _ _ _ _ _ (found ∙ conv-fields rest end (f .ensures .0) (lt-of-le-ne (f .ensures .1) (k .before .before .if1 .left))) (c .before .before .before .before .before .before .before .before .convert-found .ensures)
 
 pub convert-line-spec : {M : Type 1} → statement M
 convert-line-spec =

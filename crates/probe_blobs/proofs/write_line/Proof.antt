@@ -2,6 +2,7 @@
 use mathlib.Core.Path.{_≡_, sym, ap₂, _∙_}
 use mathlib.Core.List.{List}
 use Prim.Native.Nat.{ℕ}
+use lib.Arith.{lt-of-le-ne}
 use lib.ListN.{length, take}
 use lib.Seq.{length-take-le}
 use Rattle.bytes.specs.Bytes.{indexOf}
@@ -39,7 +40,9 @@ abbrev more : tie.After-field-end2 → List ℕ
 more c = after (c .before .before .before .before .before .field-end .result) (rest c)
 
 by-more : (c : tie.After-field-end2) → two (writeText (kind c)) (fieldsOf (more c)) ≡ three writeText (fieldsOf (rest c))
-by-more c = three-fields writeText (rest c) _ (c .before .before .before .before .before .field-end .ensures .0) (omega arith)
+by-more c =
+    let f = c .before .before .before .before .before .field-end in
+    three-fields writeText (rest c) _ (f .ensures .0) (lt-of-le-ne (f .ensures .1) (c .before .before .before .before .if1 .left))
 
 returns-2 : tie.Need-returns-2
 returns-2 c =
@@ -59,7 +62,7 @@ returns-3 c =
     let stop = here .field-end2 .result in
     let field = after stop (more here) in
     let found : writtenBy (k .kind-of .result) (n .numeral .result) field ≡ writeText (kind here) (take stop (more here)) field = ap₂ (λ (x : Kind) (y : Found). writtenBy x y field) (k .kind-of .ensures) (n .numeral .ensures) in
-    let fields = write-fields (kind here) (more here) stop (here .field-end2 .ensures .0) (omega arith) in
+    let fields = write-fields (kind here) (more here) stop (here .field-end2 .ensures .0) (lt-of-le-ne (here .field-end2 .ensures .1) (n .before .before .if2 .left)) in
     answered _ _ _ _ _ (found ∙ fields ∙ by-more here) (c .before .before .before .before .before .before .write-found .ensures)
 
 pub write-line-spec : {M : Type 1} → statement M

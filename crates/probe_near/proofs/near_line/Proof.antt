@@ -42,7 +42,9 @@ abbrev blobs : tie.After-field-end2 → List ℕ
 blobs c = after (c .before .before .before .before .before .field-end .result) (rest c)
 
 by-blobs : (c : tie.After-field-end2) → three (nearText (field c)) (fieldsOf (blobs c)) ≡ four nearText (fieldsOf (rest c))
-by-blobs c = four-fields nearText (rest c) _ (c .before .before .before .before .before .field-end .ensures .0) (omega arith)
+by-blobs c =
+    let f = c .before .before .before .before .before .field-end in
+    four-fields nearText (rest c) _ (f .ensures .0) (lt-of-le-ne (f .ensures .1) (c .before .before .before .before .if1 .left))
 
 returns-2 : tie.Need-returns-2
 returns-2 c =
@@ -60,7 +62,7 @@ candidates c = after (c .before .before .before .field-end2 .result) (blobs (c .
 by-candidates : (c : tie.After-field-end3) → let here = c .before .before .before in two (nearText (field here) (probe c)) (fieldsOf (candidates c)) ≡ four nearText (fieldsOf (rest here))
 by-candidates c =
     let here = c .before .before .before in
-    three-fields (nearText (field here)) (blobs here) _ (here .field-end2 .ensures .0) (omega arith) ∙ by-blobs here
+    three-fields (nearText (field here)) (blobs here) _ (here .field-end2 .ensures .0) (lt-of-le-ne (here .field-end2 .ensures .1) (c .before .before .if2 .left)) ∙ by-blobs here
 
 returns-3 : tie.Need-returns-3
 returns-3 c =
