@@ -25,7 +25,7 @@ pub enum Reader {
 }
 
 // The kind that a field names, if any.
-pub enum Kind {
+enum Kind {
     Known(VectorType),
     Unknown,
 }

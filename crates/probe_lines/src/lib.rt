@@ -12,7 +12,7 @@ use probe_blobs::Reader;
 use probe_floats::Work;
 
 // What a line asks for, by its first field.
-pub enum Verb {
+enum Verb {
     Root,
     Float(Work),
     Read(Reader),
