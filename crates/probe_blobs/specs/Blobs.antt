@@ -1,6 +1,9 @@
--- The answers to lines about one blob. With | for a tab they are
+-- The answers to lines about one blob. With | for a tab the lines are
+--     read|H    strict|H    write|K|N|H    conv|K|H
+-- where H is a blob, or for write a body, in lower-case hexadecimal, K a type byte 1, 2, 3, 4 or 9, and N dims in 1 to 10
+-- decimal digits. The answers are
 --     V|K|N|H    W|H    C|K|N|H    R|number
--- where K is a type byte, N are dims, and H is a body or a blob in hexadecimal.
+-- where H is a body, or after W a blob; or X where a field is none of these.
 use Prim.Native.Nat.{ℕ}
 use mathlib.Core.Bool.{cond}
 use mathlib.Core.List.{List, [], _++_}

@@ -1,4 +1,6 @@
--- The answers to lines about a probe and two candidates. With | for a tab they are
+-- The answers to lines about a probe and two candidates. With | for a tab the lines are
+--     near|D|P|A|B
+-- where D is cos, l2, dot or jac, and P, A and B are blobs in lower-case hexadecimal. The answers are
 --     N|1|F    N|2|F    R|number|p
 -- where F is the pattern of the nearer one's distance in sixteen digits, and p, a, b or - is the blob that a refusal is about.
 use Prim.Native.Nat.{ℕ}
