@@ -51,6 +51,7 @@ pub(crate) fn put_bits(kind: VectorType, dims: usize, body: &[u8], out: &mut [u8
     requires { ⌜ fits kind dims (length (now body)) ≡ true ⌝ }
     requires { ⌜ is 9 kind ≡ false ⌝ }
     requires { ⌜ ceil dims 8 ≤ length (now out) ⌝ }
+    requires { ⌜ is 3 kind ≡ false ⌝ }
     ensures { λ _. ⌜ now (out .exit) ≡ onto (bitBody kind dims (now (body .entry))) (now (out .entry)) ⌝ }
 {
     let size = (dims + 7) / 8;

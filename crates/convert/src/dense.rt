@@ -20,6 +20,7 @@ pub(crate) fn put_singles(kind: VectorType, dims: usize, body: &[u8], out: &mut 
     requires { ⌜ fits kind dims (length (now body)) ≡ true ⌝ }
     requires { ⌜ is 9 kind ≡ false ⌝ }
     requires { ⌜ 4 * dims ≤ length (now out) ⌝ }
+    requires { ⌜ is 1 kind ≡ false ⌝ }
     ensures { λ _. ⌜ now (out .exit) ≡ onto (floatsOf binary32 (element binary32 kind dims (now (body .entry))) dims) (now (out .entry)) ⌝ }
 {
     let mut i = 0;
@@ -35,6 +36,7 @@ pub(crate) fn put_doubles(kind: VectorType, dims: usize, body: &[u8], out: &mut 
     requires { ⌜ fits kind dims (length (now body)) ≡ true ⌝ }
     requires { ⌜ is 9 kind ≡ false ⌝ }
     requires { ⌜ 8 * dims ≤ length (now out) ⌝ }
+    requires { ⌜ is 2 kind ≡ false ⌝ }
     ensures { λ _. ⌜ now (out .exit) ≡ onto (floatsOf binary64 (element binary64 kind dims (now (body .entry))) dims) (now (out .entry)) ⌝ }
 {
     let mut i = 0;

@@ -109,6 +109,7 @@ pub(crate) fn put_quantized(kind: VectorType, dims: usize, body: &[u8], out: &mu
     requires { ⌜ fits kind dims (length (now body)) ≡ true ⌝ }
     requires { ⌜ is 9 kind ≡ false ⌝ }
     requires { ⌜ 4 * ceil dims 4 + 8 ≤ length (now out) ⌝ }
+    requires { ⌜ is 4 kind ≡ false ⌝ }
     ensures { λ _. ⌜ now (out .exit) ≡ onto (quantizedBody kind dims (now (body .entry))) (now (out .entry)) ⌝ }
 {
     let end = (dims + 3) / 4 * 4;

@@ -5,7 +5,7 @@ ghost use Prim.Native.Nat.{_*_, _≤_};
 ghost use lib.ListN.{length};
 ghost use lib.Ieee.{binary32, binary64};
 ghost use Rattle.promises.specs.Onto.{onto};
-ghost use Rattle.vector_types.specs.Layout.{mostDims, is, counted, fits, strays};
+ghost use Rattle.vector_types.specs.Layout.{mostDims, byteOf, is, counted, fits, strays};
 ghost use Rattle.vector_types.specs.Read.{readOf};
 ghost use Rattle.vector_types.specs.Parts.{bodyOf};
 ghost use Rattle.vector_types.specs.declared.ReadAnswer.the-variants.{View as Seen};
@@ -59,12 +59,13 @@ fn made_length(kind: VectorType, target: VectorType, dims: usize, body: &[u8]) -
     }
 }
 
-// Puts the elements as floats at the start of out.
+// Puts the elements as floats at the start of out, those of another kind.
 fn put_dense32(kind: VectorType, dims: usize, body: &[u8], out: &mut [u8])
     requires { ⌜ dims ≤ mostDims ⌝ }
     requires { ⌜ fits kind dims (length (now body)) ≡ true ⌝ }
     requires { ⌜ strays kind dims (now body) ≡ false ⌝ }
     requires { ⌜ 4 * dims ≤ length (now out) ⌝ }
+    requires { ⌜ is 1 kind ≡ false ⌝ }
     ensures { λ _. ⌜ now (out .exit) ≡ onto (denseBody binary32 kind dims (now (body .entry))) (now (out .entry)) ⌝ }
 {
     if is_sparse(kind) {
@@ -79,6 +80,7 @@ fn put_dense64(kind: VectorType, dims: usize, body: &[u8], out: &mut [u8])
     requires { ⌜ fits kind dims (length (now body)) ≡ true ⌝ }
     requires { ⌜ strays kind dims (now body) ≡ false ⌝ }
     requires { ⌜ 8 * dims ≤ length (now out) ⌝ }
+    requires { ⌜ is 2 kind ≡ false ⌝ }
     ensures { λ _. ⌜ now (out .exit) ≡ onto (denseBody binary64 kind dims (now (body .entry))) (now (out .entry)) ⌝ }
 {
     if is_sparse(kind) {
@@ -88,8 +90,8 @@ fn put_dense64(kind: VectorType, dims: usize, body: &[u8], out: &mut [u8])
     put_doubles(kind, dims, body, out);
 }
 
-// Puts the body that one step makes, which has `size` bytes, at the start of out. From sparse there
-// is one step only to the dense kinds.
+// Puts the body that one step makes of another kind, which has `size` bytes, at the start of out.
+// From sparse there is one step only to the dense kinds.
 fn put_made(
     kind: VectorType,
     target: VectorType,
@@ -104,6 +106,7 @@ fn put_made(
     requires { ⌜ (is 9 kind && (is 9 target || counted target)) ≡ false ⌝ }
     requires { ⌜ size ≡ length (made kind target dims (now body)) ⌝ }
     requires { ⌜ size ≤ length (now out) ⌝ }
+    requires { ⌜ is (byteOf target) kind ≡ false ⌝ }
     ensures { λ _. ⌜ now (out .exit) ≡ onto (made kind target dims (now (body .entry))) (now (out .entry)) ⌝ }
 {
     match target {
@@ -207,6 +210,7 @@ fn convert_made(
     requires { ⌜ fits kind dims (length (now body)) ≡ true ⌝ }
     requires { ⌜ strays kind dims (now body) ≡ false ⌝ }
     requires { ⌜ (is 9 kind && (is 9 target || counted target)) ≡ false ⌝ }
+    requires { ⌜ is (byteOf target) kind ≡ false ⌝ }
     ensures { λ r. ⌜ r ≡ answerWith target dims (made kind target dims (now (body .entry))) (length (now (out .entry))) ⌝ }
     ensures { λ _. ⌜ now (out .exit) ≡ outWith (made kind target dims (now (body .entry))) (now (out .entry)) ⌝ }
 {

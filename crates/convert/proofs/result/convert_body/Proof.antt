@@ -16,7 +16,7 @@ convert-made-requires : tie.Need-convert-made-requires
 convert-made-requires c κs =
     let a = c .before .before .before .before .before in
     let other = sym (c .before .before .is-same-kind .ensures) ∙ not-true _ (c .before .if1 .taken) in
-    (a .pre .0, (a .pre .1 .0, (a .pre .1 .1 .0, made-plainly (a .args .kind) (a .args .target) other (a .pre .1 .1 .1))))
+    (a .pre .0, (a .pre .1 .0, (a .pre .1 .1 .0, (made-plainly (a .args .kind) (a .args .target) other (a .pre .1 .1 .1), other))))
 
 returns : tie.Need-returns
 returns c =

@@ -10,7 +10,7 @@ use Rattle.convert.proofs.result.convert_made.Tie as tie
 made-length-requires : tie.Need-made-length-requires
 made-length-requires c κs =
     let a = c .before .before in
-    (a .pre .0, (a .pre .1 .0, (a .pre .1 .1 .0, and-first (is 9 (a .args .kind)) _ (counted (a .args .target)) (a .pre .1 .1 .1))))
+    (a .pre .0, (a .pre .1 .0, (a .pre .1 .1 .0, and-first (is 9 (a .args .kind)) _ (counted (a .args .target)) (a .pre .1 .1 .1 .0))))
 
 returns : tie.Need-returns
 returns c =
@@ -20,7 +20,7 @@ returns c =
 put-made-requires : tie.Need-put-made-requires
 put-made-requires c κs =
     let a = c .before .before .before .before .before in
-    (a .pre .0, (a .pre .1 .0, (a .pre .1 .1 .0, (a .pre .1 .1 .1, (c .before .before .made-length .ensures, c .before .if1 .left)))))
+    (a .pre .0, (a .pre .1 .0, (a .pre .1 .1 .0, (a .pre .1 .1 .1 .0, (c .before .before .made-length .ensures, (c .before .if1 .left, a .pre .1 .1 .1 .1))))))
 
 returns-2 : tie.Need-returns-2
 returns-2 c =

@@ -4,7 +4,7 @@ use mathlib.Core.Bool.{true, false, _||_}
 use Prim.Native.Nat.{_≤_}
 use native.Mathlib.Omega.{arith}
 use lib.ListN.{length}
-use Rattle.vector_types.specs.Layout.{is, counted}
+use Rattle.vector_types.specs.Layout.{byteOf, is, counted}
 use Rattle.vector_types.specs.declared.VectorType.{VectorType}
 use Rattle.vector_types.specs.declared.VectorType.the-variants.{Float32Dense, Float64Dense, Float32Sparse, Float1Bit, Float8}
 use Rattle.convert.specs.Result.{made}
@@ -23,7 +23,11 @@ exact c u e =
 
 room : (c : tie.After-slice-known) (u : VectorType) → let a = c .before .before .args in
     a .target ≡ u → sizeOf (a .kind) u (a .dims) (a .body .now) ≤ length (a .out .now)
-room c u e = omega (arith, exact c u e, c .before .before .pre .1 .1 .1 .1 .1)
+room c u e = omega (arith, exact c u e, c .before .before .pre .1 .1 .1 .1 .1 .0)
+
+-- from another kind
+other : (c : tie.After-slice-known) (u : VectorType) → let a = c .before .before .args in a .target ≡ u → is (byteOf u) (a .kind) ≡ false
+other c u e = rw e at (c .before .before .pre .1 .1 .1 .1 .1 .1)
 
 -- to these kinds from no sparse body
 plain : (c : tie.After-slice-known) → let a = c .before .before .args in (is 9 (a .target) || counted (a .target)) ≡ true → is 9 (a .kind) ≡ false
@@ -33,13 +37,15 @@ put-dense32-requires : tie.Need-put-dense32-requires
 put-dense32-requires c κs =
     let s = c .before .before .before in
     let a = s .before .before in
-    (a .pre .0, (a .pre .1 .0, (a .pre .1 .1 .0, room s Float32Dense (c .before .enum-told .given .1))))
+    let e = c .before .enum-told .given .1 in
+    (a .pre .0, (a .pre .1 .0, (a .pre .1 .1 .0, (room s Float32Dense e, other s Float32Dense e))))
 
 put-dense64-requires : tie.Need-put-dense64-requires
 put-dense64-requires c κs =
     let s = c .before .before .before in
     let a = s .before .before in
-    (a .pre .0, (a .pre .1 .0, (a .pre .1 .1 .0, room s Float64Dense (c .before .enum-told2 .given .1))))
+    let e = c .before .enum-told2 .given .1 in
+    (a .pre .0, (a .pre .1 .0, (a .pre .1 .1 .0, (room s Float64Dense e, other s Float64Dense e))))
 
 put-sparse-requires : tie.Need-put-sparse-requires
 put-sparse-requires c κs =
@@ -47,21 +53,21 @@ put-sparse-requires c κs =
     let a = s .before .before in
     let e = c .before .enum-told3 .given .1 in
     let size = exact s Float32Sparse e in
-    (a .pre .0, (a .pre .1 .0, (plain s (rw e), (omega arith, omega (arith, a .pre .1 .1 .1 .1 .1)))))
+    (a .pre .0, (a .pre .1 .0, (plain s (rw e), (omega arith, omega (arith, a .pre .1 .1 .1 .1 .1 .0)))))
 
 put-bits-requires : tie.Need-put-bits-requires
 put-bits-requires c κs =
     let s = c .before .before .before in
     let a = s .before .before in
     let e = c .before .enum-told4 .given .1 in
-    (a .pre .0, (a .pre .1 .0, (plain s (rw e), room s Float1Bit e)))
+    (a .pre .0, (a .pre .1 .0, (plain s (rw e), (room s Float1Bit e, other s Float1Bit e))))
 
 put-quantized-requires : tie.Need-put-quantized-requires
 put-quantized-requires c κs =
     let s = c .before .before .before in
     let a = s .before .before in
     let e = c .before .enum-told5 .given .1 in
-    (a .pre .0, (a .pre .1 .0, (plain s (rw e), room s Float8 e)))
+    (a .pre .0, (a .pre .1 .0, (plain s (rw e), (room s Float8 e, other s Float8 e))))
 
 returns : tie.Need-returns
 unfolding made
