@@ -1,10 +1,10 @@
 -- A body that fits its kind and dims: how long it is, kind by kind, and that each element stands within it.
-use mathlib.Core.Path.{_≡_, subst}
-use mathlib.Core.Bool.{true, false, true≢false}
+use mathlib.Core.Path.{_≡_, ap, subst}
+use mathlib.Core.Bool.{true, false}
 use Prim.Native.Nat.{ℕ, _+_, _*_, _%_, _≤_, _<_}
 use native.Mathlib.Omega.{arith}
-use borrow.Author.Tests.{eqb-true}
-use Rattle.vector_types.specs.Layout.{ceil, is, fits}
+use borrow.Author.Tests.{eqb-true, eqb-false}
+use Rattle.vector_types.specs.Layout.{byteOf, ceil, is, fits}
 use Rattle.vector_types.specs.declared.VectorType.{VectorType}
 use Rattle.vector_types.specs.declared.VectorType.the-variants.{Float32Dense, Float64Dense, Float32Sparse, Float1Bit, Float8}
 
@@ -47,6 +47,6 @@ module _ {k : VectorType} (d m i : ℕ) where
   pub float8-within : k ≡ Float8 → fits k d m ≡ true → i < d → i < m
   float8-within e h below = omega (arith, float8-length d m e h)
 
--- a kind that is not sparse is not Float32Sparse
-pub not-sparse : {k : VectorType} → k ≡ Float32Sparse → is 9 k ≡ false → ⊥
-not-sparse e h = true≢false (subst (λ (x : VectorType). is 9 x ≡ false) e h)
+-- a kind has its own type byte
+pub not-kind : {k u : VectorType} → k ≡ u → is (byteOf u) k ≡ false → ⊥
+not-kind {k} {u} e h = eqb-false (byteOf k) (byteOf u) h (ap (λ (x : VectorType). byteOf x) e)

@@ -18,7 +18,7 @@ use Rattle.convert.specs.Pieces.{pieces}
 use Rattle.convert.specs.Elements.{element}
 use Rattle.convert.specs.Quantized.{least, greatest, quantum, scaleOf, quantizedBody}
 use Rattle.convert.specs.declared.quantized.Range.{Range}
-use Rattle.convert.specs.declared.quantized.Scale.{Scale}
+use Rattle.convert.specs.declared.scale.Scale.{Scale}
 use Rattle.convert.proofs.Pieces.{length-bytes, put-after}
 
 -- ---- the range

@@ -25,7 +25,11 @@ alphaOf d body = f32At body (4 * ceil d 4)
 abbrev pub shiftOf : ℕ → List ℕ → Float
 shiftOf d body = f32At body (4 * ceil d 4 + 4)
 
--- element i of the d of a body, in the width f: alpha * q + shift of a Float8 body has two roundings in that width;
+-- alpha * q + shift, with two roundings in the width f
+abbrev pub scaled : Format → Float → Float → ℕ → Float
+scaled f alpha shift q = add f (mul f alpha (ofInt f (pos q))) shift
+
+-- element i of the d of a body, in the width f;
 -- an element of a sparse body is that of its dense form
 unfoldable pub element : Format → VectorType → ℕ → List ℕ → ℕ → Float
 element f Float32Dense d body i = f32At body (4 * i)
@@ -33,7 +37,7 @@ element binary32 Float64Dense d body i = narrowed (f64At body (8 * i))
 element binary64 Float64Dense d body i = f64At body (8 * i)
 element f Float32Sparse d body i = f32At (spreadBody binary32 d body) (4 * i)
 element f Float1Bit d body i = unit (eqb (bitAt body i) 0)
-element f Float8 d body i = add f (mul f (alphaOf d body) (ofInt f (pos (getD body i 0)))) (shiftOf d body)
+element f Float8 d body i = scaled f (alphaOf d body) (shiftOf d body) (getD body i 0)
 
 -- the width in which an element is tested: for zero, and for its sign
 abbrev pub own : VectorType → Format

@@ -13,7 +13,7 @@ use Rattle.vector_types.specs.Layout.{ceil}
 use Rattle.vector_types.specs.declared.VectorType.{VectorType}
 use Rattle.convert.specs.Pieces.{pieces}
 use Rattle.convert.specs.Elements.{element}
-use Rattle.convert.specs.declared.quantized.Scale.{Scale}
+use Rattle.convert.specs.declared.scale.Scale.{Scale}
 
 -- the least and the greatest of the first n elements, from +infinity and -infinity: NaN is passed over, and the first of two zeros kept
 unfoldable pub least : (ℕ → Float) → ℕ → Float

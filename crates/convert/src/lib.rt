@@ -4,6 +4,7 @@ mod dense;
 mod element;
 mod quantized;
 mod result;
+mod scale;
 mod sparse;
 
 ghost use mathlib.Core.Path.{_≡_};

@@ -12,18 +12,13 @@ ghost use Rattle.convert.specs.Elements.{element};
 ghost use Rattle.convert.specs.Quantized.{least, greatest, quantum, scaleOf, quantizedBody};
 use crate::dense::put_zeros;
 use crate::element::single;
+use crate::scale::Scale;
 use vector_types::VectorType;
 
 // The least and the greatest element so far.
 pub struct Range {
     pub low: f32,
     pub high: f32,
-}
-
-// By what and from where the bytes of a Float8 body count.
-pub struct Scale {
-    pub alpha: f32,
-    pub shift: f32,
 }
 
 // The range with one element more; NaN is neither less nor greater.

@@ -3,7 +3,7 @@ use mathlib.Core.Path.{_∙_}
 use native.Mathlib.Omega.{arith}
 use borrow.Author.Needs.{needs}
 use Rattle.convert.specs.Elements.{element}
-use Rattle.convert.proofs.Bodies.{not-sparse, float8-length, float32-within, float64-within, one-bit-within, float8-within}
+use Rattle.convert.proofs.Bodies.{not-kind, float8-length, float32-within, float64-within, one-bit-within, float8-within}
 use Rattle.convert.proofs.element.double.Statement.{statement}
 use Rattle.convert.proofs.element.double.Tie as tie
 
@@ -58,7 +58,7 @@ returns-4 c =
     rw (d .before .before .enum-told4 .given .1, alpha, shift)
 
 returns-5 : tie.Need-returns-5
-returns-5 c = absurd (not-sparse (c .enum-told5 .given .1) (c .before .before .before .pre .1 .1 .0))
+returns-5 c = absurd (not-kind (c .enum-told5 .given .1) (c .before .before .before .pre .1 .1 .0))
 
 pub double-spec : {M : Type 1} → statement M
 double-spec =

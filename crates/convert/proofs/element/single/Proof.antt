@@ -5,7 +5,7 @@ use Rattle.rounding.specs.Narrow.{narrowed}
 use borrow.Author.Needs.{needs}
 use Rattle.rounding.proofs.NarrowLaw.{narrowed-only}
 use Rattle.convert.specs.Elements.{element}
-use Rattle.convert.proofs.Bodies.{not-sparse, float8-length, float32-within, float64-within, one-bit-within, float8-within}
+use Rattle.convert.proofs.Bodies.{not-kind, float8-length, float32-within, float64-within, one-bit-within, float8-within}
 use Rattle.convert.proofs.element.single.Statement.{statement}
 use Rattle.convert.proofs.element.single.Tie as tie
 
@@ -59,7 +59,7 @@ returns-4 c =
     rw (c .before .before .before .before .enum-told4 .given .1, c .before .before .before .f32-at2 .ensures, c .before .before .f32-at3 .ensures)
 
 returns-5 : tie.Need-returns-5
-returns-5 c = absurd (not-sparse (c .enum-told5 .given .1) (c .before .before .before .pre .1 .1 .0))
+returns-5 c = absurd (not-kind (c .enum-told5 .given .1) (c .before .before .before .pre .1 .1 .0))
 
 pub single-spec : {M : Type 1} → statement M
 single-spec =
