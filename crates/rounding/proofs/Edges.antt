@@ -1,4 +1,4 @@
--- The root and narrowing where nothing is to be rounded: zeros, infinities, numbers below zero, NaN. Over the format.
+-- The root where nothing is to be rounded: zeros, infinities, numbers below zero, NaN; and which patterns are a NaN's. Over the format.
 use mathlib.Core.Path.{_≡_, refl, sym, ap, _∙_, subst}
 use mathlib.Core.Logic.{_⊎_, inl, inr}
 use Prim.Native.Nat.{ℕ, zero, suc, _*_, _%_, _≤_, _<_}

@@ -29,9 +29,8 @@ pub fn narrow_bits(b: u64) -> u32
     (sign * 0x8000_0000 + narrow_pattern(size)) as u32
 }
 
-// The pattern of the f32 nearest to what has the pattern b as an f64, both without their signs. Where
-// it is a normal f32 the two differ by the exponents' offset, 896, and by 29 digits, and a carry goes
-// on into the exponent.
+// The pattern of the f32 nearest to what has the pattern b as an f64, both without their signs. A
+// normal f32's has an exponent less by 896 and 29 digits fewer, and a carry goes on into the exponent.
 fn narrow_pattern(b: u64) -> u64
     requires { ⌜ b ≤ 0x7ff0_0000_0000_0000 ⌝ }
     ensures { λ r. ⌜ Narrowing b r ⌝ }
@@ -56,7 +55,8 @@ fn narrow_small(b: u64) -> u64
     }
 }
 
-// q / (2 * half) to the nearest whole number, a tie to the even one.
+// q / (2 * half) to the nearest whole number, a tie to the even one: half, less one where the quotient
+// is even, is added before the cut.
 fn nearest_quotient(q: u64, half: u64) -> u64
     requires { ⌜ 0 < half ⌝ ∗ ⌜ half ≤ 2 ^ 61 ⌝ ∗ ⌜ q < 2 ^ 63 ⌝ }
     ensures { λ r. ⌜ r ≡ closest q (2 * half) ⌝ }
