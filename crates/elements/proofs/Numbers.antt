@@ -2,9 +2,11 @@
 use mathlib.Core.Path.{_≡_, refl, sym, ap, _∙_}
 use mathlib.Core.List.{List, _∷_, _++_}
 use Prim.Native.Nat.{ℕ, zero, suc, _+_, _*_, _/_, _%_, _^_, _<_, _≤_}
-use native.Mathlib.Nat.{add-zero, zero-add, add-assoc, add-suc, suc-add, pow-suc, pow-succ', one-le-pow, div-one, div-div-eq-div-mul}
+use native.Mathlib.Nat.{add-zero, zero-add, add-assoc, add-suc, suc-add, mul-suc, pow-suc, pow-succ', one-le-pow, div-one, div-div-eq-div-mul}
 use native.Mathlib.Omega.{arith}
 use lib.Arith.{mod-mul, digits-lt}
+use lib.Bits.{bitOr, or-shifted-r}
+use lib.Pow.{pow-add}
 use lib.ListN.{length, getD, take, drop}
 use lib.Seq.{getD-take, getD-drop, drop-cons, take-append-seam, drop-append-seam}
 use Rattle.elements.specs.Bytes.{numberAt, bytesOf, AreBytes}
@@ -46,6 +48,21 @@ pub numberAt-lt : (w : ℕ) (s : List ℕ) (i : ℕ) → AreBytes s → numberAt
 unfolding numberAt
 numberAt-lt zero s i h = omega arith
 numberAt-lt (suc w) s i h = rw pow-suc (omega (arith, digits-lt (h (i + w)) (numberAt-lt w s i h)))
+
+-- ---- a number is joined from its bytes by `|`: the bits of each stand above those of the bytes before it
+pub join-first : (s : List ℕ) (i b : ℕ) → b ≡ getD s (i + 0) 0 → b ≡ numberAt 1 s i
+unfolding numberAt
+join-first s i b e = omega arith
+
+bits : (w : ℕ) → 256 ^ w ≡ 2 ^ (8 * w)
+bits zero = refl
+bits (suc w) = rw (pow-suc 256 w, mul-suc 8 w, pow-add 2 (8 * w) 8, bits w)
+
+pub join-next : (w : ℕ) (s : List ℕ) (i m b : ℕ) → AreBytes s → m ≡ numberAt w s i → b ≡ getD s (i + w) 0 → bitOr m (b * 256 ^ w) ≡ numberAt (suc w) s i
+unfolding numberAt
+join-next w s i m b h lower e =
+    let below : m < 2 ^ (8 * w) = rw (← (bits w), lower) (numberAt-lt w s i h) in
+    rw (← lower, ← e, bits) (omega (arith, or-shifted-r b (8 * w) m below))
 
 pub length-bytesOf : (w v : ℕ) → length (bytesOf w v) ≡ w
 unfolding bytesOf

@@ -51,15 +51,15 @@ fn byte(s: &[u8], at: usize, k: usize) -> u8
     s[at + k]
 }
 
-// The number at a place. Of one sum of bytes the compiler makes one load.
+// The number at a place. Of bytes joined by `|` the compiler makes one load, of a sum of eight not always.
 pub fn u32_at(s: &[u8], at: usize) -> u32
     requires { ⌜ at + 4 ≤ length (now s) ⌝ }
     ensures { λ r. ⌜ r ≡ u32At (now (s .entry)) at ⌝ }
 {
     byte(s, at, 0) as u32
-        + byte(s, at, 1) as u32 * 0x100
-        + byte(s, at, 2) as u32 * 0x1_0000
-        + byte(s, at, 3) as u32 * 0x100_0000
+        | byte(s, at, 1) as u32 * 0x100
+        | byte(s, at, 2) as u32 * 0x1_0000
+        | byte(s, at, 3) as u32 * 0x100_0000
 }
 
 pub fn u64_at(s: &[u8], at: usize) -> u64
@@ -67,13 +67,13 @@ pub fn u64_at(s: &[u8], at: usize) -> u64
     ensures { λ r. ⌜ r ≡ numberAt 8 (now (s .entry)) at ⌝ }
 {
     byte(s, at, 0) as u64
-        + byte(s, at, 1) as u64 * 0x100
-        + byte(s, at, 2) as u64 * 0x1_0000
-        + byte(s, at, 3) as u64 * 0x100_0000
-        + byte(s, at, 4) as u64 * 0x1_0000_0000
-        + byte(s, at, 5) as u64 * 0x100_0000_0000
-        + byte(s, at, 6) as u64 * 0x1_0000_0000_0000
-        + byte(s, at, 7) as u64 * 0x100_0000_0000_0000
+        | byte(s, at, 1) as u64 * 0x100
+        | byte(s, at, 2) as u64 * 0x1_0000
+        | byte(s, at, 3) as u64 * 0x100_0000
+        | byte(s, at, 4) as u64 * 0x1_0000_0000
+        | byte(s, at, 5) as u64 * 0x100_0000_0000
+        | byte(s, at, 6) as u64 * 0x1_0000_0000_0000
+        | byte(s, at, 7) as u64 * 0x100_0000_0000_0000
 }
 
 // The float at a place.
