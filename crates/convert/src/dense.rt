@@ -2,8 +2,7 @@
 ghost use mathlib.Core.Path.{_≡_};
 ghost use mathlib.Core.Bool.{false, true};
 ghost use Prim.Native.Nat.{_+_, _*_, _%_, _≤_};
-ghost use lib.ListN.{length};
-ghost use lib.ListN.{replicate};
+ghost use lib.ListN.{length, replicate};
 ghost use lib.Ieee.{binary32, binary64};
 ghost use Rattle.promises.specs.Onto.{onto};
 ghost use Rattle.vector_types.specs.Layout.{mostDims, ceil, is, fits, strays};
@@ -13,45 +12,6 @@ ghost use Rattle.convert.specs.Elements.{element, floatsOf};
 use crate::element::unit32;
 use crate::scale::scale_at;
 use vector_types::VectorType;
-
-// Puts the elements of another kind in f32 at the start of out, and in f64.
-pub(crate) fn put_singles(kind: VectorType, dims: usize, body: &[u8], out: &mut [u8])
-    requires { ⌜ dims ≤ mostDims ⌝ }
-    requires { ⌜ fits kind dims (length (now body)) ≡ true ⌝ }
-    requires { ⌜ is 9 kind ≡ false ⌝ }
-    requires { ⌜ 4 * dims ≤ length (now out) ⌝ }
-    requires { ⌜ is 1 kind ≡ false ⌝ }
-    ensures { λ _. ⌜ now (out .exit) ≡ onto (floatsOf binary32 (element binary32 kind dims (now (body .entry))) dims) (now (out .entry)) ⌝ }
-{
-    match kind {
-        VectorType::Float64Dense => put_narrowed(dims, body, out),
-        VectorType::Float1Bit => put_units32(dims, body, out),
-        VectorType::Float8 => put_scaled32(dims, body, out),
-        // never: a body of the same kind is copied
-        VectorType::Float32Dense => {}
-        // never: a sparse body is spread
-        VectorType::Float32Sparse => {}
-    }
-}
-
-pub(crate) fn put_doubles(kind: VectorType, dims: usize, body: &[u8], out: &mut [u8])
-    requires { ⌜ dims ≤ mostDims ⌝ }
-    requires { ⌜ fits kind dims (length (now body)) ≡ true ⌝ }
-    requires { ⌜ is 9 kind ≡ false ⌝ }
-    requires { ⌜ 8 * dims ≤ length (now out) ⌝ }
-    requires { ⌜ is 2 kind ≡ false ⌝ }
-    ensures { λ _. ⌜ now (out .exit) ≡ onto (floatsOf binary64 (element binary64 kind dims (now (body .entry))) dims) (now (out .entry)) ⌝ }
-{
-    match kind {
-        VectorType::Float32Dense => put_widened(dims, body, out),
-        VectorType::Float1Bit => put_units64(dims, body, out),
-        VectorType::Float8 => put_scaled64(dims, body, out),
-        // never: a body of the same kind is copied
-        VectorType::Float64Dense => {}
-        // never: a sparse body is spread
-        VectorType::Float32Sparse => {}
-    }
-}
 
 // Puts f64 elements as f32.
 fn put_narrowed(dims: usize, body: &[u8], out: &mut [u8])
@@ -142,6 +102,45 @@ fn put_scaled64(dims: usize, body: &[u8], out: &mut [u8])
         let x = alpha * body[i] as f64 + shift;
         elements::put_f64(out, 8 * i, x);
         i += 1;
+    }
+}
+
+// Puts the elements of another kind in f32 at the start of out, and in f64.
+pub(crate) fn put_singles(kind: VectorType, dims: usize, body: &[u8], out: &mut [u8])
+    requires { ⌜ dims ≤ mostDims ⌝ }
+    requires { ⌜ fits kind dims (length (now body)) ≡ true ⌝ }
+    requires { ⌜ is 9 kind ≡ false ⌝ }
+    requires { ⌜ 4 * dims ≤ length (now out) ⌝ }
+    requires { ⌜ is 1 kind ≡ false ⌝ }
+    ensures { λ _. ⌜ now (out .exit) ≡ onto (floatsOf binary32 (element binary32 kind dims (now (body .entry))) dims) (now (out .entry)) ⌝ }
+{
+    match kind {
+        VectorType::Float64Dense => put_narrowed(dims, body, out),
+        VectorType::Float1Bit => put_units32(dims, body, out),
+        VectorType::Float8 => put_scaled32(dims, body, out),
+        // never: a body of the same kind is copied
+        VectorType::Float32Dense => {}
+        // never: a sparse body is spread
+        VectorType::Float32Sparse => {}
+    }
+}
+
+pub(crate) fn put_doubles(kind: VectorType, dims: usize, body: &[u8], out: &mut [u8])
+    requires { ⌜ dims ≤ mostDims ⌝ }
+    requires { ⌜ fits kind dims (length (now body)) ≡ true ⌝ }
+    requires { ⌜ is 9 kind ≡ false ⌝ }
+    requires { ⌜ 8 * dims ≤ length (now out) ⌝ }
+    requires { ⌜ is 2 kind ≡ false ⌝ }
+    ensures { λ _. ⌜ now (out .exit) ≡ onto (floatsOf binary64 (element binary64 kind dims (now (body .entry))) dims) (now (out .entry)) ⌝ }
+{
+    match kind {
+        VectorType::Float32Dense => put_widened(dims, body, out),
+        VectorType::Float1Bit => put_units64(dims, body, out),
+        VectorType::Float8 => put_scaled64(dims, body, out),
+        // never: a body of the same kind is copied
+        VectorType::Float64Dense => {}
+        // never: a sparse body is spread
+        VectorType::Float32Sparse => {}
     }
 }
 
