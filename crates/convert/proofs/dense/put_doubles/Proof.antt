@@ -5,19 +5,13 @@ use Rattle.convert.proofs.dense.put_doubles.Statement.{statement}
 use Rattle.convert.proofs.dense.put_doubles.Tie as tie
 
 put-widened-requires : tie.Need-put-widened-requires
-put-widened-requires c κs =
-    let p = c .before .before .before .before .before .pre in
-    (p .0, (float32-length _ _ (c .before .enum-told .given .1) (p .1 .0), p .1 .1 .1 .0))
+put-widened-requires c κs = search (needs, float32-length _ _ (c .before .enum-told .given .1) (c .before .before .before .before .before .pre .1 .0))
 
 put-units64-requires : tie.Need-put-units64-requires
-put-units64-requires c κs =
-    let p = c .before .before .before .before .before .pre in
-    (p .0, (one-bit-length _ _ (c .before .enum-told2 .given .1) (p .1 .0), p .1 .1 .1 .0))
+put-units64-requires c κs = search (needs, one-bit-length _ _ (c .before .enum-told2 .given .1) (c .before .before .before .before .before .pre .1 .0))
 
 put-scaled64-requires : tie.Need-put-scaled64-requires
-put-scaled64-requires c κs =
-    let p = c .before .before .before .before .before .pre in
-    (p .0, (float8-length _ _ (c .before .enum-told3 .given .1) (p .1 .0), p .1 .1 .1 .0))
+put-scaled64-requires c κs = search (needs, float8-length _ _ (c .before .enum-told3 .given .1) (c .before .before .before .before .before .pre .1 .0))
 
 returns : tie.Need-returns
 returns c = rw (c .before .before .before .before .enum-told .given .1) (c .before .before .put-widened .ensures)

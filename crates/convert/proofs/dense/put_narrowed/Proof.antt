@@ -14,19 +14,12 @@ Inv-loop dims body out₀ i₀ out i = Filled (floatsOf binary32 (element binary
 abbrev μ-loop : tie.MeasureT-loop
 μ-loop dims body out₀ i₀ out i = dims - i
 
-loop-holds : tie.Need-loop-holds Inv-loop μ-loop
-loop-holds c = fill-none _ _ _
-
 loop-again : tie.Need-loop-again Inv-loop μ-loop
 unfolding element
 loop-again c =
-    let x = c .before .before .before .before in
-    let t = x .before .before in
-    let bits = rw (x .before .u64-at .ensures) at (x .narrow-bits .ensures) in
+    let t = c .before .before .before .before .before .before in
+    let bits = rw (c .before .before .before .before .before .u64-at .ensures) at (c .before .before .before .before .narrow-bits .ensures) in
     fill-pattern binary32 _ (t .before .loop .inv) (t .loop-test .taken) (t .before .before .before .before .pre .1 .1) _ _ bits (c .before .before .put-u32 .ensures)
-
-returns : tie.Need-returns Inv-loop μ-loop
-returns c = fill-all (c .before .loop .inv) (c .loop-test .left)
 
 pub put-narrowed-spec : {M : Type 1} → statement M
 put-narrowed-spec =
@@ -34,8 +27,8 @@ put-narrowed-spec =
     (tie.spec
     Inv-loop
     μ-loop
-    loop-holds
+    (λ c. fill-none _ _ _)
     (λ c. search needs) (λ c κs. search needs) (λ c κs. search needs) (λ c. search needs) (λ c κs. search needs) (λ c. search needs) (λ c. search needs)
     loop-again
     (λ c. search needs)
-    returns)
+    (λ c. fill-all (c .before .loop .inv) (c .loop-test .left)))

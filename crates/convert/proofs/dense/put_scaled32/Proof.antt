@@ -14,9 +14,6 @@ Inv-loop dims body out₀ scale i₀ out i = Filled (floatsOf binary32 (element 
 abbrev μ-loop : tie.MeasureT-loop
 μ-loop dims body out₀ scale i₀ out i = dims - i
 
-loop-holds : tie.Need-loop-holds Inv-loop μ-loop
-loop-holds c = fill-none _ _ _
-
 loop-again : tie.Need-loop-again Inv-loop μ-loop
 unfolding element
 loop-again c =
@@ -26,9 +23,6 @@ loop-again c =
     let scaled = rw (s .scale-at .ensures) at (x .single .ensures) in
     fill-float binary32 _ (t .before .loop .inv) (t .loop-test .taken) (s .before .before .before .pre .1 .1) _ _ scaled (c .before .before .put-f32 .ensures)
 
-returns : tie.Need-returns Inv-loop μ-loop
-returns c = fill-all (c .before .loop .inv) (c .loop-test .left)
-
 pub put-scaled32-spec : {M : Type 1} → statement M
 put-scaled32-spec =
     tie.close
@@ -36,8 +30,8 @@ put-scaled32-spec =
     Inv-loop
     μ-loop
     (λ c κs. search needs)
-    loop-holds
+    (λ c. fill-none _ _ _)
     (λ c. search needs) (λ c κs. search needs) (λ c. search needs) (λ c κs. search needs) (λ c. search needs) (λ c. search needs)
     loop-again
     (λ c. search needs)
-    returns)
+    (λ c. fill-all (c .before .loop .inv) (c .loop-test .left)))

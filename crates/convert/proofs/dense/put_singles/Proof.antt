@@ -5,19 +5,13 @@ use Rattle.convert.proofs.dense.put_singles.Statement.{statement}
 use Rattle.convert.proofs.dense.put_singles.Tie as tie
 
 put-narrowed-requires : tie.Need-put-narrowed-requires
-put-narrowed-requires c κs =
-    let p = c .before .before .before .before .before .pre in
-    (p .0, (float64-length _ _ (c .before .enum-told .given .1) (p .1 .0), p .1 .1 .1 .0))
+put-narrowed-requires c κs = search (needs, float64-length _ _ (c .before .enum-told .given .1) (c .before .before .before .before .before .pre .1 .0))
 
 put-units32-requires : tie.Need-put-units32-requires
-put-units32-requires c κs =
-    let p = c .before .before .before .before .before .pre in
-    (p .0, (one-bit-length _ _ (c .before .enum-told2 .given .1) (p .1 .0), p .1 .1 .1 .0))
+put-units32-requires c κs = search (needs, one-bit-length _ _ (c .before .enum-told2 .given .1) (c .before .before .before .before .before .pre .1 .0))
 
 put-scaled32-requires : tie.Need-put-scaled32-requires
-put-scaled32-requires c κs =
-    let p = c .before .before .before .before .before .pre in
-    (p .0, (float8-length _ _ (c .before .enum-told3 .given .1) (p .1 .0), p .1 .1 .1 .0))
+put-scaled32-requires c κs = search (needs, float8-length _ _ (c .before .enum-told3 .given .1) (c .before .before .before .before .before .pre .1 .0))
 
 returns : tie.Need-returns
 returns c = rw (c .before .before .before .before .enum-told .given .1) (c .before .before .put-narrowed .ensures)

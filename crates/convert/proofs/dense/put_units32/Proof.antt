@@ -14,18 +14,11 @@ Inv-loop dims body out₀ i₀ out i = Filled (floatsOf binary32 (element binary
 abbrev μ-loop : tie.MeasureT-loop
 μ-loop dims body out₀ i₀ out i = dims - i
 
-loop-holds : tie.Need-loop-holds Inv-loop μ-loop
-loop-holds c = fill-none _ _ _
-
 loop-again : tie.Need-loop-again Inv-loop μ-loop
 unfolding element
 loop-again c =
-    let x = c .before .before .before .before in
-    let t = x .before in
-    fill-float binary32 _ (t .before .loop .inv) (t .loop-test .taken) (t .before .before .before .before .pre .1 .1) _ _ (x .unit32 .ensures) (c .before .before .put-f32 .ensures)
-
-returns : tie.Need-returns Inv-loop μ-loop
-returns c = fill-all (c .before .loop .inv) (c .loop-test .left)
+    let t = c .before .before .before .before .before in
+    fill-float binary32 _ (t .before .loop .inv) (t .loop-test .taken) (t .before .before .before .before .pre .1 .1) _ _ (c .before .before .before .before .unit32 .ensures) (c .before .before .put-f32 .ensures)
 
 pub put-units32-spec : {M : Type 1} → statement M
 put-units32-spec =
@@ -33,8 +26,8 @@ put-units32-spec =
     (tie.spec
     Inv-loop
     μ-loop
-    loop-holds
+    (λ c. fill-none _ _ _)
     (λ c κs. search needs) (λ c. search needs) (λ c κs. search needs) (λ c. search needs) (λ c. search needs)
     loop-again
     (λ c. search needs)
-    returns)
+    (λ c. fill-all (c .before .loop .inv) (c .loop-test .left)))

@@ -15,18 +15,12 @@ Inv-loop dims body out₀ i₀ out i = Filled (floatsOf binary64 (element binary
 abbrev μ-loop : tie.MeasureT-loop
 μ-loop dims body out₀ i₀ out i = dims - i
 
-loop-holds : tie.Need-loop-holds Inv-loop μ-loop
-loop-holds c = fill-none _ _ _
-
 loop-again : tie.Need-loop-again Inv-loop μ-loop
 unfolding element
 loop-again c =
-    let x = c .before .before .before .before in
-    let t = x .before .before in
-    fill-float binary64 _ (t .before .loop .inv) (t .loop-test .taken) (t .before .before .before .before .pre .1 .1) _ _ (x .widen .ensures ∙ x .before .unit32 .ensures) (c .before .before .put-f64 .ensures)
-
-returns : tie.Need-returns Inv-loop μ-loop
-returns c = fill-all (c .before .loop .inv) (c .loop-test .left)
+    let t = c .before .before .before .before .before .before in
+    let unit = c .before .before .before .before .widen .ensures ∙ c .before .before .before .before .before .unit32 .ensures in
+    fill-float binary64 _ (t .before .loop .inv) (t .loop-test .taken) (t .before .before .before .before .pre .1 .1) _ _ unit (c .before .before .put-f64 .ensures)
 
 pub put-units64-spec : {M : Type 1} → statement M
 put-units64-spec =
@@ -34,8 +28,8 @@ put-units64-spec =
     (tie.spec
     Inv-loop
     μ-loop
-    loop-holds
+    (λ c. fill-none _ _ _)
     (λ c κs. search needs) (λ c κs. search needs) (λ c. search needs) (λ c κs. search needs) (λ c. search needs) (λ c. search needs)
     loop-again
     (λ c. search needs)
-    returns)
+    (λ c. fill-all (c .before .loop .inv) (c .loop-test .left)))
