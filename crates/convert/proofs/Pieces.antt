@@ -8,7 +8,7 @@ use native.Mathlib.Omega.{arith}
 use lib.ListN.{length, getD, List·getD-append, set, drop, replicate, length-append, replicate-append-replicate}
 use lib.Seq.{getD-at, take-at, drop-at, drop-drop}
 use lib.Ieee.{Float, Format, toBits}
-use Rattle.elements.specs.Bytes.{put, width, floatBytes}
+use Rattle.elements.specs.Bytes.{put, width, bytesOf, floatBytes}
 use Rattle.elements.proofs.Numbers.{length-bytesOf}
 use Rattle.promises.specs.Onto.{onto}
 use Rattle.promises.proofs.Onto.{onto-put, length-onto}
@@ -96,7 +96,12 @@ fill-byte b {n} {l} {o} {i} h less room v e =
     let size = length-bytes b (i + 1) in
     filled (pieces (λ j. b j ∷ [])) n l (set o i v) (i + 1) (omega arith) (omega arith) (rw e (set-byte b l o i (h .left) (omega arith)))
 
+-- a float by its pattern
+pub fill-pattern : (f : Format) (e : ℕ → Float) {n : ℕ} {l o : List ℕ} {i : ℕ} → Filled (floatsOf f e) n l o i → i < n → width f * n ≤ length l
+    → (o′ : List ℕ) (v : ℕ) → v ≡ toBits f (e i) → o′ ≡ put o (width f * i) (bytesOf (width f) v) → Filled (floatsOf f e) n l o′ (i + 1)
+fill-pattern f e {n} {l} {o} {i} h less room o′ v same p =
+    fill-piece (λ j. floatBytes f (e j)) (width f) (λ j. length-bytesOf (width f) (toBits f (e j))) h less room o′ (rw same at p)
+
 pub fill-float : (f : Format) (e : ℕ → Float) {n : ℕ} {l o : List ℕ} {i : ℕ} → Filled (floatsOf f e) n l o i → i < n → width f * n ≤ length l
     → (o′ : List ℕ) (x : Float) → x ≡ e i → o′ ≡ put o (width f * i) (floatBytes f x) → Filled (floatsOf f e) n l o′ (i + 1)
-fill-float f e {n} {l} {o} {i} h less room o′ x same p =
-    fill-piece (λ j. floatBytes f (e j)) (width f) (λ j. length-bytesOf (width f) (toBits f (e j))) h less room o′ (rw same at p)
+fill-float f e {n} {l} {o} {i} h less room o′ x same p = fill-pattern f e h less room o′ (toBits f x) (ap (toBits f) same) p

@@ -1,20 +1,111 @@
 // To Float32Dense and Float64Dense.
 ghost use mathlib.Core.Path.{_≡_};
 ghost use mathlib.Core.Bool.{false, true};
-ghost use Prim.Native.Nat.{_*_, _%_, _≤_, _<_};
-ghost use lib.ListN.{length};
-ghost use lib.ListN.{replicate};
+ghost use Prim.Native.Nat.{_+_, _*_, _%_, _≤_};
+ghost use lib.ListN.{length, replicate};
 ghost use lib.Ieee.{binary32, binary64};
 ghost use Rattle.promises.specs.Onto.{onto};
-ghost use Rattle.vector_types.specs.Layout.{mostDims, is, fits, strays};
-ghost use Rattle.vector_types.specs.declared.VectorType.the-variants.{Float32Sparse};
+ghost use Rattle.vector_types.specs.Layout.{mostDims, ceil, is, fits, strays};
+ghost use Rattle.vector_types.specs.declared.VectorType.the-variants.{Float32Dense, Float64Dense, Float32Sparse, Float1Bit, Float8};
 ghost use Rattle.convert.specs.Dense.{spreadBody};
 ghost use Rattle.convert.specs.Elements.{element, floatsOf};
-use crate::element::double;
-use crate::element::single;
+use crate::element::unit32;
+use crate::scale::scale_at;
 use vector_types::VectorType;
 
-// Puts the elements in f32 at the start of out, and in f64.
+// Puts f64 elements as f32.
+fn put_narrowed(dims: usize, body: &[u8], out: &mut [u8])
+    requires { ⌜ dims ≤ mostDims ⌝ }
+    requires { ⌜ length (now body) ≡ 8 * dims ⌝ }
+    requires { ⌜ 4 * dims ≤ length (now out) ⌝ }
+    ensures { λ _. ⌜ now (out .exit) ≡ onto (floatsOf binary32 (element binary32 Float64Dense dims (now (body .entry))) dims) (now (out .entry)) ⌝ }
+{
+    let mut i = 0;
+    while i < dims {
+        let bits = rounding::narrow_bits(elements::u64_at(body, 8 * i));
+        elements::put_u32(out, 4 * i, bits);
+        i += 1;
+    }
+}
+
+// Puts f32 elements as f64.
+fn put_widened(dims: usize, body: &[u8], out: &mut [u8])
+    requires { ⌜ dims ≤ mostDims ⌝ }
+    requires { ⌜ length (now body) ≡ 4 * dims ⌝ }
+    requires { ⌜ 8 * dims ≤ length (now out) ⌝ }
+    ensures { λ _. ⌜ now (out .exit) ≡ onto (floatsOf binary64 (element binary64 Float32Dense dims (now (body .entry))) dims) (now (out .entry)) ⌝ }
+{
+    let mut i = 0;
+    while i < dims {
+        let bits = rounding::widen_bits(elements::u32_at(body, 4 * i));
+        elements::put_u64(out, 8 * i, bits);
+        i += 1;
+    }
+}
+
+// Puts the elements of a 1-bit body in f32, and in f64.
+fn put_units32(dims: usize, body: &[u8], out: &mut [u8])
+    requires { ⌜ dims ≤ mostDims ⌝ }
+    requires { ⌜ length (now body) ≡ ceil dims 8 ⌝ }
+    requires { ⌜ 4 * dims ≤ length (now out) ⌝ }
+    ensures { λ _. ⌜ now (out .exit) ≡ onto (floatsOf binary32 (element binary32 Float1Bit dims (now (body .entry))) dims) (now (out .entry)) ⌝ }
+{
+    let mut i = 0;
+    while i < dims {
+        let x = unit32(body, i);
+        elements::put_f32(out, 4 * i, x);
+        i += 1;
+    }
+}
+
+fn put_units64(dims: usize, body: &[u8], out: &mut [u8])
+    requires { ⌜ dims ≤ mostDims ⌝ }
+    requires { ⌜ length (now body) ≡ ceil dims 8 ⌝ }
+    requires { ⌜ 8 * dims ≤ length (now out) ⌝ }
+    ensures { λ _. ⌜ now (out .exit) ≡ onto (floatsOf binary64 (element binary64 Float1Bit dims (now (body .entry))) dims) (now (out .entry)) ⌝ }
+{
+    let mut i = 0;
+    while i < dims {
+        let x = rounding::widen(unit32(body, i));
+        elements::put_f64(out, 8 * i, x);
+        i += 1;
+    }
+}
+
+// Puts the elements of a Float8 body, worked out in f32, and in f64.
+fn put_scaled32(dims: usize, body: &[u8], out: &mut [u8])
+    requires { ⌜ dims ≤ mostDims ⌝ }
+    requires { ⌜ length (now body) ≡ 4 * ceil dims 4 + 8 ⌝ }
+    requires { ⌜ 4 * dims ≤ length (now out) ⌝ }
+    ensures { λ _. ⌜ now (out .exit) ≡ onto (floatsOf binary32 (element binary32 Float8 dims (now (body .entry))) dims) (now (out .entry)) ⌝ }
+{
+    let scale = scale_at(dims, body);
+    let mut i = 0;
+    while i < dims {
+        let x = scale.single(body[i]);
+        elements::put_f32(out, 4 * i, x);
+        i += 1;
+    }
+}
+
+fn put_scaled64(dims: usize, body: &[u8], out: &mut [u8])
+    requires { ⌜ dims ≤ mostDims ⌝ }
+    requires { ⌜ length (now body) ≡ 4 * ceil dims 4 + 8 ⌝ }
+    requires { ⌜ 8 * dims ≤ length (now out) ⌝ }
+    ensures { λ _. ⌜ now (out .exit) ≡ onto (floatsOf binary64 (element binary64 Float8 dims (now (body .entry))) dims) (now (out .entry)) ⌝ }
+{
+    let scale = scale_at(dims, body);
+    let alpha = rounding::widen(scale.alpha);
+    let shift = rounding::widen(scale.shift);
+    let mut i = 0;
+    while i < dims {
+        let x = alpha * body[i] as f64 + shift;
+        elements::put_f64(out, 8 * i, x);
+        i += 1;
+    }
+}
+
+// Puts the elements of another kind in f32 at the start of out, and in f64.
 pub(crate) fn put_singles(kind: VectorType, dims: usize, body: &[u8], out: &mut [u8])
     requires { ⌜ dims ≤ mostDims ⌝ }
     requires { ⌜ fits kind dims (length (now body)) ≡ true ⌝ }
@@ -23,11 +114,14 @@ pub(crate) fn put_singles(kind: VectorType, dims: usize, body: &[u8], out: &mut 
     requires { ⌜ is 1 kind ≡ false ⌝ }
     ensures { λ _. ⌜ now (out .exit) ≡ onto (floatsOf binary32 (element binary32 kind dims (now (body .entry))) dims) (now (out .entry)) ⌝ }
 {
-    let mut i = 0;
-    while i < dims {
-        let x = single(kind, dims, body, i);
-        elements::put_f32(out, 4 * i, x);
-        i += 1;
+    match kind {
+        VectorType::Float64Dense => put_narrowed(dims, body, out),
+        VectorType::Float1Bit => put_units32(dims, body, out),
+        VectorType::Float8 => put_scaled32(dims, body, out),
+        // never: a body of the same kind is copied
+        VectorType::Float32Dense => {}
+        // never: a sparse body is spread
+        VectorType::Float32Sparse => {}
     }
 }
 
@@ -39,11 +133,14 @@ pub(crate) fn put_doubles(kind: VectorType, dims: usize, body: &[u8], out: &mut 
     requires { ⌜ is 2 kind ≡ false ⌝ }
     ensures { λ _. ⌜ now (out .exit) ≡ onto (floatsOf binary64 (element binary64 kind dims (now (body .entry))) dims) (now (out .entry)) ⌝ }
 {
-    let mut i = 0;
-    while i < dims {
-        let x = double(kind, dims, body, i);
-        elements::put_f64(out, 8 * i, x);
-        i += 1;
+    match kind {
+        VectorType::Float32Dense => put_widened(dims, body, out),
+        VectorType::Float1Bit => put_units64(dims, body, out),
+        VectorType::Float8 => put_scaled64(dims, body, out),
+        // never: a body of the same kind is copied
+        VectorType::Float64Dense => {}
+        // never: a sparse body is spread
+        VectorType::Float32Sparse => {}
     }
 }
 
@@ -90,8 +187,8 @@ pub(crate) fn spread64(dims: usize, body: &[u8], out: &mut [u8])
     let mut j = 0;
     while j < count {
         let index = elements::u32_at(body, 4 * count + 4 * j) as usize;
-        let value = rounding::widen(elements::f32_at(body, 4 * j));
-        elements::put_f64(out, 8 * index, value);
+        let value = rounding::widen_bits(elements::u32_at(body, 4 * j));
+        elements::put_u64(out, 8 * index, value);
         j += 1;
     }
 }

@@ -4,7 +4,7 @@ ghost use mathlib.Core.Bool.{false, true};
 ghost use Prim.Native.Nat.{_*_, _≤_, _<_};
 ghost use lib.Dec.{eqb};
 ghost use lib.ListN.{length};
-ghost use lib.Ieee.{binary32, binary64};
+ghost use lib.Ieee.{binary32};
 ghost use Rattle.vector_types.specs.Layout.{mostDims, is, bitAt, fits};
 ghost use Rattle.convert.specs.Elements.{unit, element};
 ghost use Rattle.convert.specs.Sparse.{stored};
@@ -20,14 +20,14 @@ fn is_set(body: &[u8], i: usize) -> bool
 }
 
 // Element i of a 1-bit body: 1.0 or -1.0.
-fn unit32(body: &[u8], i: usize) -> f32
+pub(crate) fn unit32(body: &[u8], i: usize) -> f32
     requires { ⌜ i < 8 * length (now body) ⌝ }
     ensures { λ r. ⌜ r ≡ unit (eqb (bitAt (now (body .entry)) i) 0) ⌝ }
 {
     if is_set(body, i) { 1.0 } else { -1.0 }
 }
 
-// Element i in f32, and in f64.
+// Element i in f32.
 pub(crate) fn single(kind: VectorType, dims: usize, body: &[u8], i: usize) -> f32
     requires { ⌜ dims ≤ mostDims ⌝ }
     requires { ⌜ fits kind dims (length (now body)) ≡ true ⌝ }
@@ -44,28 +44,6 @@ pub(crate) fn single(kind: VectorType, dims: usize, body: &[u8], i: usize) -> f3
             let alpha = elements::f32_at(body, end);
             let shift = elements::f32_at(body, end + 4);
             alpha * body[i] as f32 + shift
-        }
-        // never: a sparse body is spread first
-        VectorType::Float32Sparse => 0.0,
-    }
-}
-
-pub(crate) fn double(kind: VectorType, dims: usize, body: &[u8], i: usize) -> f64
-    requires { ⌜ dims ≤ mostDims ⌝ }
-    requires { ⌜ fits kind dims (length (now body)) ≡ true ⌝ }
-    requires { ⌜ is 9 kind ≡ false ⌝ }
-    requires { ⌜ i < dims ⌝ }
-    ensures { λ r. ⌜ r ≡ element binary64 kind dims (now (body .entry)) i ⌝ }
-{
-    match kind {
-        VectorType::Float32Dense => rounding::widen(elements::f32_at(body, 4 * i)),
-        VectorType::Float64Dense => elements::f64_at(body, 8 * i),
-        VectorType::Float1Bit => rounding::widen(unit32(body, i)),
-        VectorType::Float8 => {
-            let end = 4 * ((dims + 3) / 4);
-            let alpha = rounding::widen(elements::f32_at(body, end));
-            let shift = rounding::widen(elements::f32_at(body, end + 4));
-            alpha * body[i] as f64 + shift
         }
         // never: a sparse body is spread first
         VectorType::Float32Sparse => 0.0,

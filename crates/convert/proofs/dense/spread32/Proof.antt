@@ -20,9 +20,7 @@ abbrev μ-loop : tie.MeasureT-loop
 μ-loop dims body out₀ count j₀ out j = entries body - j
 
 loop-holds : tie.Need-loop-holds Inv-loop μ-loop
-loop-holds c =
-    let p = c .before .before .before .before .before .before .pre in
-    spread-none binary32 _ _ (p .1 .1 .0) _ _ (c .before .before .put-zeros .ensures)
+loop-holds c = spread-none binary32 _ _ (c .before .before .before .before .before .before .pre .1 .1 .0) _ _ (c .before .before .put-zeros .ensures)
 
 put-u32-requires : tie.Need-put-u32-requires Inv-loop μ-loop
 put-u32-requires c κs =

@@ -1,9 +1,9 @@
 -- The loop spreads, entry by entry; a value is widened.
-use mathlib.Core.Path.{ap, _∙_}
+use mathlib.Core.Path.{ap}
 use Prim.Native.Nat.{_-_}
 use borrow.Author.Needs.{needs}
 use lib.Ieee.{binary64}
-use Rattle.elements.specs.Bytes.{floatBytes}
+use Rattle.elements.specs.Bytes.{bytesOf}
 use Rattle.convert.specs.Dense.{count as entries, spread}
 use Rattle.convert.proofs.Pieces.{Filled}
 use Rattle.convert.proofs.Spread.{spread-none, spread-room, spread-next, spread-all}
@@ -17,12 +17,10 @@ abbrev μ-loop : tie.MeasureT-loop
 μ-loop dims body out₀ count j₀ out j = entries body - j
 
 loop-holds : tie.Need-loop-holds Inv-loop μ-loop
-loop-holds c =
-    let p = c .before .before .before .before .before .before .pre in
-    spread-none binary64 _ _ (p .1 .1 .0) _ _ (c .before .before .put-zeros .ensures)
+loop-holds c = spread-none binary64 _ _ (c .before .before .before .before .before .before .pre .1 .1 .0) _ _ (c .before .before .put-zeros .ensures)
 
-put-f64-requires : tie.Need-put-f64-requires Inv-loop μ-loop
-put-f64-requires c κs =
+put-u64-requires : tie.Need-put-u64-requires Inv-loop μ-loop
+put-u64-requires c κs =
     let t = c .before .before .before .before in
     let s = t .before .before .before .before .before .before .before .before in
     spread-room binary64 _ _ (s .pre .1 .1 .0) (t .before .loop .inv) (t .loop-test .taken) _ (c .before .before .before .u32-at .ensures)
@@ -32,9 +30,9 @@ loop-again c =
     let v = c .before .before .before .before in
     let t = v .before .before .before in
     let s = t .before .before .before .before .before .before .before .before in
-    let value = ap (floatBytes binary64) (v .widen .ensures ∙ v .before .f32-at .ensures) in
+    let value = ap (bytesOf 8) (rw (v .before .u32-at2 .ensures) at (v .widen-bits .ensures)) in
     spread-next binary64 _ _ (s .pre .1 .1 .0) (t .before .loop .inv) (t .loop-test .taken)
-    _ _ _ (v .before .before .u32-at .ensures) value (c .before .before .put-f64 .ensures)
+    _ _ _ (v .before .before .u32-at .ensures) value (c .before .before .put-u64 .ensures)
 
 returns : tie.Need-returns Inv-loop μ-loop
 returns c =
@@ -51,7 +49,7 @@ spread64-spec =
     loop-holds
     (λ c. search needs) (λ c. search needs) (λ c. search needs) (λ c κs. search needs) (λ c. search needs)
     (λ c. search needs) (λ c κs. search needs) (λ c κs. search needs) (λ c. search needs)
-    put-f64-requires
+    put-u64-requires
     (λ c. search needs) (λ c. search needs)
     loop-again
     (λ c. search needs)
