@@ -5,11 +5,11 @@ use Prim.Native.Nat.{ℕ, _*_}
 use lib.Dec.{T, eqb}
 use lib.IntN.{pos}
 use lib.ListN.{getD}
-use lib.Ieee.{Float, nan, inf, fin, Format, binary32, binary64, fits, mul, ofInt, up, down}
-use lib.Ieee.Fits.{nan-fits, inf-fits, round-fits, add-fits, fits-widens}
+use lib.Ieee.{Format, binary32, binary64, fits, mul, ofInt}
+use lib.Ieee.Fits.{add-fits, fits-widens}
 use Rattle.elements.specs.Bytes.{f32At}
 use Rattle.elements.proofs.Floats.{floatAt-fits}
-use Rattle.rounding.specs.Narrow.{narrowed}
+use Rattle.rounding.proofs.NarrowBits.{narrowed-fits}
 use Rattle.vector_types.specs.Layout.{bitAt}
 use Rattle.vector_types.specs.declared.VectorType.{VectorType}
 use Rattle.vector_types.specs.declared.VectorType.the-variants.{Float32Dense, Float64Dense, Float32Sparse, Float1Bit, Float8}
@@ -22,12 +22,6 @@ unit-fits binary32 true = tt
 unit-fits binary32 false = tt
 unit-fits binary64 true = tt
 unit-fits binary64 false = tt
-
-narrowed-fits : (x : Float) → T (fits binary32 (narrowed x))
-unfolding narrowed
-narrowed-fits nan = nan-fits binary32
-narrowed-fits (inf s) = inf-fits binary32 s
-narrowed-fits (fin s m e) = round-fits binary32 s (m * up e) (down e)
 
 -- an f32, in either width
 single-fits : (f : Format) (s : List ℕ) (i : ℕ) → T (fits f (f32At s i))

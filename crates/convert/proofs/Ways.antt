@@ -1,12 +1,12 @@
 -- By which way a pair is converted, and how long the body is that it makes.
 use mathlib.Core.Path.{_≡_, refl, sym, ap, _∙_}
-use mathlib.Core.Bool.{Bool, true, false, not, _&&_, _||_, and-eq-true-iff, true≢false, false≢true}
+use mathlib.Core.Bool.{Bool, true, false, not, _&&_, _||_, and-eq-true-iff, false≢true}
 use mathlib.Core.List.{List}
 use Prim.Native.Nat.{ℕ, _+_, _*_}
 use native.Mathlib.Omega.{arith}
 use lib.ListN.{length, take, drop}
 use lib.Seq.{take-at}
-use lib.Ieee.{Format, binary32, binary64}
+use lib.Ieee.{binary32, binary64}
 use borrow.Author.Tests.{eq-eqb, not-true}
 use Rattle.promises.specs.Onto.{onto}
 use Rattle.vector_types.specs.Layout.{ceil, byteOf, is, counted, fits, outside, strays}
@@ -15,31 +15,18 @@ use Rattle.vector_types.specs.declared.VectorType.{VectorType}
 use Rattle.vector_types.specs.declared.VectorType.the-variants.{Float32Dense, Float64Dense, Float32Sparse, Float1Bit, Float8}
 use Rattle.convert.specs.Pieces.{placesOf}
 use Rattle.convert.specs.Dense.{count, spreadBody}
-use Rattle.convert.specs.Elements.{element, floatsOf, denseBody}
+use Rattle.convert.specs.Elements.{denseBody}
 use Rattle.convert.specs.Sparse.{stored}
 use Rattle.convert.specs.Result.{Way, Copied, Straight, Through, wayOf, made, resultBy, resultOf}
 use Rattle.convert.specs.Convert.{scratched}
 use Rattle.vector_types.proofs.SameKind.{same-kind}
-use Rattle.convert.proofs.ByKind.{counted-by, sparse-kind, pairs}
+use Rattle.convert.proofs.ByKind.{counted-by, pairs}
 use Rattle.convert.proofs.Lengths.{length-dense}
 use Rattle.convert.proofs.Packed.{length-bitBody}
 use Rattle.convert.proofs.Places.{length-sparse}
 use Rattle.convert.proofs.Scaled.{length-quantizedBody}
 use Rattle.convert.proofs.Spread.{length-spread}
 use Rattle.convert.proofs.Through.{through-made}
-
--- ---- dense bodies
-pub dense-sparse : (f : Format) (k : VectorType) (d : ℕ) (body : List ℕ) → is 9 k ≡ true → denseBody f k d body ≡ spreadBody f d body
-unfolding denseBody
-dense-sparse f k d body h = ap (λ (k : VectorType). denseBody f k d body) (sparse-kind k h)
-
-pub dense-other : (f : Format) (k : VectorType) (d : ℕ) (body : List ℕ) → is 9 k ≡ false → denseBody f k d body ≡ floatsOf f (element f k d body) d
-unfolding denseBody
-dense-other f Float32Dense d body h = refl
-dense-other f Float64Dense d body h = refl
-dense-other f Float1Bit d body h = refl
-dense-other f Float8 d body h = refl
-dense-other f Float32Sparse d body h = absurd (true≢false h)
 
 -- ---- how long the body is that one step makes
 abbrev pub sizeOf : VectorType → VectorType → ℕ → List ℕ → ℕ

@@ -8,7 +8,7 @@ ghost use Rattle.promises.specs.Onto.{onto};
 ghost use Rattle.vector_types.specs.Layout.{mostDims, ceil, is, fits, strays};
 ghost use Rattle.vector_types.specs.declared.VectorType.the-variants.{Float32Dense, Float64Dense, Float32Sparse, Float1Bit, Float8};
 ghost use Rattle.convert.specs.Dense.{spreadBody};
-ghost use Rattle.convert.specs.Elements.{element, floatsOf};
+ghost use Rattle.convert.specs.Elements.{element, floatsOf, denseBody};
 use crate::element::unit32;
 use crate::scale::scale_at;
 use vector_types::VectorType;
@@ -105,45 +105,6 @@ fn put_scaled64(dims: usize, body: &[u8], out: &mut [u8])
     }
 }
 
-// Puts the elements of another kind in f32 at the start of out, and in f64.
-pub(crate) fn put_singles(kind: VectorType, dims: usize, body: &[u8], out: &mut [u8])
-    requires { ⌜ dims ≤ mostDims ⌝ }
-    requires { ⌜ fits kind dims (length (now body)) ≡ true ⌝ }
-    requires { ⌜ is 9 kind ≡ false ⌝ }
-    requires { ⌜ 4 * dims ≤ length (now out) ⌝ }
-    requires { ⌜ is 1 kind ≡ false ⌝ }
-    ensures { λ _. ⌜ now (out .exit) ≡ onto (floatsOf binary32 (element binary32 kind dims (now (body .entry))) dims) (now (out .entry)) ⌝ }
-{
-    match kind {
-        VectorType::Float64Dense => put_narrowed(dims, body, out),
-        VectorType::Float1Bit => put_units32(dims, body, out),
-        VectorType::Float8 => put_scaled32(dims, body, out),
-        // never: a body of the same kind is copied
-        VectorType::Float32Dense => {}
-        // never: a sparse body is spread
-        VectorType::Float32Sparse => {}
-    }
-}
-
-pub(crate) fn put_doubles(kind: VectorType, dims: usize, body: &[u8], out: &mut [u8])
-    requires { ⌜ dims ≤ mostDims ⌝ }
-    requires { ⌜ fits kind dims (length (now body)) ≡ true ⌝ }
-    requires { ⌜ is 9 kind ≡ false ⌝ }
-    requires { ⌜ 8 * dims ≤ length (now out) ⌝ }
-    requires { ⌜ is 2 kind ≡ false ⌝ }
-    ensures { λ _. ⌜ now (out .exit) ≡ onto (floatsOf binary64 (element binary64 kind dims (now (body .entry))) dims) (now (out .entry)) ⌝ }
-{
-    match kind {
-        VectorType::Float32Dense => put_widened(dims, body, out),
-        VectorType::Float1Bit => put_units64(dims, body, out),
-        VectorType::Float8 => put_scaled64(dims, body, out),
-        // never: a body of the same kind is copied
-        VectorType::Float64Dense => {}
-        // never: a sparse body is spread
-        VectorType::Float32Sparse => {}
-    }
-}
-
 // Puts n zeros at the start of out.
 pub(crate) fn put_zeros(n: usize, out: &mut [u8])
     requires { ⌜ n ≤ length (now out) ⌝ }
@@ -175,7 +136,7 @@ pub(crate) fn spread32(dims: usize, body: &[u8], out: &mut [u8])
     }
 }
 
-pub(crate) fn spread64(dims: usize, body: &[u8], out: &mut [u8])
+fn spread64(dims: usize, body: &[u8], out: &mut [u8])
     requires { ⌜ dims ≤ mostDims ⌝ }
     requires { ⌜ length (now body) % 8 ≡ 0 ⌝ }
     requires { ⌜ strays Float32Sparse dims (now body) ≡ false ⌝ }
@@ -190,5 +151,42 @@ pub(crate) fn spread64(dims: usize, body: &[u8], out: &mut [u8])
         let value = rounding::widen_bits(elements::u32_at(body, 4 * j));
         elements::put_u64(out, 8 * index, value);
         j += 1;
+    }
+}
+
+// Puts the elements of another kind in f32 at the start of out, and in f64.
+pub(crate) fn put_dense32(kind: VectorType, dims: usize, body: &[u8], out: &mut [u8])
+    requires { ⌜ dims ≤ mostDims ⌝ }
+    requires { ⌜ fits kind dims (length (now body)) ≡ true ⌝ }
+    requires { ⌜ strays kind dims (now body) ≡ false ⌝ }
+    requires { ⌜ 4 * dims ≤ length (now out) ⌝ }
+    requires { ⌜ is 1 kind ≡ false ⌝ }
+    ensures { λ _. ⌜ now (out .exit) ≡ onto (denseBody binary32 kind dims (now (body .entry))) (now (out .entry)) ⌝ }
+{
+    match kind {
+        VectorType::Float64Dense => put_narrowed(dims, body, out),
+        VectorType::Float32Sparse => spread32(dims, body, out),
+        VectorType::Float1Bit => put_units32(dims, body, out),
+        VectorType::Float8 => put_scaled32(dims, body, out),
+        // never: a body of the same kind is copied
+        VectorType::Float32Dense => {}
+    }
+}
+
+pub(crate) fn put_dense64(kind: VectorType, dims: usize, body: &[u8], out: &mut [u8])
+    requires { ⌜ dims ≤ mostDims ⌝ }
+    requires { ⌜ fits kind dims (length (now body)) ≡ true ⌝ }
+    requires { ⌜ strays kind dims (now body) ≡ false ⌝ }
+    requires { ⌜ 8 * dims ≤ length (now out) ⌝ }
+    requires { ⌜ is 2 kind ≡ false ⌝ }
+    ensures { λ _. ⌜ now (out .exit) ≡ onto (denseBody binary64 kind dims (now (body .entry))) (now (out .entry)) ⌝ }
+{
+    match kind {
+        VectorType::Float32Dense => put_widened(dims, body, out),
+        VectorType::Float32Sparse => spread64(dims, body, out),
+        VectorType::Float1Bit => put_units64(dims, body, out),
+        VectorType::Float8 => put_scaled64(dims, body, out),
+        // never: a body of the same kind is copied
+        VectorType::Float64Dense => {}
     }
 }

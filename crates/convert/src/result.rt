@@ -3,22 +3,19 @@ ghost use mathlib.Core.Path.{_≡_};
 ghost use mathlib.Core.Bool.{false, true, _&&_, _||_};
 ghost use Prim.Native.Nat.{_*_, _≤_};
 ghost use lib.ListN.{length};
-ghost use lib.Ieee.{binary32, binary64};
 ghost use Rattle.promises.specs.Onto.{onto};
 ghost use Rattle.vector_types.specs.Layout.{mostDims, byteOf, is, counted, fits, strays};
 ghost use Rattle.vector_types.specs.Read.{readOf};
 ghost use Rattle.vector_types.specs.Parts.{bodyOf};
 ghost use Rattle.vector_types.specs.declared.ReadAnswer.the-variants.{View as Seen};
 ghost use Rattle.convert.specs.Result.{made, resultOf};
-ghost use Rattle.convert.specs.Elements.{denseBody};
 ghost use Rattle.convert.specs.Convert.{convertedTo, answerWith, outWith, answerOf, scratchBy, outBy};
 ghost use Rattle.vector_types.specs.declared.VectorType.the-variants.{Float32Sparse};
 use crate::ConvertAnswer;
 use crate::bits::put_bits;
-use crate::dense::put_doubles;
-use crate::dense::put_singles;
+use crate::dense::put_dense32;
+use crate::dense::put_dense64;
 use crate::dense::spread32;
-use crate::dense::spread64;
 use crate::quantized::put_quantized;
 use crate::sparse::count_stored;
 use crate::sparse::put_sparse;
@@ -57,37 +54,6 @@ fn made_length(kind: VectorType, target: VectorType, dims: usize, body: &[u8]) -
         VectorType::Float1Bit => (dims + 7) / 8,
         VectorType::Float8 => (dims + 3) / 4 * 4 + 8,
     }
-}
-
-// Puts the elements as floats at the start of out, those of another kind.
-fn put_dense32(kind: VectorType, dims: usize, body: &[u8], out: &mut [u8])
-    requires { ⌜ dims ≤ mostDims ⌝ }
-    requires { ⌜ fits kind dims (length (now body)) ≡ true ⌝ }
-    requires { ⌜ strays kind dims (now body) ≡ false ⌝ }
-    requires { ⌜ 4 * dims ≤ length (now out) ⌝ }
-    requires { ⌜ is 1 kind ≡ false ⌝ }
-    ensures { λ _. ⌜ now (out .exit) ≡ onto (denseBody binary32 kind dims (now (body .entry))) (now (out .entry)) ⌝ }
-{
-    if is_sparse(kind) {
-        spread32(dims, body, out);
-        return;
-    }
-    put_singles(kind, dims, body, out);
-}
-
-fn put_dense64(kind: VectorType, dims: usize, body: &[u8], out: &mut [u8])
-    requires { ⌜ dims ≤ mostDims ⌝ }
-    requires { ⌜ fits kind dims (length (now body)) ≡ true ⌝ }
-    requires { ⌜ strays kind dims (now body) ≡ false ⌝ }
-    requires { ⌜ 8 * dims ≤ length (now out) ⌝ }
-    requires { ⌜ is 2 kind ≡ false ⌝ }
-    ensures { λ _. ⌜ now (out .exit) ≡ onto (denseBody binary64 kind dims (now (body .entry))) (now (out .entry)) ⌝ }
-{
-    if is_sparse(kind) {
-        spread64(dims, body, out);
-        return;
-    }
-    put_doubles(kind, dims, body, out);
 }
 
 // Puts the body that one step makes of another kind, which has `size` bytes, at the start of out.
