@@ -81,8 +81,8 @@ fn vector_f32_distance_dot(dims: usize, a: &[u8], b: &[u8]) -> f64
     let mut sum: f64 = 0.0;
     let mut i = 0;
     while i < dims {
-        let x = rounding::widen(elements::f32_at(a, 4 * i));
-        let y = rounding::widen(elements::f32_at(b, 4 * i));
+        let x = elements::wide_at(a, 4 * i);
+        let y = elements::wide_at(b, 4 * i);
         sum = dot_step(sum, x, y);
         i += 1;
     }

@@ -2,7 +2,7 @@
 -- or both zeros, and a sum that starts from +0.0 takes no notice of a zero's sign.
 use mathlib.Core.Path.{_≡_, refl, sym, ap, ap₂, _∙_}
 use mathlib.Core.Logic.{_⊎_, inl, inr}
-use mathlib.Core.Bool.{Bool, true, false, cond}
+use mathlib.Core.Bool.{Bool, true, false, cond, false≢true}
 use Prim.Native.Nat.{ℕ, zero, suc, _-_}
 use native.Mathlib.Nat.{le-refl}
 use native.Mathlib.Omega.{arith}
@@ -34,6 +34,14 @@ module _ (before : Order) (nowhere : (x y : Float) → isNan x ≡ true → befo
       go true e = inr (refl, asym y x e)
       go false e = inl (refl, e)
 
+  -- beside a number one comparison chooses
+  second-chosen : (x y : Float) → isNan y ≡ false → Chosen before x y (cond (before x y) x y)
+  second-chosen x y k = (λ n. rw (nowhere x y n), λ n g. absurd (false≢true (sym k ∙ g)), λ n g. go (before x y) refl)
+    where
+      go : (b : Bool) → before x y ≡ b → ((cond b x y ≡ x) × (before y x ≡ false)) ⊎ ((cond b x y ≡ y) × (before x y ≡ false))
+      go true e = inl (refl, asym x y e)
+      go false e = inr (refl, e)
+
 pub lesser-is : (x y : Float) → IsLesser x y (lesser x y)
 unfolding lesser
 lesser-is = first-chosen lt nan-lt lt-asym
@@ -60,6 +68,18 @@ module _ (f : Format) where
   add-alike s x y z (inl e) = ap (add f s) e
   add-alike s x y z (inr ((p, e), (q, g))) = rw (e, g) (add-zero-term f s p z ∙ sym (add-zero-term f s q z))
 
+module _ (f : Format) (before : Order) (tied : Tied f before) (x y : Float) (h : T (fits f x)) (k : T (fits f y)) where
+  chosen-alike : {m n : Float} → Chosen before x y m → Chosen before x y n → Alike m n
+  chosen-alike {m} {n} C D = go (isNan x) (isNan y) refl refl
+    where
+      go : (a b : Bool) → isNan x ≡ a → isNan y ≡ b → Alike m n
+      go true b p q = inl (C .0 p ∙ sym (D .0 p))
+      go false true p q = inl (C .1 p q ∙ sym (D .1 p q))
+      go false false p q = elim (C .2 p q) [
+        | inl (e, u) ↦ elim (D .2 p q) [ inl (g, v) ↦ inl (e ∙ sym g) | inr (g, v) ↦ rw (e, g) (tied x y p q h k v u) ]
+        | inr (e, u) ↦ elim (D .2 p q) [ inl (g, v) ↦ rw (e, g) (tied y x q p k h v u) | inr (g, v) ↦ inl (e ∙ sym g) ]
+      ]
+
 -- ---- sums of what two choices pick, from +0.0
 module _ (f : Format) (before : Order) (tied : Tied f before)
     (pick other : Float → Float → Float) (C : Chooses f before pick) (D : Chooses f before other) where
@@ -72,19 +92,8 @@ module _ (f : Format) (before : Order) (tied : Tied f before)
         go false true p q = rw (C x y h k .1 p q) h
         go false false p q = elim (C x y h k .2 p q) [ inl (e, l) ↦ rw e h | inr (e, l) ↦ rw e k ]
 
-    picks-alike : Alike (pick x y) (other x y)
-    picks-alike = go (isNan x) (isNan y) refl refl
-      where
-        go : (a b : Bool) → isNan x ≡ a → isNan y ≡ b → Alike (pick x y) (other x y)
-        go true b p q = inl (C x y h k .0 p ∙ sym (D x y h k .0 p))
-        go false true p q = inl (C x y h k .1 p q ∙ sym (D x y h k .1 p q))
-        go false false p q = elim (C x y h k .2 p q) [
-          | inl (e, u) ↦ elim (D x y h k .2 p q) [ inl (g, v) ↦ inl (e ∙ sym g) | inr (g, v) ↦ rw (e, g) (tied x y p q h k v u) ]
-          | inr (e, u) ↦ elim (D x y h k .2 p q) [ inl (g, v) ↦ rw (e, g) (tied y x q p k h v u) | inr (g, v) ↦ inl (e ∙ sym g) ]
-        ]
-
     added : (s : Float) → FromZero f s → FromZero f (add f s (pick x y)) × (add f s (pick x y) ≡ add f s (other x y))
-    added s z = (add-fromZero f s (pick x y) z pick-fits, add-alike f s (pick x y) (other x y) z picks-alike)
+    added s z = (add-fromZero f s (pick x y) z pick-fits, add-alike f s (pick x y) (other x y) z (chosen-alike f before tied x y h k (C x y h k) (D x y h k)))
 
   summed : (x y : ℕ → Float) (n : ℕ) → AllFit f x n → AllFit f y n
       → FromZero f (running f (λ i. pick (x i) (y i)) n) × (running f (λ i. pick (x i) (y i)) n ≡ running f (λ i. other (x i) (y i)) n)
@@ -132,6 +141,26 @@ ours-are f = record { low = λ x y h k. lesser-is x y; high = λ x y h k. greate
 -- what both sums of a Jaccard can be
 abbrev pub BothFromZero : Format → Shares → Type 0
 BothFromZero f s = FromZero f (s .low) × FromZero f (s .high)
+
+-- ---- an element that one vector lacks counts as 0: by one comparison each sum gets the other element, or a zero, which it does not notice
+module _ (f : Format) (s : Shares) (z : BothFromZero f s) (x : Float) (h : T (fits f x)) where
+  beside-zero : sharesWith lesser greater f s x plusZero
+      ≡ record { low = add f (s .low) (cond (lt x plusZero) x plusZero); high = add f (s .high) (cond (lt plusZero x) x plusZero) }
+  unfolding sharesWith isNan
+  beside-zero =
+      let k = plusZero-fromZero f .fitting in
+      let less = second-chosen lt nan-lt lt-asym x plusZero refl in
+      let more = second-chosen above (λ u v. lt-nan v u) (λ u v. lt-asym v u) x plusZero refl in
+      let low = chosen-alike f lt (level f) x plusZero h k (lesser-is x plusZero) less in
+      let high = chosen-alike f above (level-above f) x plusZero h k (greater-is x plusZero) more in
+      rw (add-alike f (s .low) _ _ (z .0) low, add-alike f (s .high) _ _ (z .1) high)
+
+  pub alone-less : lt x plusZero ≡ true → record { low = add f (s .low) x; high = s .high } ≡ sharesWith lesser greater f s x plusZero
+  alone-less e = rw (beside-zero, e, lt-asym x plusZero e, add-zero-term f (s .high) false (z .1))
+
+  pub alone-else : lt x plusZero ≡ false
+      → record { low = s .low; high = add f (s .high) (cond (lt plusZero x) x plusZero) } ≡ sharesWith lesser greater f s x plusZero
+  alone-else e = rw (beside-zero, e, add-zero-term f (s .low) false (z .0))
 
 module _ (f : Format) (lo hi : Float → Float → Float) (c : AreChoices f lo hi) where
   pub shares-either-zero : (x y : ℕ → Float) (n : ℕ) → AllFit f x n → AllFit f y n → sharesBy lo hi f x y n ≡ shares f x y n

@@ -28,8 +28,8 @@ pub fn scale_of(dims: usize, body: &[u8]) -> Scale
     ensures { λ r. ⌜ r ≡ scaleOf dims (now (body .entry)) ⌝ }
 {
     let end = 4 * ((dims + 3) / 4);
-    let alpha = rounding::widen(elements::f32_at(body, end));
-    let shift = rounding::widen(elements::f32_at(body, end + 4));
+    let alpha = elements::wide_at(body, end);
+    let shift = elements::wide_at(body, end + 4);
     Scale { alpha, shift }
 }
 

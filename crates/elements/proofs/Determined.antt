@@ -10,6 +10,7 @@ use Rattle.elements.proofs.u32_at.Reads as u32-at
 use Rattle.elements.proofs.u64_at.Reads as u64-at
 use Rattle.elements.proofs.f32_at.Reads as f32-at
 use Rattle.elements.proofs.f64_at.Reads as f64-at
+use Rattle.elements.proofs.wide_at.Reads as wide-at
 use Rattle.elements.proofs.put_u32.Reads as put-u32
 use Rattle.elements.proofs.put_u64.Reads as put-u64
 use Rattle.elements.proofs.put_f32.Reads as put-f32
@@ -38,6 +39,9 @@ f32-at-determined κs a r r′ x x′ p q = p ∙ sym q
 
 pub f64-at-determined : (κs : _) (a : _) → Determined (f64-at.Post κs a) (λ r x. r)
 f64-at-determined κs a r r′ x x′ p q = p ∙ sym q
+
+pub wide-at-determined : (κs : _) (a : _) → Determined (wide-at.Post κs a) (λ r x. r)
+wide-at-determined κs a r r′ x x′ p q = p ∙ sym q
 
 pub put-u32-determined : (κs : _) (a : _) → Determined (put-u32.Post κs a) (λ r x. now (x .0))
 put-u32-determined κs a r r′ x x′ p q = p ∙ sym q

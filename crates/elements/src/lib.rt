@@ -91,6 +91,19 @@ pub fn f64_at(s: &[u8], at: usize) -> f64
     f64_of(u64_at(s, at))
 }
 
+// The f32 at a place, as an f64, which holds every f32: one test of its pattern serves both.
+pub fn wide_at(s: &[u8], at: usize) -> f64
+    requires { ⌜ at + 4 ≤ length (now s) ⌝ }
+    ensures { λ r. ⌜ r ≡ f32At (now (s .entry)) at ⌝ }
+{
+    let pattern = u32_at(s, at);
+    if pattern % 0x8000_0000 <= 0x7f80_0000 {
+        f32::from_bits(pattern) as f64
+    } else {
+        0.0 / 0.0
+    }
+}
+
 // A number's two, four or eight bytes, written at a place as two halves; the other bytes stay.
 fn put_u16(out: &mut [u8], at: usize, v: u16)
     requires { ⌜ at + 2 ≤ length (now out) ⌝ }

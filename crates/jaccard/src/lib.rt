@@ -84,7 +84,7 @@ fn vector_f32_distance_jaccard(dims: usize, a: &[u8], b: &[u8]) -> f64
     let mut sums = JaccardSums32::new();
     let mut i = 0;
     while i < dims {
-        sums = sums.step(elements::f32_at(a, 4 * i), elements::f32_at(b, 4 * i));
+        sums = sums.step_bits(elements::u32_at(a, 4 * i), elements::u32_at(b, 4 * i));
         i += 1;
     }
     sums.distance()
@@ -99,7 +99,7 @@ fn vector_f64_distance_jaccard(dims: usize, a: &[u8], b: &[u8]) -> f64
     let mut sums = JaccardSums64::new();
     let mut i = 0;
     while i < dims {
-        sums = sums.step(elements::f64_at(a, 8 * i), elements::f64_at(b, 8 * i));
+        sums = sums.step_bits(elements::u64_at(a, 8 * i), elements::u64_at(b, 8 * i));
         i += 1;
     }
     sums.distance()
@@ -123,11 +123,11 @@ fn sparse_sums(a: &[u8], b: &[u8]) -> JaccardSums32
                 j += 1;
             }
             Turn::Left(x) => {
-                sums = sums.step(x, 0.0);
+                sums = sums.alone(x);
                 i += 1;
             }
             Turn::Right(y) => {
-                sums = sums.step(y, 0.0);
+                sums = sums.alone(y);
                 j += 1;
             }
         }

@@ -1,5 +1,5 @@
 -- The loop adds one pair a turn.
-use mathlib.Core.Path.{_≡_, ap, _∙_}
+use mathlib.Core.Path.{_≡_, ap}
 use Prim.Native.Nat.{_-_, _≤_}
 use native.Mathlib.Omega.{arith}
 use borrow.Author.Needs.{needs}
@@ -25,9 +25,8 @@ loop-holds c = (omega arith, dots-none _ _)
 loop-again : tie.Need-loop-again Inv-loop μ-loop
 unfolding element
 loop-again c =
-    let s = c .before .before in
-    let l = s .before .before .before .before .loop in
-    (omega arith, dots-more _ _ (l .i) _ _ (s .before .widen .ensures ∙ s .before .before .f32-at .ensures) (c .before .widen2 .ensures ∙ s .f32-at2 .ensures) _ _ (l .inv .1) (c .dot-step .ensures))
+    let l = c .before .before .before .before .loop in
+    (omega arith, dots-more _ _ (l .i) _ _ (c .before .before .wide-at .ensures) (c .before .wide-at2 .ensures) _ _ (l .inv .1) (c .dot-step .ensures))
 
 returns : tie.Need-returns Inv-loop μ-loop
 unfolding dotOf
@@ -43,7 +42,7 @@ vector-f32-distance-dot-spec =
     Inv-loop
     μ-loop
     loop-holds
-    (λ c. search needs) (λ c κs. search needs) (λ c κs. search needs) (λ c. search needs) (λ c κs. search needs)
-    (λ c κs. search needs) (λ c κs. search needs) (λ c. search needs) (λ c. search needs)
+    (λ c. search needs) (λ c κs. search needs) (λ c. search needs) (λ c κs. search needs) (λ c κs. search needs)
+    (λ c. search needs) (λ c. search needs)
     loop-again
     returns)
