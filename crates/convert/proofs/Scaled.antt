@@ -1,12 +1,12 @@
 -- Laws of Float8 bodies: the range with one element more, how long the body is, and what its writers leave.
 use mathlib.Core.Path.{_≡_, _∙_}
-use mathlib.Core.Bool.{cond}
+use mathlib.Core.Bool.{true, false, cond}
 use mathlib.Core.List.{List, [], _∷_, _++_, append-assoc}
-use Prim.Native.Nat.{ℕ, _+_, _-_, _*_}
+use Prim.Native.Nat.{ℕ, _+_, _-_, _*_, _≤_, _<_}
 use native.Mathlib.Omega.{arith}
 use native.Mathlib.Numerals.{add-one}
 use lib.ListN.{length, take, drop, replicate, length-append, length-replicate}
-use lib.Ieee.{Float, lt, binary32}
+use lib.Ieee.{Float, inf, lt, binary32}
 use borrow.Rule.Slice.PartMut.{putMid}
 use Rattle.promises.specs.Onto.{onto}
 use Rattle.promises.proofs.Onto.{onto-then}
@@ -26,11 +26,22 @@ use Rattle.convert.proofs.Pieces.{length-bytes, put-after}
 abbrev pub RangeOf : (ℕ → Float) → ℕ → Range → Type 0
 RangeOf e n r = (r .low ≡ least e n) × (r .high ≡ greatest e n)
 
-pub one-more : (e : ℕ → Float) (n : ℕ) (r w : Range) (x : Float) → RangeOf e n r → x ≡ e n
-    → (w .low ≡ cond (lt x (r .low)) x (r .low)) × (w .high ≡ cond (lt (r .high) x) x (r .high))
-    → RangeOf e (n + 1) w
+-- a loop of n turns, after i of them
+abbrev pub Searched : (ℕ → Float) → ℕ → ℕ → Range → Type 0
+Searched e n i r = (i ≤ n) × RangeOf e i r
+
+pub none-searched : (e : ℕ → Float) (n : ℕ) (r : Range) → (r .low ≡ inf false) × (r .high ≡ inf true) → Searched e n 0 r
 unfolding least greatest
-one-more e n r w x (low, high) at (l, h) = rw (add-one n, ← low, ← high, ← at) (l, h)
+none-searched e n r h = (omega arith, h)
+
+pub one-searched : (e : ℕ → Float) {n i : ℕ} {r : Range} → Searched e n i r → i < n → (x : Float) → x ≡ e i
+    → (w : Range) → (w .low ≡ cond (lt x (r .low)) x (r .low)) × (w .high ≡ cond (lt (r .high) x) x (r .high))
+    → Searched e n (i + 1) w
+unfolding least greatest
+one-searched e {n} {i} {r} (few, (low, high)) less x at w (l, h) = (omega arith, rw (add-one i, ← low, ← high, ← at) (l, h))
+
+pub all-searched : (e : ℕ → Float) {n i : ℕ} {r : Range} → Searched e n i r → n ≤ i → RangeOf e n r
+all-searched e {n} {i} {r} (few, h) ends = let all : n ≡ i = omega arith in rw all h
 
 -- ---- the body
 pub length-quantizedBody : (k : VectorType) (d : ℕ) (body : List ℕ) → length (quantizedBody k d body) ≡ 4 * ceil d 4 + 8

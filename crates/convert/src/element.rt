@@ -20,7 +20,7 @@ fn is_set(body: &[u8], i: usize) -> bool
 }
 
 // Element i of a 1-bit body: 1.0 or -1.0.
-fn unit32(body: &[u8], i: usize) -> f32
+pub(crate) fn unit32(body: &[u8], i: usize) -> f32
     requires { ⌜ i < 8 * length (now body) ⌝ }
     ensures { λ r. ⌜ r ≡ unit (eqb (bitAt (now (body .entry)) i) 0) ⌝ }
 {
