@@ -1,25 +1,28 @@
--- Laws of Float8 bodies: the range with one element more, how long the body is, and what its writers leave.
+-- Laws of Float8 bodies: a loop for the range, the bytes of bits, how long the body is, and what its writers leave.
 use mathlib.Core.Path.{_≡_, _∙_}
 use mathlib.Core.Bool.{true, false, cond}
 use mathlib.Core.List.{List, [], _∷_, _++_, append-assoc}
 use Prim.Native.Nat.{ℕ, _+_, _-_, _*_, _≤_, _<_}
 use native.Mathlib.Omega.{arith}
 use native.Mathlib.Numerals.{add-one}
+use lib.Dec.{eqb}
 use lib.ListN.{length, take, drop, replicate, length-append, length-replicate}
-use lib.Ieee.{Float, inf, lt, binary32}
+use lib.Ieee.{Float, inf, lt, binary32, neg, ofBits}
 use borrow.Rule.Slice.PartMut.{putMid}
 use Rattle.promises.specs.Onto.{onto}
 use Rattle.promises.proofs.Onto.{onto-then}
 use Rattle.elements.specs.Bytes.{put, floatBytes}
 use Rattle.elements.proofs.Numbers.{length-bytesOf}
-use Rattle.vector_types.specs.Layout.{ceil}
+use Rattle.vector_types.specs.Layout.{ceil, bitAt}
 use Rattle.vector_types.specs.declared.VectorType.{VectorType}
 use Rattle.convert.specs.Pieces.{pieces}
-use Rattle.convert.specs.Elements.{element}
+use Rattle.convert.specs.Elements.{unit, element}
 use Rattle.convert.specs.Quantized.{least, greatest, quantum, scaleOf, quantizedBody}
 use Rattle.convert.specs.declared.quantized.Range.{Range}
 use Rattle.convert.specs.declared.scale.Scale.{Scale}
 use Rattle.convert.proofs.Pieces.{length-bytes, put-after}
+use Rattle.convert.proofs.Same.{pieces-same}
+use Rattle.convert.proofs.Units.{unit-picked}
 
 -- ---- the range
 -- r is the range of the first n elements
@@ -42,6 +45,12 @@ one-searched e {n} {i} {r} (few, (low, high)) less x at w (l, h) = (omega arith,
 
 pub all-searched : (e : ℕ → Float) {n i : ℕ} {r : Range} → Searched e n i r → n ≤ i → RangeOf e n r
 all-searched e {n} {i} {r} (few, h) ends = let all : n ≡ i = omega arith in rw all h
+
+-- ---- the bytes of bits: two numbers, that of 1.0 and that of -1.0
+pub two-bytes : (g : Float → ℕ) (body : List ℕ) (n set clear : ℕ) → set ≡ g (ofBits binary32 0x3f80_0000) → clear ≡ g (neg (ofBits binary32 0x3f80_0000))
+    → pieces (λ i. cond (eqb (bitAt body i) 1) set clear ∷ []) n ≡ pieces (λ i. g (unit (eqb (bitAt body i) 0)) ∷ []) n
+two-bytes g body n set clear s c =
+    pieces-same (λ i. cond (eqb (bitAt body i) 1) set clear ∷ []) (λ i. g (unit (eqb (bitAt body i) 0)) ∷ []) n (λ i _. rw (s, c, unit-picked body i g))
 
 -- ---- the body
 pub length-quantizedBody : (k : VectorType) (d : ℕ) (body : List ℕ) → length (quantizedBody k d body) ≡ 4 * ceil d 4 + 8

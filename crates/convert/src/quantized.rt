@@ -3,17 +3,20 @@ ghost use mathlib.Core.Path.{_≡_};
 ghost use mathlib.Core.Bool.{false, true, cond};
 ghost use mathlib.Core.List.{[], _∷_};
 ghost use Prim.Native.Nat.{_+_, _*_, _≤_, _<_};
+ghost use lib.Dec.{eqb};
 ghost use lib.ListN.{length};
-ghost use lib.Ieee.{inf, binary32, lt};
+ghost use lib.Ieee.{inf, binary32, lt, eq};
+ghost use Rattle.float_laws.specs.Zero.{plusZero};
 ghost use Rattle.promises.specs.Onto.{onto};
 ghost use Rattle.rounding.specs.Narrow.{narrowed};
 ghost use Rattle.elements.specs.Bytes.{f64At};
-ghost use Rattle.vector_types.specs.Layout.{mostDims, is, fits, ceil};
+ghost use Rattle.vector_types.specs.Layout.{mostDims, is, bitAt, fits, ceil};
 ghost use Rattle.vector_types.specs.declared.VectorType.the-variants.{Float32Dense, Float64Dense, Float1Bit};
 ghost use Rattle.convert.specs.Pieces.{pieces};
 ghost use Rattle.convert.specs.Elements.{element};
 ghost use Rattle.convert.specs.Quantized.{least, greatest, quantum, scaleOf, quantizedBody};
 use crate::dense::put_zeros;
+use crate::element::is_set;
 use crate::element::unit32;
 use crate::scale::Scale;
 use vector_types::VectorType;
@@ -137,13 +140,11 @@ fn scale_of(kind: VectorType, dims: usize, body: &[u8]) -> Scale
     }
 }
 
-// The byte of an element.
+// The byte of an element, where alpha is not 0.0.
 fn quantize(scale: Scale, x: f32) -> u8
+    requires { ⌜ eq (scale .alpha) plusZero ≡ false ⌝ }
     ensures { λ r. ⌜ r ≡ quantum (scale .alpha) (scale .shift) x ⌝ }
 {
-    if scale.alpha == 0.0 {
-        return 0;
-    }
     rounding::truncate((x - scale.shift) / scale.alpha + 0.5)
 }
 
@@ -151,6 +152,7 @@ fn quantize(scale: Scale, x: f32) -> u8
 fn put_quanta32(dims: usize, body: &[u8], scale: Scale, out: &mut [u8])
     requires { ⌜ length (now body) ≡ 4 * dims ⌝ }
     requires { ⌜ dims ≤ length (now out) ⌝ }
+    requires { ⌜ eq (scale .alpha) plusZero ≡ false ⌝ }
     ensures { λ _. ⌜ now (out .exit) ≡ onto (pieces (λ i. quantum (scale .alpha) (scale .shift) (element binary32 Float32Dense dims (now (body .entry)) i) ∷ []) dims) (now (out .entry)) ⌝ }
 {
     let mut i = 0;
@@ -164,6 +166,7 @@ fn put_quanta32(dims: usize, body: &[u8], scale: Scale, out: &mut [u8])
 fn put_quanta64(dims: usize, body: &[u8], scale: Scale, out: &mut [u8])
     requires { ⌜ length (now body) ≡ 8 * dims ⌝ }
     requires { ⌜ dims ≤ length (now out) ⌝ }
+    requires { ⌜ eq (scale .alpha) plusZero ≡ false ⌝ }
     ensures { λ _. ⌜ now (out .exit) ≡ onto (pieces (λ i. quantum (scale .alpha) (scale .shift) (element binary32 Float64Dense dims (now (body .entry)) i) ∷ []) dims) (now (out .entry)) ⌝ }
 {
     let mut i = 0;
@@ -174,19 +177,30 @@ fn put_quanta64(dims: usize, body: &[u8], scale: Scale, out: &mut [u8])
     }
 }
 
+// Bits have two bytes, one of a bit that is set and one of a bit that is not.
+fn byte_of(body: &[u8], i: usize, set: u8, clear: u8) -> u8
+    requires { ⌜ i < 8 * length (now body) ⌝ }
+    ensures { λ r. ⌜ r ≡ cond (eqb (bitAt (now (body .entry)) i) 1) set clear ⌝ }
+{
+    if is_set(body, i) { set } else { clear }
+}
+
 fn put_quanta1(dims: usize, body: &[u8], scale: Scale, out: &mut [u8])
     requires { ⌜ length (now body) ≡ ceil dims 8 ⌝ }
     requires { ⌜ dims ≤ length (now out) ⌝ }
+    requires { ⌜ eq (scale .alpha) plusZero ≡ false ⌝ }
     ensures { λ _. ⌜ now (out .exit) ≡ onto (pieces (λ i. quantum (scale .alpha) (scale .shift) (element binary32 Float1Bit dims (now (body .entry)) i) ∷ []) dims) (now (out .entry)) ⌝ }
 {
+    let set = quantize(scale, 1.0);
+    let clear = quantize(scale, -1.0);
     let mut i = 0;
     while i < dims {
-        let x = unit32(body, i);
-        out[i] = quantize(scale, x);
+        out[i] = byte_of(body, i, set, clear);
         i += 1;
     }
 }
 
+// Where alpha is 0.0 every byte is 0.
 fn put_quanta(kind: VectorType, dims: usize, body: &[u8], scale: Scale, out: &mut [u8])
     requires { ⌜ fits kind dims (length (now body)) ≡ true ⌝ }
     requires { ⌜ is 9 kind ≡ false ⌝ }
@@ -194,6 +208,10 @@ fn put_quanta(kind: VectorType, dims: usize, body: &[u8], scale: Scale, out: &mu
     requires { ⌜ dims ≤ length (now out) ⌝ }
     ensures { λ _. ⌜ now (out .exit) ≡ onto (pieces (λ i. quantum (scale .alpha) (scale .shift) (element binary32 kind dims (now (body .entry)) i) ∷ []) dims) (now (out .entry)) ⌝ }
 {
+    if scale.alpha == 0.0 {
+        put_zeros(dims, out);
+        return;
+    }
     match kind {
         VectorType::Float32Dense => put_quanta32(dims, body, scale, out),
         VectorType::Float64Dense => put_quanta64(dims, body, scale, out),
