@@ -1,6 +1,6 @@
 -- Laws of Float8 bodies: a loop for the range, the bytes of bits, how long the body is, and what its writers leave.
 use mathlib.Core.Path.{_≡_, _∙_}
-use mathlib.Core.Bool.{true, false, cond}
+use mathlib.Core.Bool.{Bool, true, false, cond}
 use mathlib.Core.List.{List, [], _∷_, _++_, append-assoc}
 use Prim.Native.Nat.{ℕ, _+_, _-_, _*_, _≤_, _<_}
 use native.Mathlib.Omega.{arith}
@@ -21,6 +21,7 @@ use Rattle.convert.specs.Quantized.{least, greatest, quantum, scaleOf, q
 use Rattle.convert.specs.declared.quantized.Range.{Range}
 use Rattle.convert.specs.declared.scale.Scale.{Scale}
 use Rattle.convert.proofs.Pieces.{length-bytes, put-after}
+use Rattle.convert.proofs.Ranged.{widest}
 use Rattle.convert.proofs.Same.{pieces-same}
 use Rattle.convert.proofs.Units.{unit-picked}
 
@@ -45,6 +46,12 @@ one-searched e {n} {i} {r} (few, (low, high)) less x at w (l, h) = (omega arith,
 
 pub all-searched : (e : ℕ → Float) {n i : ℕ} {r : Range} → Searched e n i r → n ≤ i → RangeOf e n r
 all-searched e {n} {i} {r} (few, h) ends = let all : n ≡ i = omega arith in rw all h
+
+-- of units, where both were met
+pub all-met : (b : ℕ → Bool) {n i : ℕ} {r : Range} → Searched (λ k. unit (b k)) n i r → lt (r .low) (r .high) ≡ true → RangeOf (λ k. unit (b k)) n r
+all-met b {n} {i} {r} (few, (low, high)) both =
+    let w = widest b i n few (rw (low, high) at both) in
+    (low ∙ w .0, high ∙ w .1)
 
 -- ---- the bytes of bits: two numbers, that of 1.0 and that of -1.0
 pub two-bytes : (g : Float → ℕ) (body : List ℕ) (n set clear : ℕ) → set ≡ g (ofBits binary32 0x3f80_0000) → clear ≡ g (neg (ofBits binary32 0x3f80_0000))

@@ -87,6 +87,7 @@ fn range64(dims: usize, body: &[u8]) -> Range
     found
 }
 
+// Once both -1.0 and 1.0 were met no bit makes it wider.
 fn range1(dims: usize, body: &[u8]) -> Range
     requires { ⌜ length (now body) ≡ ceil dims 8 ⌝ }
     ensures { λ r. ⌜ r .low ≡ least (element binary32 Float1Bit dims (now (body .entry))) dims ⌝ }
@@ -95,6 +96,9 @@ fn range1(dims: usize, body: &[u8]) -> Range
     let mut found = no_range();
     let mut i = 0;
     while i < dims {
+        if found.low < found.high {
+            return found;
+        }
         let x = unit32(body, i);
         found = wider(found, x);
         i += 1;
