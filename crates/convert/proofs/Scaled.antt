@@ -1,12 +1,12 @@
 -- Laws of Float8 bodies: a loop for the range, the bytes of bits, how long the body is, and what its writers leave.
-use mathlib.Core.Path.{_≡_, _∙_}
+use mathlib.Core.Path.{_≡_, refl, _∙_}
 use mathlib.Core.Bool.{Bool, true, false, cond}
 use mathlib.Core.List.{List, [], _∷_, _++_, append-assoc}
-use Prim.Native.Nat.{ℕ, _+_, _-_, _*_, _≤_, _<_}
+use Prim.Native.Nat.{ℕ, zero, suc, _+_, _-_, _*_, _≤_, _<_}
 use native.Mathlib.Omega.{arith}
 use native.Mathlib.Numerals.{add-one}
 use lib.Dec.{eqb}
-use lib.ListN.{length, take, drop, replicate, length-append, length-replicate}
+use lib.ListN.{length, getD, take, drop, replicate, length-append, length-replicate}
 use lib.Ieee.{Float, inf, lt, binary32, neg, ofBits}
 use borrow.Rule.Slice.PartMut.{putMid}
 use Rattle.promises.specs.Onto.{onto}
@@ -23,7 +23,6 @@ use Rattle.convert.specs.declared.scale.Scale.{Scale}
 use Rattle.convert.proofs.Pieces.{length-bytes, put-after}
 use Rattle.convert.proofs.Ranged.{widest}
 use Rattle.convert.proofs.Same.{pieces-same}
-use Rattle.convert.proofs.Units.{unit-picked}
 
 -- ---- the range
 -- r is the range of the first n elements
@@ -53,11 +52,17 @@ all-met b {n} {i} {r} (few, (low, high)) both =
     let w = widest b i n few (rw (low, high) at both) in
     (low ∙ w .0, high ∙ w .1)
 
--- ---- the bytes of bits: two numbers, that of 1.0 and that of -1.0
-pub two-bytes : (g : Float → ℕ) (body : List ℕ) (n set clear : ℕ) → set ≡ g (ofBits binary32 0x3f80_0000) → clear ≡ g (neg (ofBits binary32 0x3f80_0000))
-    → pieces (λ i. cond (eqb (bitAt body i) 1) set clear ∷ []) n ≡ pieces (λ i. g (unit (eqb (bitAt body i) 0)) ∷ []) n
-two-bytes g body n set clear s c =
-    pieces-same (λ i. cond (eqb (bitAt body i) 1) set clear ∷ []) (λ i. g (unit (eqb (bitAt body i) 0)) ∷ []) n (λ i _. rw (s, c, unit-picked body i g))
+-- ---- the bytes of bits: one of two, that of -1.0 and that of 1.0
+one-of-two : (g : Float → ℕ) (b : ℕ) → b < 2 → getD (g (neg (ofBits binary32 0x3f80_0000)) ∷ g (ofBits binary32 0x3f80_0000) ∷ []) b 0 ≡ g (unit (eqb b 0))
+unfolding ofBits neg
+one-of-two g zero h = refl
+one-of-two g (suc zero) h = refl
+one-of-two g (suc (suc b)) h = absurd (omega arith)
+
+pub two-bytes : (g : Float → ℕ) (body : List ℕ) (n clear set : ℕ) → clear ≡ g (neg (ofBits binary32 0x3f80_0000)) → set ≡ g (ofBits binary32 0x3f80_0000)
+    → pieces (λ i. getD (clear ∷ set ∷ []) (bitAt body i) 0 ∷ []) n ≡ pieces (λ i. g (unit (eqb (bitAt body i) 0)) ∷ []) n
+two-bytes g body n clear set c s =
+    pieces-same (λ i. getD (clear ∷ set ∷ []) (bitAt body i) 0 ∷ []) (λ i. g (unit (eqb (bitAt body i) 0)) ∷ []) n (λ i _. rw (c, s, one-of-two g (bitAt body i) (omega arith)))
 
 -- ---- the body
 pub length-quantizedBody : (k : VectorType) (d : ℕ) (body : List ℕ) → length (quantizedBody k d body) ≡ 4 * ceil d 4 + 8

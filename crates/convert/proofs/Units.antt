@@ -1,11 +1,11 @@
 -- The floats in the elements' code: its literals, the unit of a bit, and the width in which a kind is tested.
 use mathlib.Core.Path.{_≡_, refl, sym, ap, _∙_}
-use mathlib.Core.Bool.{Bool, true, false, cond}
+use mathlib.Core.Bool.{true, false}
 use mathlib.Core.List.{List, [], _∷_}
 use Prim.Native.Nat.{ℕ}
 use native.Mathlib.Omega.{arith}
 use lib.Dec.{eqb}
-use lib.Ieee.{Float, Format, binary32, binary64, neg, ofBits}
+use lib.Ieee.{Format, binary32, binary64, neg, ofBits}
 use denote.Enum.Declared.{tagOf}
 use types.Run.{OneOf, miss}
 use borrow.Author.Tests.{eqb-true, eqb-false, eq-eqb, ne-eqb}
@@ -34,14 +34,6 @@ module _ (body : List ℕ) (i : ℕ) where
   pub unit-clear : eqb (bitAt body i) 1 ≡ false → neg (ofBits binary32 0x3f80_0000) ≡ unit (eqb (bitAt body i) 0)
   unfolding neg
   unit-clear e = ap neg one-is ∙ ap unit (sym (eq-eqb (bitAt body i) 0 (omega (arith, eqb-false (bitAt body i) 1 e))))
-
-  -- so a number by the unit is picked by the bit
-  pub unit-picked : (g : Float → ℕ) → cond (eqb (bitAt body i) 1) (g (ofBits binary32 0x3f80_0000)) (g (neg (ofBits binary32 0x3f80_0000))) ≡ g (unit (eqb (bitAt body i) 0))
-  unit-picked g = go (eqb (bitAt body i) 1) refl
-    where
-      go : (s : Bool) → eqb (bitAt body i) 1 ≡ s → cond s (g (ofBits binary32 0x3f80_0000)) (g (neg (ofBits binary32 0x3f80_0000))) ≡ g (unit (eqb (bitAt body i) 0))
-      go true e = ap g (unit-set e)
-      go false e = ap g (unit-clear e)
 
 -- the kinds that are tested as f32: all but the second
 pub own-single : (k : VectorType) → OneOf (0 ∷ 2 ∷ 3 ∷ 4 ∷ []) (tagOf the-type k) → own k ≡ binary32

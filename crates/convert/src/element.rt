@@ -12,7 +12,7 @@ ghost use Rattle.convert.specs.Bits.{positive};
 use vector_types::VectorType;
 
 // Whether bit i is set.
-pub(crate) fn is_set(body: &[u8], i: usize) -> bool
+fn is_set(body: &[u8], i: usize) -> bool
     requires { ⌜ i < 8 * length (now body) ⌝ }
     ensures { λ r. ⌜ r ≡ eqb (bitAt (now (body .entry)) i) 1 ⌝ }
 {

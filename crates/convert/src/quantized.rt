@@ -3,7 +3,6 @@ ghost use mathlib.Core.Path.{_≡_};
 ghost use mathlib.Core.Bool.{false, true, cond};
 ghost use mathlib.Core.List.{[], _∷_};
 ghost use Prim.Native.Nat.{_+_, _*_, _≤_, _<_};
-ghost use lib.Dec.{eqb};
 ghost use lib.ListN.{length};
 ghost use lib.Ieee.{inf, binary32, lt, eq};
 ghost use Rattle.float_laws.specs.Zero.{plusZero};
@@ -16,7 +15,6 @@ ghost use Rattle.convert.specs.Pieces.{pieces};
 ghost use Rattle.convert.specs.Elements.{element};
 ghost use Rattle.convert.specs.Quantized.{least, greatest, quantum, scaleOf, quantizedBody};
 use crate::dense::put_zeros;
-use crate::element::is_set;
 use crate::element::unit32;
 use crate::scale::Scale;
 use vector_types::VectorType;
@@ -181,25 +179,27 @@ fn put_quanta64(dims: usize, body: &[u8], scale: Scale, out: &mut [u8])
     }
 }
 
-// Bits have two bytes, one of a bit that is set and one of a bit that is not.
-fn byte_of(body: &[u8], i: usize, set: u8, clear: u8) -> u8
+fn bit_at(body: &[u8], i: usize) -> usize
     requires { ⌜ i < 8 * length (now body) ⌝ }
-    ensures { λ r. ⌜ r ≡ cond (eqb (bitAt (now (body .entry)) i) 1) set clear ⌝ }
+    ensures { λ r. ⌜ r ≡ bitAt (now (body .entry)) i ⌝ }
 {
-    if is_set(body, i) { set } else { clear }
+    ((body[i / 8] >> (i % 8)) % 2) as usize
 }
 
+// Bits have two bytes, looked up without a branch.
 fn put_quanta1(dims: usize, body: &[u8], scale: Scale, out: &mut [u8])
     requires { ⌜ length (now body) ≡ ceil dims 8 ⌝ }
     requires { ⌜ dims ≤ length (now out) ⌝ }
     requires { ⌜ eq (scale .alpha) plusZero ≡ false ⌝ }
     ensures { λ _. ⌜ now (out .exit) ≡ onto (pieces (λ i. quantum (scale .alpha) (scale .shift) (element binary32 Float1Bit dims (now (body .entry)) i) ∷ []) dims) (now (out .entry)) ⌝ }
 {
-    let set = quantize(scale, 1.0);
     let clear = quantize(scale, -1.0);
+    let set = quantize(scale, 1.0);
+    let bytes = [clear, set];
     let mut i = 0;
     while i < dims {
-        out[i] = byte_of(body, i, set, clear);
+        let bit = bit_at(body, i);
+        out[i] = bytes[bit];
         i += 1;
     }
 }

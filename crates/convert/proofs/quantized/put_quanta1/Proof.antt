@@ -1,10 +1,9 @@
 -- `quantized::put_quanta1` meets its contract. The loop's invariant: each bit passed has its byte of the two, which is its element's (`two-bytes`).
-use mathlib.Core.Bool.{cond}
 use mathlib.Core.List.{[], _∷_}
 use Prim.Native.Nat.{_-_}
 use native.Mathlib.Omega.{arith}
 use borrow.Author.Needs.{needs}
-use lib.Dec.{eqb}
+use lib.ListN.{getD}
 use Rattle.vector_types.specs.Layout.{bitAt}
 use Rattle.convert.specs.Pieces.{pieces}
 use Rattle.convert.specs.Elements.{element}
@@ -15,24 +14,24 @@ use Rattle.convert.proofs.quantized.put_quanta1.Statement.{statement}
 use Rattle.convert.proofs.quantized.put_quanta1.Tie as tie
 
 abbrev Inv-loop : tie.InvT-loop
-Inv-loop dims body out₀ set clear i₀ out i = Filled (pieces (λ k. cond (eqb (bitAt body k) 1) set clear ∷ [])) dims out₀ out i
+Inv-loop dims body out₀ clear set bytes i₀ out i = Filled (pieces (λ k. getD bytes (bitAt body k) 0 ∷ [])) dims out₀ out i
 
 abbrev μ-loop : tie.MeasureT-loop
-μ-loop dims body out₀ set clear i₀ out i = dims - i
+μ-loop dims body out₀ clear set bytes i₀ out i = dims - i
 
 loop-holds : tie.Need-loop-holds Inv-loop μ-loop
 loop-holds c = fill-none _ _ _
 
 loop-again : tie.Need-loop-again Inv-loop μ-loop
-loop-again c = fill-byte _ (c .before .before .loop .inv) (omega arith) (omega arith) (c .byte-of .result) (c .byte-of .ensures)
+loop-again c = fill-byte _ (c .before .before .loop .inv) (omega arith) (omega arith) _ (rw (c .bit-at .ensures))
 
 returns : tie.Need-returns Inv-loop μ-loop
 unfolding element
 returns c =
-    let clear = c .before .before in
-    let set = clear .before in
-    let a = set .before .before .before .args in
-    let bytes = two-bytes (quantum (a .scale .alpha) (a .scale .shift)) (a .body .now) (a .dims) _ _ (set .quantize .ensures) (clear .quantize2 .ensures) in
+    let set = c .before .before in
+    let clear = set .before in
+    let a = clear .before .before .before .args in
+    let bytes = two-bytes (quantum (a .scale .alpha) (a .scale .shift)) (a .body .now) (a .dims) _ _ (clear .quantize .ensures) (set .quantize2 .ensures) in
     rw bytes at (fill-all (c .before .loop .inv) (c .loop-test .left))
 
 pub put-quanta1-spec : {M : Type 1} → statement M
@@ -41,5 +40,5 @@ put-quanta1-spec =
     (tie.spec
     Inv-loop μ-loop
     (λ c κs. search needs) (λ c κs. search needs) loop-holds
-    (λ c κs. search needs) (λ c. omega arith) (λ c. omega arith) (λ c. omega arith)
+    (λ c κs. search needs) (λ c. omega arith) (λ c. omega arith) (λ c. omega arith) (λ c. omega arith)
     loop-again (λ c. search needs) returns)
