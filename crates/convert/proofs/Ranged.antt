@@ -1,4 +1,4 @@
--- What the range means: no element is less than the least or greater than the greatest, and each is an element that is no NaN, or an infinity.
+-- What the range means: no element is less than the least or greater than the greatest, and each is an element that is no NaN, or an infinity. That of units is from -1.0 to 1.0 once both were met.
 use mathlib.Core.Path.{_≡_, refl, sym, _∙_}
 use mathlib.Core.Logic.{_⊎_, inl, inr}
 use mathlib.Core.Bool.{Bool, true, false, cond, true≢false, false≢true}

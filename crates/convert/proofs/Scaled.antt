@@ -60,9 +60,11 @@ one-of-two g (suc zero) h = refl
 one-of-two g (suc (suc b)) h = absurd (omega arith)
 
 pub two-bytes : (g : Float → ℕ) (body : List ℕ) (n clear set : ℕ) → clear ≡ g (neg (ofBits binary32 0x3f80_0000)) → set ≡ g (ofBits binary32 0x3f80_0000)
-    → pieces (λ i. getD (clear ∷ set ∷ []) (bitAt body i) 0 ∷ []) n ≡ pieces (λ i. g (unit (eqb (bitAt body i) 0)) ∷ []) n
-two-bytes g body n clear set c s =
-    pieces-same (λ i. getD (clear ∷ set ∷ []) (bitAt body i) 0 ∷ []) (λ i. g (unit (eqb (bitAt body i) 0)) ∷ []) n (λ i _. rw (c, s, one-of-two g (bitAt body i) (omega arith)))
+    → (l o : List ℕ) → o ≡ onto (pieces (λ i. getD (clear ∷ set ∷ []) (bitAt body i) 0 ∷ []) n) l
+    → o ≡ onto (pieces (λ i. g (unit (eqb (bitAt body i) 0)) ∷ []) n) l
+two-bytes g body n clear set c s l o e =
+    let same = pieces-same (λ i. getD (clear ∷ set ∷ []) (bitAt body i) 0 ∷ []) (λ i. g (unit (eqb (bitAt body i) 0)) ∷ []) n (λ i _. rw (c, s, one-of-two g (bitAt body i) (omega arith))) in
+    rw same at e
 
 -- ---- the body
 pub length-quantizedBody : (k : VectorType) (d : ℕ) (body : List ℕ) → length (quantizedBody k d body) ≡ 4 * ceil d 4 + 8

@@ -43,6 +43,14 @@ fn narrow_at(body: &[u8], at: usize) -> f32
     elements::f32_of(rounding::narrow_bits(elements::u64_at(body, at)))
 }
 
+// Bit i, 0 or 1.
+fn bit_at(body: &[u8], i: usize) -> usize
+    requires { ⌜ i < 8 * length (now body) ⌝ }
+    ensures { λ r. ⌜ r ≡ bitAt (now (body .entry)) i ⌝ }
+{
+    ((body[i / 8] >> (i % 8)) % 2) as usize
+}
+
 // The range of no elements.
 fn no_range() -> Range
     ensures { λ r. ⌜ r .low ≡ inf false ⌝ }
@@ -54,7 +62,7 @@ fn no_range() -> Range
     }
 }
 
-// The range of the elements, a loop for each kind: of f32, of f64 and of bits.
+// The range of the elements, a loop for each kind: f32, f64 and bits.
 fn range32(dims: usize, body: &[u8]) -> Range
     requires { ⌜ length (now body) ≡ 4 * dims ⌝ }
     ensures { λ r. ⌜ r .low ≡ least (element binary32 Float32Dense dims (now (body .entry))) dims ⌝ }
@@ -85,7 +93,7 @@ fn range64(dims: usize, body: &[u8]) -> Range
     found
 }
 
-// Once both -1.0 and 1.0 were met no bit makes it wider.
+// Once -1.0 and 1.0 were both met no bit makes it wider.
 fn range1(dims: usize, body: &[u8]) -> Range
     requires { ⌜ length (now body) ≡ ceil dims 8 ⌝ }
     ensures { λ r. ⌜ r .low ≡ least (element binary32 Float1Bit dims (now (body .entry))) dims ⌝ }
@@ -179,14 +187,7 @@ fn put_quanta64(dims: usize, body: &[u8], scale: Scale, out: &mut [u8])
     }
 }
 
-fn bit_at(body: &[u8], i: usize) -> usize
-    requires { ⌜ i < 8 * length (now body) ⌝ }
-    ensures { λ r. ⌜ r ≡ bitAt (now (body .entry)) i ⌝ }
-{
-    ((body[i / 8] >> (i % 8)) % 2) as usize
-}
-
-// Bits have two bytes, looked up without a branch.
+// Bits have two bytes; a bit's is looked up, since a branch would often be foretold wrongly.
 fn put_quanta1(dims: usize, body: &[u8], scale: Scale, out: &mut [u8])
     requires { ⌜ length (now body) ≡ ceil dims 8 ⌝ }
     requires { ⌜ dims ≤ length (now out) ⌝ }

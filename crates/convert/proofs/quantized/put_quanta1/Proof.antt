@@ -31,8 +31,8 @@ returns c =
     let set = c .before .before in
     let clear = set .before in
     let a = clear .before .before .before .args in
-    let bytes = two-bytes (quantum (a .scale .alpha) (a .scale .shift)) (a .body .now) (a .dims) _ _ (clear .quantize .ensures) (set .quantize2 .ensures) in
-    rw bytes at (fill-all (c .before .loop .inv) (c .loop-test .left))
+    two-bytes (quantum (a .scale .alpha) (a .scale .shift)) (a .body .now) (a .dims) _ _ (clear .quantize .ensures) (set .quantize2 .ensures) _ _
+    (fill-all (c .before .loop .inv) (c .loop-test .left))
 
 pub put-quanta1-spec : {M : Type 1} → statement M
 put-quanta1-spec =
