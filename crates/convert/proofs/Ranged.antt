@@ -1,12 +1,13 @@
--- What the range means: no element is less than the least or greater than the greatest, and each is an element that is no NaN, or an infinity.
+-- What the range means: no element is less than the least or greater than the greatest, and each is an element that is no NaN, or an infinity. That of units is from -1.0 to 1.0 once both were met.
 use mathlib.Core.Path.{_≡_, refl, sym, _∙_}
 use mathlib.Core.Logic.{_⊎_, inl, inr}
-use mathlib.Core.Bool.{Bool, true, false, cond, true≢false}
-use Prim.Native.Nat.{ℕ, zero, suc, _<_, zero-le}
+use mathlib.Core.Bool.{Bool, true, false, cond, true≢false, false≢true}
+use Prim.Native.Nat.{ℕ, zero, suc, _≤_, _<_, zero-le}
 use native.Mathlib.Nat.{not-le-of-lt, eq-or-lt-of-le, le-of-suc-le-suc, lt-suc-self}
 use native.Mathlib.Omega.{arith}
 use lib.Ieee.{Float, inf, lt, isNan}
 use Rattle.float_laws.proofs.Order.{lt-trans, lt-self, lesser-number, greater-number}
+use Rattle.convert.specs.Elements.{unit}
 use Rattle.convert.specs.Quantized.{least, greatest}
 
 -- ---- the range
@@ -54,6 +55,15 @@ module _ (passes : Float → Float → Bool) (e m : ℕ → Float)
       go false p (inl start) = inl start
       go false p (inr (i, less, is, some)) = inr (i, omega arith, is, some)
 
+  -- one that no element passes is kept to the end
+  stays : (x : Float) → ((i : ℕ) → passes (e i) x ≡ false) → (i n : ℕ) → i ≤ n → m i ≡ x → m n ≡ x
+  stays x none i zero l h = let z : i ≡ 0 = omega arith in rw z at h
+  stays x none i (suc n) l h =
+      elim (eq-or-lt-of-le l) [
+        | inl same ↦ rw same at h
+        | inr less ↦ rw (next, stays x none i n (le-of-suc-le-suc less) h, none)
+      ]
+
 -- no element is less than the least, none greater than the greatest
 pub none-less : (e : ℕ → Float) (n i : ℕ) → i < n → lt (e i) (least e n) ≡ false
 unfolding least
@@ -71,3 +81,46 @@ least-of e = attained lt e (least e) lt-trans lt-self lesser-number (λ n. refl)
 pub greatest-of : (e : ℕ → Float) (n : ℕ) → Among e n (inf true) (greatest e n)
 unfolding greatest
 greatest-of e = attained (λ x y. lt y x) e (greatest e) (λ x y z g h. lt-trans z y x h g) lt-self greater-number (λ n. refl)
+
+-- ---- the range of units: where it has two ends they are -1.0 and 1.0, and no unit makes it wider
+module _ (b : ℕ → Bool) where
+  abbrev units : ℕ → Float
+  units i = unit (b i)
+
+  ends : (n : ℕ) (x y : Float) → Among units n (inf false) x → Among units n (inf true) y → lt x y ≡ true → (x ≡ unit true) × (y ≡ unit false)
+  unfolding lt
+  ends n x y (inl p) (inl q) h = absurd (false≢true (rw (p, q) at h))
+  ends n x y (inl p) (inr (j, _, q, _)) h = absurd (false≢true (rw (p, q) at h))
+  ends n x y (inr (i, _, p, _)) (inl q) h = absurd (false≢true (rw (p, q) at h))
+  ends n x y (inr (i, _, p, _)) (inr (j, _, q, _)) h = rw (p, q) (go (b i) (b j) (rw (p, q) at h))
+    where
+      go : (s t : Bool) → lt (unit s) (unit t) ≡ true → (unit s ≡ unit true) × (unit t ≡ unit false)
+      go true false h = (refl, refl)
+      go true true h = absurd (false≢true h)
+      go false true h = absurd (false≢true h)
+      go false false h = absurd (false≢true h)
+
+  -- no unit is less than -1.0, none greater than 1.0
+  none-lower : (i : ℕ) → lt (units i) (unit true) ≡ false
+  unfolding lt
+  none-lower i = go (b i)
+    where
+      go : (s : Bool) → lt (unit s) (unit true) ≡ false
+      go true = refl
+      go false = refl
+
+  none-higher : (i : ℕ) → lt (unit false) (units i) ≡ false
+  unfolding lt
+  none-higher i = go (b i)
+    where
+      go : (s : Bool) → lt (unit false) (unit s) ≡ false
+      go true = refl
+      go false = refl
+
+  pub widest : (i n : ℕ) → i ≤ n → lt (least units i) (greatest units i) ≡ true → (least units i ≡ least units n) × (greatest units i ≡ greatest units n)
+  unfolding least greatest
+  widest i n l h =
+      let (low, high) = ends i (least units i) (greatest units i) (least-of units i) (greatest-of units i) h in
+      let down = stays lt units (least units) lt-trans lt-self lesser-number (λ n. refl) (unit true) none-lower i n l low in
+      let up = stays (λ x y. lt y x) units (greatest units) (λ x y z g h. lt-trans z y x h g) lt-self greater-number (λ n. refl) (unit false) none-higher i n l high in
+      (low ∙ sym down, high ∙ sym up)

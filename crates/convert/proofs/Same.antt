@@ -16,7 +16,7 @@ use Rattle.convert.proofs.Places.{each-append}
 abbrev pub Same : {A : Type 0} → (ℕ → A) → (ℕ → A) → ℕ → Type 0
 Same e e′ n = (i : ℕ) → i < n → e i ≡ e′ i
 
-pieces-same : (g h : ℕ → List ℕ) (n : ℕ) → Same g h n → pieces g n ≡ pieces h n
+pub pieces-same : (g h : ℕ → List ℕ) (n : ℕ) → Same g h n → pieces g n ≡ pieces h n
 unfolding pieces
 pieces-same g h zero s = refl
 pieces-same g h (suc n) s = rw (pieces-same g h n (λ i l. s i (omega arith)), s n (omega arith))

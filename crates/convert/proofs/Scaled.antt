@@ -1,36 +1,70 @@
--- Laws of Float8 bodies: the range with one element more, how long the body is, and what its writers leave.
-use mathlib.Core.Path.{_≡_, _∙_}
-use mathlib.Core.Bool.{cond}
+-- Laws of Float8 bodies: a loop for the range, the bytes of bits, how long the body is, and what its writers leave.
+use mathlib.Core.Path.{_≡_, refl, _∙_}
+use mathlib.Core.Bool.{Bool, true, false, cond}
 use mathlib.Core.List.{List, [], _∷_, _++_, append-assoc}
-use Prim.Native.Nat.{ℕ, _+_, _-_, _*_}
+use Prim.Native.Nat.{ℕ, zero, suc, _+_, _-_, _*_, _≤_, _<_}
 use native.Mathlib.Omega.{arith}
 use native.Mathlib.Numerals.{add-one}
-use lib.ListN.{length, take, drop, replicate, length-append, length-replicate}
-use lib.Ieee.{Float, lt, binary32}
+use lib.Dec.{eqb}
+use lib.ListN.{length, getD, take, drop, replicate, length-append, length-replicate}
+use lib.Ieee.{Float, inf, lt, binary32, neg, ofBits}
 use borrow.Rule.Slice.PartMut.{putMid}
 use Rattle.promises.specs.Onto.{onto}
 use Rattle.promises.proofs.Onto.{onto-then}
 use Rattle.elements.specs.Bytes.{put, floatBytes}
 use Rattle.elements.proofs.Numbers.{length-bytesOf}
-use Rattle.vector_types.specs.Layout.{ceil}
+use Rattle.vector_types.specs.Layout.{ceil, bitAt}
 use Rattle.vector_types.specs.declared.VectorType.{VectorType}
 use Rattle.convert.specs.Pieces.{pieces}
-use Rattle.convert.specs.Elements.{element}
+use Rattle.convert.specs.Elements.{unit, element}
 use Rattle.convert.specs.Quantized.{least, greatest, quantum, scaleOf, quantizedBody}
 use Rattle.convert.specs.declared.quantized.Range.{Range}
 use Rattle.convert.specs.declared.scale.Scale.{Scale}
 use Rattle.convert.proofs.Pieces.{length-bytes, put-after}
+use Rattle.convert.proofs.Ranged.{widest}
+use Rattle.convert.proofs.Same.{pieces-same}
 
 -- ---- the range
 -- r is the range of the first n elements
 abbrev pub RangeOf : (ℕ → Float) → ℕ → Range → Type 0
 RangeOf e n r = (r .low ≡ least e n) × (r .high ≡ greatest e n)
 
-pub one-more : (e : ℕ → Float) (n : ℕ) (r w : Range) (x : Float) → RangeOf e n r → x ≡ e n
-    → (w .low ≡ cond (lt x (r .low)) x (r .low)) × (w .high ≡ cond (lt (r .high) x) x (r .high))
-    → RangeOf e (n + 1) w
+-- a loop of n turns, after i of them
+abbrev pub Searched : (ℕ → Float) → ℕ → ℕ → Range → Type 0
+Searched e n i r = (i ≤ n) × RangeOf e i r
+
+pub none-searched : (e : ℕ → Float) (n : ℕ) (r : Range) → (r .low ≡ inf false) × (r .high ≡ inf true) → Searched e n 0 r
 unfolding least greatest
-one-more e n r w x (low, high) at (l, h) = rw (add-one n, ← low, ← high, ← at) (l, h)
+none-searched e n r h = (omega arith, h)
+
+pub one-searched : (e : ℕ → Float) {n i : ℕ} {r : Range} → Searched e n i r → i < n → (x : Float) → x ≡ e i
+    → (w : Range) → (w .low ≡ cond (lt x (r .low)) x (r .low)) × (w .high ≡ cond (lt (r .high) x) x (r .high))
+    → Searched e n (i + 1) w
+unfolding least greatest
+one-searched e {n} {i} {r} (few, (low, high)) less x at w (l, h) = (omega arith, rw (add-one i, ← low, ← high, ← at) (l, h))
+
+pub all-searched : (e : ℕ → Float) {n i : ℕ} {r : Range} → Searched e n i r → n ≤ i → RangeOf e n r
+all-searched e {n} {i} {r} (few, h) ends = let all : n ≡ i = omega arith in rw all h
+
+-- of units, where both were met
+pub all-met : (b : ℕ → Bool) {n i : ℕ} {r : Range} → Searched (λ k. unit (b k)) n i r → lt (r .low) (r .high) ≡ true → RangeOf (λ k. unit (b k)) n r
+all-met b {n} {i} {r} (few, (low, high)) both =
+    let w = widest b i n few (rw (low, high) at both) in
+    (low ∙ w .0, high ∙ w .1)
+
+-- ---- the bytes of bits: one of two, that of -1.0 and that of 1.0
+one-of-two : (g : Float → ℕ) (b : ℕ) → b < 2 → getD (g (neg (ofBits binary32 0x3f80_0000)) ∷ g (ofBits binary32 0x3f80_0000) ∷ []) b 0 ≡ g (unit (eqb b 0))
+unfolding ofBits neg
+one-of-two g zero h = refl
+one-of-two g (suc zero) h = refl
+one-of-two g (suc (suc b)) h = absurd (omega arith)
+
+pub two-bytes : (g : Float → ℕ) (body : List ℕ) (n clear set : ℕ) → clear ≡ g (neg (ofBits binary32 0x3f80_0000)) → set ≡ g (ofBits binary32 0x3f80_0000)
+    → (l o : List ℕ) → o ≡ onto (pieces (λ i. getD (clear ∷ set ∷ []) (bitAt body i) 0 ∷ []) n) l
+    → o ≡ onto (pieces (λ i. g (unit (eqb (bitAt body i) 0)) ∷ []) n) l
+two-bytes g body n clear set c s l o e =
+    let same = pieces-same (λ i. getD (clear ∷ set ∷ []) (bitAt body i) 0 ∷ []) (λ i. g (unit (eqb (bitAt body i) 0)) ∷ []) n (λ i _. rw (c, s, one-of-two g (bitAt body i) (omega arith))) in
+    rw same at e
 
 -- ---- the body
 pub length-quantizedBody : (k : VectorType) (d : ℕ) (body : List ℕ) → length (quantizedBody k d body) ≡ 4 * ceil d 4 + 8

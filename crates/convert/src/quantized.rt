@@ -4,14 +4,18 @@ ghost use mathlib.Core.Bool.{false, true, cond};
 ghost use mathlib.Core.List.{[], _∷_};
 ghost use Prim.Native.Nat.{_+_, _*_, _≤_, _<_};
 ghost use lib.ListN.{length};
-ghost use lib.Ieee.{binary32, lt};
+ghost use lib.Ieee.{inf, binary32, lt, eq};
+ghost use Rattle.float_laws.specs.Zero.{plusZero};
 ghost use Rattle.promises.specs.Onto.{onto};
-ghost use Rattle.vector_types.specs.Layout.{mostDims, is, fits, ceil};
+ghost use Rattle.rounding.specs.Narrow.{narrowed};
+ghost use Rattle.elements.specs.Bytes.{f64At};
+ghost use Rattle.vector_types.specs.Layout.{mostDims, is, bitAt, fits, ceil};
+ghost use Rattle.vector_types.specs.declared.VectorType.the-variants.{Float32Dense, Float64Dense, Float1Bit};
 ghost use Rattle.convert.specs.Pieces.{pieces};
 ghost use Rattle.convert.specs.Elements.{element};
 ghost use Rattle.convert.specs.Quantized.{least, greatest, quantum, scaleOf, quantizedBody};
 use crate::dense::put_zeros;
-use crate::element::single;
+use crate::element::unit32;
 use crate::scale::Scale;
 use vector_types::VectorType;
 
@@ -31,31 +35,105 @@ fn wider(range: Range, x: f32) -> Range
     Range { low, high }
 }
 
-fn range_of(kind: VectorType, dims: usize, body: &[u8]) -> Range
-    requires { ⌜ dims ≤ mostDims ⌝ }
-    requires { ⌜ fits kind dims (length (now body)) ≡ true ⌝ }
-    requires { ⌜ is 9 kind ≡ false ⌝ }
-    ensures { λ r. ⌜ r .low ≡ least (element binary32 kind dims (now (body .entry))) dims ⌝ }
-    ensures { λ r. ⌜ r .high ≡ greatest (element binary32 kind dims (now (body .entry))) dims ⌝ }
+// The f64 at a place, as an f32.
+fn narrow_at(body: &[u8], at: usize) -> f32
+    requires { ⌜ at + 8 ≤ length (now body) ⌝ }
+    ensures { λ r. ⌜ r ≡ narrowed (f64At (now (body .entry)) at) ⌝ }
 {
-    let mut found = Range {
+    elements::f32_of(rounding::narrow_bits(elements::u64_at(body, at)))
+}
+
+// Bit i, 0 or 1.
+fn bit_at(body: &[u8], i: usize) -> usize
+    requires { ⌜ i < 8 * length (now body) ⌝ }
+    ensures { λ r. ⌜ r ≡ bitAt (now (body .entry)) i ⌝ }
+{
+    ((body[i / 8] >> (i % 8)) % 2) as usize
+}
+
+// The range of no elements.
+fn no_range() -> Range
+    ensures { λ r. ⌜ r .low ≡ inf false ⌝ }
+    ensures { λ r. ⌜ r .high ≡ inf true ⌝ }
+{
+    Range {
         low: 1.0 / 0.0,
         high: -1.0 / 0.0,
-    };
+    }
+}
+
+// The range of the elements, a loop for each kind: f32, f64 and bits.
+fn range32(dims: usize, body: &[u8]) -> Range
+    requires { ⌜ length (now body) ≡ 4 * dims ⌝ }
+    ensures { λ r. ⌜ r .low ≡ least (element binary32 Float32Dense dims (now (body .entry))) dims ⌝ }
+    ensures { λ r. ⌜ r .high ≡ greatest (element binary32 Float32Dense dims (now (body .entry))) dims ⌝ }
+{
+    let mut found = no_range();
     let mut i = 0;
     while i < dims {
-        let x = single(kind, dims, body, i);
+        let x = elements::f32_at(body, 4 * i);
         found = wider(found, x);
         i += 1;
     }
     found
 }
 
-// Alpha and shift; of no elements both are 0.0.
-fn scale_of(kind: VectorType, dims: usize, body: &[u8]) -> Scale
-    requires { ⌜ dims ≤ mostDims ⌝ }
+fn range64(dims: usize, body: &[u8]) -> Range
+    requires { ⌜ length (now body) ≡ 8 * dims ⌝ }
+    ensures { λ r. ⌜ r .low ≡ least (element binary32 Float64Dense dims (now (body .entry))) dims ⌝ }
+    ensures { λ r. ⌜ r .high ≡ greatest (element binary32 Float64Dense dims (now (body .entry))) dims ⌝ }
+{
+    let mut found = no_range();
+    let mut i = 0;
+    while i < dims {
+        let x = narrow_at(body, 8 * i);
+        found = wider(found, x);
+        i += 1;
+    }
+    found
+}
+
+// Once -1.0 and 1.0 were both met no bit makes it wider.
+fn range1(dims: usize, body: &[u8]) -> Range
+    requires { ⌜ length (now body) ≡ ceil dims 8 ⌝ }
+    ensures { λ r. ⌜ r .low ≡ least (element binary32 Float1Bit dims (now (body .entry))) dims ⌝ }
+    ensures { λ r. ⌜ r .high ≡ greatest (element binary32 Float1Bit dims (now (body .entry))) dims ⌝ }
+{
+    let mut found = no_range();
+    let mut i = 0;
+    while i < dims {
+        if found.low < found.high {
+            return found;
+        }
+        let x = unit32(body, i);
+        found = wider(found, x);
+        i += 1;
+    }
+    found
+}
+
+fn range_of(kind: VectorType, dims: usize, body: &[u8]) -> Range
     requires { ⌜ fits kind dims (length (now body)) ≡ true ⌝ }
     requires { ⌜ is 9 kind ≡ false ⌝ }
+    requires { ⌜ is 4 kind ≡ false ⌝ }
+    ensures { λ r. ⌜ r .low ≡ least (element binary32 kind dims (now (body .entry))) dims ⌝ }
+    ensures { λ r. ⌜ r .high ≡ greatest (element binary32 kind dims (now (body .entry))) dims ⌝ }
+{
+    match kind {
+        VectorType::Float32Dense => range32(dims, body),
+        VectorType::Float64Dense => range64(dims, body),
+        VectorType::Float1Bit => range1(dims, body),
+        // never: a sparse body is spread first, and one of Float8 copied
+        VectorType::Float32Sparse => no_range(),
+        VectorType::Float8 => no_range(),
+    }
+}
+
+// Alpha and shift; of no elements both are 0.0.
+fn scale_of(kind: VectorType, dims: usize, body: &[u8]) -> Scale
+    requires { ⌜ fits kind dims (length (now body)) ≡ true ⌝ }
+    requires { ⌜ is 9 kind ≡ false ⌝ }
+    requires { ⌜ is 4 kind ≡ false ⌝ }
     ensures { λ r. ⌜ r ≡ scaleOf (element binary32 kind dims (now (body .entry))) dims ⌝ }
 {
     if dims == 0 {
@@ -72,29 +150,80 @@ fn scale_of(kind: VectorType, dims: usize, body: &[u8]) -> Scale
     }
 }
 
-// The byte of an element.
+// The byte of an element, where alpha is not 0.0.
 fn quantize(scale: Scale, x: f32) -> u8
+    requires { ⌜ eq (scale .alpha) plusZero ≡ false ⌝ }
     ensures { λ r. ⌜ r ≡ quantum (scale .alpha) (scale .shift) x ⌝ }
 {
-    if scale.alpha == 0.0 {
-        return 0;
-    }
     rounding::truncate((x - scale.shift) / scale.alpha + 0.5)
 }
 
-// Puts the bytes of the elements at the start of out.
-fn put_quanta(kind: VectorType, dims: usize, body: &[u8], scale: Scale, out: &mut [u8])
-    requires { ⌜ dims ≤ mostDims ⌝ }
-    requires { ⌜ fits kind dims (length (now body)) ≡ true ⌝ }
-    requires { ⌜ is 9 kind ≡ false ⌝ }
+// Puts the bytes of the elements at the start of out, a loop for each kind.
+fn put_quanta32(dims: usize, body: &[u8], scale: Scale, out: &mut [u8])
+    requires { ⌜ length (now body) ≡ 4 * dims ⌝ }
     requires { ⌜ dims ≤ length (now out) ⌝ }
-    ensures { λ _. ⌜ now (out .exit) ≡ onto (pieces (λ i. quantum (scale .alpha) (scale .shift) (element binary32 kind dims (now (body .entry)) i) ∷ []) dims) (now (out .entry)) ⌝ }
+    requires { ⌜ eq (scale .alpha) plusZero ≡ false ⌝ }
+    ensures { λ _. ⌜ now (out .exit) ≡ onto (pieces (λ i. quantum (scale .alpha) (scale .shift) (element binary32 Float32Dense dims (now (body .entry)) i) ∷ []) dims) (now (out .entry)) ⌝ }
 {
     let mut i = 0;
     while i < dims {
-        let x = single(kind, dims, body, i);
+        let x = elements::f32_at(body, 4 * i);
         out[i] = quantize(scale, x);
         i += 1;
+    }
+}
+
+fn put_quanta64(dims: usize, body: &[u8], scale: Scale, out: &mut [u8])
+    requires { ⌜ length (now body) ≡ 8 * dims ⌝ }
+    requires { ⌜ dims ≤ length (now out) ⌝ }
+    requires { ⌜ eq (scale .alpha) plusZero ≡ false ⌝ }
+    ensures { λ _. ⌜ now (out .exit) ≡ onto (pieces (λ i. quantum (scale .alpha) (scale .shift) (element binary32 Float64Dense dims (now (body .entry)) i) ∷ []) dims) (now (out .entry)) ⌝ }
+{
+    let mut i = 0;
+    while i < dims {
+        let x = narrow_at(body, 8 * i);
+        out[i] = quantize(scale, x);
+        i += 1;
+    }
+}
+
+// Bits have two bytes; a bit's is looked up, since a branch would often be foretold wrongly.
+fn put_quanta1(dims: usize, body: &[u8], scale: Scale, out: &mut [u8])
+    requires { ⌜ length (now body) ≡ ceil dims 8 ⌝ }
+    requires { ⌜ dims ≤ length (now out) ⌝ }
+    requires { ⌜ eq (scale .alpha) plusZero ≡ false ⌝ }
+    ensures { λ _. ⌜ now (out .exit) ≡ onto (pieces (λ i. quantum (scale .alpha) (scale .shift) (element binary32 Float1Bit dims (now (body .entry)) i) ∷ []) dims) (now (out .entry)) ⌝ }
+{
+    let clear = quantize(scale, -1.0);
+    let set = quantize(scale, 1.0);
+    let bytes = [clear, set];
+    let mut i = 0;
+    while i < dims {
+        let bit = bit_at(body, i);
+        out[i] = bytes[bit];
+        i += 1;
+    }
+}
+
+// Where alpha is 0.0 every byte is 0.
+fn put_quanta(kind: VectorType, dims: usize, body: &[u8], scale: Scale, out: &mut [u8])
+    requires { ⌜ fits kind dims (length (now body)) ≡ true ⌝ }
+    requires { ⌜ is 9 kind ≡ false ⌝ }
+    requires { ⌜ is 4 kind ≡ false ⌝ }
+    requires { ⌜ dims ≤ length (now out) ⌝ }
+    ensures { λ _. ⌜ now (out .exit) ≡ onto (pieces (λ i. quantum (scale .alpha) (scale .shift) (element binary32 kind dims (now (body .entry)) i) ∷ []) dims) (now (out .entry)) ⌝ }
+{
+    if scale.alpha == 0.0 {
+        put_zeros(dims, out);
+        return;
+    }
+    match kind {
+        VectorType::Float32Dense => put_quanta32(dims, body, scale, out),
+        VectorType::Float64Dense => put_quanta64(dims, body, scale, out),
+        VectorType::Float1Bit => put_quanta1(dims, body, scale, out),
+        // never: a sparse body is spread first, and one of Float8 copied
+        VectorType::Float32Sparse => {}
+        VectorType::Float8 => {}
     }
 }
 

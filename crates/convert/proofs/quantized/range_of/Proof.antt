@@ -1,40 +1,39 @@
--- `quantized::range_of` meets its contract. The loop's invariant: the range of the elements passed.
-use mathlib.Core.Path.{_≡_, refl}
-use Prim.Native.Nat.{_-_, _≤_}
-use native.Mathlib.Omega.{arith}
+-- `quantized::range_of` meets its contract, an arm a kind: a body that fits has the length that the kind's loop asks for.
 use borrow.Author.Needs.{needs}
-use lib.Ieee.{binary32, ofBits, div, neg}
-use Rattle.convert.specs.Elements.{element}
-use Rattle.convert.specs.Quantized.{least, greatest}
-use Rattle.convert.proofs.Scaled.{RangeOf, one-more}
+use Rattle.convert.proofs.Bodies.{not-kind, float32-length, float64-length, one-bit-length}
 use Rattle.convert.proofs.quantized.range_of.Statement.{statement}
 use Rattle.convert.proofs.quantized.range_of.Tie as tie
 
-abbrev Inv-loop : tie.InvT-loop
-Inv-loop kind dims body found₀ i₀ found i = (i ≤ dims) × RangeOf (element binary32 kind dims body) i found
+range32-requires : tie.Need-range32-requires
+range32-requires c κs = float32-length _ _ (c .enum-told .given .1) (c .before .before .before .pre .0)
 
-abbrev μ-loop : tie.MeasureT-loop
-μ-loop kind dims body found₀ i₀ found i = dims - i
+range64-requires : tie.Need-range64-requires
+range64-requires c κs = float64-length _ _ (c .enum-told2 .given .1) (c .before .before .before .pre .0)
 
-loop-holds : tie.Need-loop-holds Inv-loop μ-loop
-unfolding least greatest div ofBits neg
-loop-holds c = (omega arith, (refl, refl))
+range1-requires : tie.Need-range1-requires
+range1-requires c κs = one-bit-length _ _ (c .enum-told3 .given .1) (c .before .before .before .pre .0)
 
-loop-again : tie.Need-loop-again Inv-loop μ-loop
-loop-again c =
-    let l = c .before .before .before .loop in
-    (omega arith, one-more _ (l .i) (l .found) (c .wider .result) (c .before .single .result) (l .inv .1) (c .before .single .ensures) (c .wider .ensures))
+returns : tie.Need-returns
+returns c = rw (c .before .enum-told .given .1) (c .range32 .ensures)
 
-returns : tie.Need-returns Inv-loop μ-loop
-returns c =
-    let l = c .before .loop in
-    let all : l .i ≡ c .before .before .before .args .dims = omega arith in
-    rw all at (l .inv .1)
+returns-2 : tie.Need-returns-2
+returns-2 c = rw (c .before .enum-told2 .given .1) (c .range64 .ensures)
+
+returns-3 : tie.Need-returns-3
+returns-3 c = rw (c .before .enum-told3 .given .1) (c .range1 .ensures)
+
+returns-4 : tie.Need-returns-4
+returns-4 c = absurd (not-kind (c .before .enum-told4 .given .1) (c .before .before .before .before .pre .1 .0))
+
+returns-5 : tie.Need-returns-5
+returns-5 c = absurd (not-kind (c .before .enum-told5 .given .1) (c .before .before .before .before .pre .1 .1))
 
 pub range-of-spec : {M : Type 1} → statement M
 range-of-spec =
     tie.close
     (tie.spec
-    Inv-loop μ-loop loop-holds
-    (λ c κs. search needs) (λ c κs. tt) (λ c. omega arith) (λ c. omega arith)
-    loop-again returns)
+    (λ c. search needs) range32-requires
+    (λ c. search needs) range64-requires
+    (λ c. search needs) range1-requires
+    (λ c. search needs) (λ c κs. tt) (λ c. search needs) (λ c κs. tt)
+    returns returns-2 returns-3 returns-4 returns-5)
