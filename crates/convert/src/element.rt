@@ -8,7 +8,6 @@ ghost use lib.Ieee.{binary32, binary64};
 ghost use Rattle.vector_types.specs.Layout.{mostDims, is, bitAt, fits};
 ghost use Rattle.convert.specs.Elements.{unit, element};
 ghost use Rattle.convert.specs.Sparse.{stored};
-ghost use Rattle.convert.specs.Bits.{positive};
 use vector_types::VectorType;
 
 // Whether bit i is set.
@@ -72,7 +71,7 @@ pub(crate) fn double(kind: VectorType, dims: usize, body: &[u8], i: usize) -> f6
     }
 }
 
-// Whether element i is not 0.0, and whether it is greater: tests of the element itself, before any rounding.
+// Whether element i is not 0.0: a test of the element itself, before any rounding.
 pub(crate) fn is_stored(kind: VectorType, dims: usize, body: &[u8], i: usize) -> bool
     requires { ⌜ dims ≤ mostDims ⌝ }
     requires { ⌜ fits kind dims (length (now body)) ≡ true ⌝ }
@@ -83,18 +82,5 @@ pub(crate) fn is_stored(kind: VectorType, dims: usize, body: &[u8], i: usize) ->
     match kind {
         VectorType::Float64Dense => elements::f64_at(body, 8 * i) != 0.0,
         _ => single(kind, dims, body, i) != 0.0,
-    }
-}
-
-pub(crate) fn is_positive(kind: VectorType, dims: usize, body: &[u8], i: usize) -> bool
-    requires { ⌜ dims ≤ mostDims ⌝ }
-    requires { ⌜ fits kind dims (length (now body)) ≡ true ⌝ }
-    requires { ⌜ is 9 kind ≡ false ⌝ }
-    requires { ⌜ i < dims ⌝ }
-    ensures { λ r. ⌜ r ≡ positive kind dims (now (body .entry)) i ⌝ }
-{
-    match kind {
-        VectorType::Float64Dense => 0.0 < elements::f64_at(body, 8 * i),
-        _ => 0.0 < single(kind, dims, body, i),
     }
 }
