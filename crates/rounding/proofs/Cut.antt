@@ -1,15 +1,22 @@
 -- A float cut to a whole number from 0 to 255: by whether it is below 1, below 256, or neither.
-use mathlib.Core.Path.{_≡_, refl, sym, _∙_}
-use Prim.Native.Nat.{ℕ, _+_, _-_, _*_, _/_, _^_, _≤_, _<_, min}
-use native.Mathlib.Nat.{div-lt-iff-lt-mul, le-div-iff-mul-le}
+use mathlib.Core.Path.{_≡_, refl, sym, ap, _∙_, subst}
+use mathlib.Core.Logic.{inr}
+use Prim.Native.Nat.{ℕ, _+_, _-_, _*_, _/_, _%_, _^_, _≤_, _<_, min}
+use native.Mathlib.Nat.{zero-add, mul-assoc, le-refl, le-of-suc-le-suc, lt-of-not-le, not-le-of-lt, mul-le-mul-right, mul-lt-mul-of-pos-right, le-of-mul-le-mul-right, lt-of-mul-lt-mul-right, div-lt-iff-lt-mul, le-div-iff-mul-le}
 use native.Mathlib.Omega.{arith}
-use mathlib.Core.Bool.{Bool, true, false, _&&_, _||_, true≢false, false≢true}
+use mathlib.Core.Bool.{Bool, true, false, not, _&&_, _||_, true≢false, false≢true}
 use lib.IntN.{ℤ, pos}
-use lib.Dec.{T, ltb, eqb, lt→ltb}
-use lib.Ieee.{Float, nan, inf, fin, binary32, up, down, lt, le, ofBits, toUnsigned}
+use lib.Dec.{T, ltb, eqb, lit≤}
+use lib.Pow.{pow-add, pow-pos}
+use lib.Ieee.{Float, nan, inf, fin, binary32, up, down, hid, ones, lt, le, ofBits, toBits, fits, isNan}
+use lib.Ieee.Bits.{ofBits-toBits}
+use lib.Ieee.Exact.{HasValue}
 use lib.Ieee.Fits.{down-pos}
-use borrow.Author.Tests.{ltb-true, ltb-false, eqb-true, eqb-false}
+use lib.Ieee.Nearest.{div-same}
+use borrow.Author.Tests.{ltb-true, ltb-false, eqb-true, eqb-false, ne-eqb}
+use Rattle.rounding.specs.Pick.{count}
 use Rattle.rounding.specs.Truncate.{truncated}
+use Rattle.rounding.proofs.Patterns.{count-is, count-at, count-lt, count-back, finite, toBits-lt}
 
 abbrev one : Float
 one = fin false 1 (pos 0)
@@ -69,41 +76,77 @@ pub record Mid (x : Float) : Type 0 where
   pub m : ℕ
   pub e : ℤ
   pub is : x ≡ fin false m e
+  pub low : down e ≤ m * up e
   pub high : m * up e < 256 * down e
 
 mid : (x : Float) → From x → lt x end ≡ true → Mid x
 unfolding lt
 mid nan a h = absurd a
 mid (inf s) a h = absurd (true≢false (sym h ∙ a))
-mid (fin s m e) a h = record { m = m; e = e; is = rw (a .0); high = let l = ltb-true (m * up e * 1) (256 * down e) (rw (a .0) at h) in omega arith }
+mid (fin s m e) a h = record { m = m; e = e; is = rw (a .0); low = a .1; high = let l = ltb-true (m * up e * 1) (256 * down e) (rw (a .0) at h) in omega arith }
 
 pub in-range : (x : Float) → le (ofBits binary32 0x3f80_0000) x ≡ true → lt x (ofBits binary32 0x4380_0000) ≡ true → Mid x
 in-range x h k = mid x (from x (rw one-is at h)) (rw end-is at k)
 
--- it is in the range of `truncating_f32_to_u64`
-pub asks : (x : Float) → Mid x → T (lt (fin true 1 (pos 0)) x) × T (lt x (fin false 1 (pos 64)))
-unfolding lt
-asks x g =
-    let d = down (g .e) in
-    let u = g .m * up (g .e) in
-    rw (g .is) (lt→ltb 0 (1 * 1 * d + u * 1) (low d u (down-pos (g .e))), lt→ltb (u * 1) (1 * 2 ^ 64 * d) (high d u (g .high)))
-  where
-    low : (d u : ℕ) → 0 < d → 0 < 1 * 1 * d + u * 1
-    low d u p = omega arith
+pub number : (x : Float) → Mid x → T (not (isNan x))
+unfolding isNan
+number x g = rw (g .is) tt
 
-    high : (d u : ℕ) → u < 256 * d → u * 1 < 1 * 2 ^ 64 * d
-    high d u l = omega arith
+-- the patterns of 1 and of 256 in smallest values
+one-counts : count binary32 0x3f80_0000 ≡ 2 ^ 149
+one-counts = count-at binary32 126 (2 ^ 23) (inr (le-refl (2 ^ 23))) (lit≤ tt)
 
--- and what that cuts is the answer, a byte
-pub cut : (x : Float) → Mid x → (toUnsigned 64 x ≡ truncated x) × (toUnsigned 64 x < 256)
-unfolding toUnsigned truncated
-cut x g = let l : g .m * up (g .e) / down (g .e) < 256 = div-lt-iff-lt-mul (down-pos (g .e)) .1 (g .high) in rw (g .is) (same (g .m * up (g .e) / down (g .e)) l, less (g .m * up (g .e) / down (g .e)) l)
-  where
-    same : (v : ℕ) → v < 256 → min v (2 ^ 64 - 1) ≡ min v 255
-    same v h = omega arith
+end-counts : count binary32 0x4380_0000 ≡ 256 * 2 ^ 149
+end-counts = count-at binary32 134 (2 ^ 23) (inr (le-refl (2 ^ 23))) (lit≤ tt)
 
-    less : (v : ℕ) → v < 256 → min v (2 ^ 64 - 1) < 256
-    less v h = omega arith
+-- so its pattern's field is 127 to 134, and the digits cut at the point are the answer, a byte
+module _ (x : Float) (t : T (fits binary32 x)) (g : Mid x) where
+  abbrev b : ℕ
+  b = toBits binary32 x
+
+  value : g .m * up (g .e) * 2 ^ 149 ≡ count binary32 b * down (g .e)
+  value =
+      let fine : b < ones binary32 * hid binary32 = rw (g .is) (toBits-lt binary32 (g .m) (g .e) (rw (g .is) at t)) in
+      subst (λ (y : Float). HasValue y false (count binary32 b) (2 ^ 149)) (ap (ofBits binary32) (zero-add b) ∙ ofBits-toBits binary32 x t ∙ g .is) (finite binary32 false b fine) .1
+
+  pub field-from : 127 ≤ b / 2 ^ 23
+  field-from = le-div-iff-mul-le (pow-pos 23) .1 (le-of-suc-le-suc (lt-of-not-le (λ l. not-le-of-lt (rw one-counts at (count-lt binary32 b 0x3f80_0000 l)) least)))
+    where
+      scaled : (c d u p : ℕ) → d ≤ u → u * p ≡ c * d → p * d ≤ c * d
+      scaled c d u p l e = let m = mul-le-mul-right p l in omega arith
+
+      least : 2 ^ 149 ≤ count binary32 b
+      least = le-of-mul-le-mul-right (scaled (count binary32 b) (down (g .e)) (g .m * up (g .e)) (2 ^ 149) (g .low) value) (down-pos (g .e))
+
+  pub field-to : b / 2 ^ 23 < 135
+  field-to = div-lt-iff-lt-mul (pow-pos 23) .1 (count-back binary32 b 0x4380_0000 (rw end-counts (lt-of-mul-lt-mul-right (down (g .e)) (scaled (count binary32 b) (down (g .e)) (g .m * up (g .e)) (2 ^ 149) (pow-pos 149) (g .high) value))))
+    where
+      scaled : (c d u p : ℕ) → 0 < p → u < 256 * d → u * p ≡ c * d → c * d < 256 * p * d
+      scaled c d u p h l e = let m = mul-lt-mul-of-pos-right l h in omega arith
+
+  abbrev shifted : ℕ
+  shifted = (b % 2 ^ 23 + 2 ^ 23) / 2 ^ (150 - b / 2 ^ 23)
+
+  whole : shifted ≡ g .m * up (g .e) / down (g .e)
+  whole =
+      let d = b % 2 ^ 23 + 2 ^ 23 in
+      let f = b / 2 ^ 23 in
+      let some : f ≡ 0 → ⊥ = λ z. omega (arith, field-from) in
+      let counts : count binary32 b ≡ d * 2 ^ (f - 1) = count-is binary32 b ∙ rw (ne-eqb f 0 some) in
+      let places : f - 1 + (150 - f) ≡ 149 = omega (arith, field-from, field-to) in
+      let powers : 2 ^ (f - 1) * 2 ^ (150 - f) ≡ 2 ^ 149 = sym (pow-add 2 (f - 1) (150 - f)) ∙ rw places in
+      div-same d (2 ^ (150 - f)) (count binary32 b) (2 ^ 149) (pow-pos (150 - f)) (pow-pos 149) (rw (counts, mul-assoc d (2 ^ (f - 1)) (2 ^ (150 - f)), powers))
+      ∙ sym (div-same (g .m * up (g .e)) (down (g .e)) (count binary32 b) (2 ^ 149) (down-pos (g .e)) (pow-pos 149) value)
+
+  pub cut-byte : shifted < 256
+  cut-byte = rw whole (div-lt-iff-lt-mul (down-pos (g .e)) .1 (g .high))
+
+  pub cut : shifted ≡ truncated x
+  unfolding truncated
+  cut = same shifted (g .m * up (g .e) / down (g .e)) whole cut-byte ∙ ap truncated (sym (g .is))
+    where
+      same : (r v : ℕ) → r ≡ v → r < 256 → r ≡ min v 255
+      same r v e l = omega arith
 
 -- ---- from 256 on, and below 1
 pub above : (x : Float) → le (ofBits binary32 0x3f80_0000) x ≡ true → lt x (ofBits binary32 0x4380_0000) ≡ false → 255 ≡ truncated x

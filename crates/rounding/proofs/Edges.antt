@@ -1,16 +1,16 @@
 -- The root and narrowing where nothing is to be rounded: zeros, infinities, numbers below zero, NaN. Over the format.
 use mathlib.Core.Path.{_≡_, refl, sym, ap, _∙_, subst}
 use mathlib.Core.Logic.{_⊎_, inl, inr}
-use Prim.Native.Nat.{ℕ, zero, suc, _+_, _*_, _%_, _≤_, _<_}
-use native.Mathlib.Nat.{le-trans, le-of-eq, lt-irrefl, lt-of-le-of-lt, eq-zero-or-pos, zero-lt-suc, zero-mul, mul-pos, mod-le, add-mod-left}
+use Prim.Native.Nat.{ℕ, zero, suc, _*_, _%_, _≤_, _<_}
+use native.Mathlib.Nat.{le-trans, le-of-eq, lt-irrefl, lt-of-le-of-lt, eq-zero-or-pos, zero-lt-suc, zero-mul, mul-pos, mod-le}
 use mathlib.Core.Bool.{Bool, true, false, not, true≢false, false≢true}
 use lib.IntN.{ℤ, pos}
-use lib.Dec.{T, eqb, eqb→eq, nltb→le}
+use lib.Dec.{T, eqb, eqb→eq}
 use lib.Ieee.{Float, nan, inf, fin, Format, binary32, binary64, up, down, hid, ones, top, level, lt, eq, div, ofBits, toBits, fits, isNan, nanBits}
-use lib.Ieee.Bits.{ofBits-toBits, nanBits-above, nanBits-is}
+use lib.Ieee.Bits.{ofBits-toBits}
 use lib.Ieee.Fits.{up-pos, and-l}
 use borrow.Author.Tests.{ltb-true, lt-ltb}
-use Rattle.float_laws.proofs.Nan.{zero-by-zero, number-pattern}
+use Rattle.float_laws.proofs.Nan.{zero-by-zero, nan-decoded, number-pattern}
 use Rattle.rounding.specs.Root.{IsRoot}
 use Rattle.rounding.proofs.Patterns.{toBits-lt}
 
@@ -93,13 +93,10 @@ no-root f x h k = rw (zero-by-zero f) (go x (rw (zero-is f) at h) (rw (zero-is f
         absurd (true≢false (sym (lt-ltb (0 * 1 * down e) (suc m * up e * 1) (lt-of-le-of-lt (le-of-eq (zero-mul (down e))) (mul-pos (mul-pos (zero-lt-suc m) (up-pos e)) (zero-lt-suc 0)))) ∙ h))
     go (fin s zero e) h k = absurd (true≢false (sym (level-zero s (0 * up e * 1) (0 * 1 * down e) (ap (λ (y : ℕ). y * 1) (zero-mul (up e))) (zero-mul (down e))) ∙ k))
 
--- ---- a pattern up to an infinity's is no NaN's, with either sign
+-- ---- a pattern above an infinity's, the sign aside, is a NaN's
+pub nan-pattern : (f : Format) (b : ℕ) → ones f * hid f < b % top f → ofBits f b ≡ nan
+nan-pattern f b h = sym (nan-decoded f b h) ∙ zero-by-zero f
+
+-- and one up to an infinity's is not
 pub no-nan : (f : Format) (b : ℕ) → b ≤ ones f * hid f → T (not (nanBits f b))
 no-nan f b h = number-pattern f b (le-trans (mod-le b (top f)) h)
-
-pub no-nan-below : (f : Format) (b : ℕ) → b ≤ ones f * hid f → T (not (nanBits f (top f + b)))
-no-nan-below f b h = number-pattern f (top f + b) (rw (add-mod-left (top f) b) (le-trans (mod-le b (top f)) h))
-
--- and a number's pattern, without its sign, is at most an infinity's
-pub size-le : (f : Format) (x : Float) → T (fits f x) → T (not (isNan x)) → toBits f x % top f ≤ ones f * hid f
-size-le f x t n = nltb→le (ones f * hid f) (toBits f x % top f) (rw (← nanBits-above f (toBits f x), nanBits-is f (toBits f x), ofBits-toBits f x t) n)

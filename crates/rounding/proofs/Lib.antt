@@ -1,11 +1,13 @@
 -- Laws for callers
 pub mod RootLaw
 pub mod NarrowLaw
+pub mod NarrowBits
 pub mod Round
 pub mod Nearest
 pub mod Determined
 -- what they rest on
 mod Compare
+mod Closest
 mod Patterns
 mod Powers
 mod Under

@@ -1,23 +1,24 @@
 -- The f32 of an f64 is the one value that `IsNarrowed` allows; and `closest` of a pattern's digits gives its pattern.
 use mathlib.Core.Path.{_≡_, refl, sym, ap, subst}
 use mathlib.Core.Logic.{_⊎_, inl, inr}
-use Prim.Native.Nat.{ℕ, _+_, _-_, _*_, _/_, _%_, _^_, _≤_, _<_, compare}
-use native.Mathlib.Nat.{le-trans, le-of-eq, le-of-lt, le-refl, le-of-suc-le-suc, lt-of-not-le, le-add-left, lt-of-lt-of-le, mul-lt-mul-of-pos-right, div-lt-iff-lt-mul, le-div-iff-mul-le, div-eq-of-lt, mod-eq-of-lt}
+use Prim.Native.Nat.{ℕ, suc, _+_, _-_, _*_, _/_, _%_, _^_, _≤_, _<_}
+use native.Mathlib.Nat.{zero-add, le-trans, le-of-eq, le-of-lt, le-refl, le-of-suc-le-suc, lt-of-not-le, not-le-of-lt, le-add-left, lt-of-lt-of-le, eq-or-lt-of-le, mul-le-mul-left, mul-lt-mul-of-pos-right, div-add-mod', div-lt-iff-lt-mul, le-div-iff-mul-le, pow-succ'}
 use native.Mathlib.Decide.{decLt}
 use native.Mathlib.Omega.{arith}
 use mathlib.Core.Bool.{Bool, true, false, cond}
-use lib.Dec.{T, eqb, eqb→eq}
+use lib.Dec.{T, eqb, eqb→eq, lit≤}
 use lib.Pow.{pow-add, pow-pos, pow-mono}
 use lib.Ieee.{Float, nan, inf, fin, binary32, binary64, low, up, down, hid, ones, ne, div, ofBits}
 use lib.Ieee.Compare.{differs-from-itself}
 use lib.Ieee.Exact.{HasValue}
-use lib.Ieee.Fits.{down-pos, nearest-le}
+use lib.Ieee.Fits.{down-pos}
 use lib.Ieee.Nearest.{closest}
+use borrow.Author.Tests.{ne-eqb}
 use Rattle.rounding.specs.Nearest.{Nearest}
 use Rattle.rounding.specs.Pick.{digitsOf, count}
 use Rattle.rounding.specs.Narrow.{IsNarrowed, narrowed}
 use Rattle.rounding.specs.Parts.{Narrowing}
-use Rattle.rounding.proofs.Compare.{is-lt}
+use Rattle.rounding.proofs.Closest.{closest-le, closest-zero, closest-more}
 use Rattle.rounding.proofs.Powers.{powers}
 use Rattle.rounding.proofs.Patterns.{Full, digits-lt, signed, infinity, finite, count-is}
 use Rattle.rounding.proofs.Nearest.{only, nearest-scale}
@@ -57,18 +58,12 @@ narrowed-of (fin t m e) s X y v n =
     point M q d = omega arith
 
 -- ---- from a pattern's digits m and place k: an f32 drops 29 digits of m, and more below its smallest normal value, 896 places up
-abbrev pub dropped : ℕ → ℕ
+abbrev dropped : ℕ → ℕ
 dropped k = 29 + (896 - k)
 
 -- and its place among an f32's patterns is this
 abbrev pub place : ℕ → ℕ → ℕ
 place m k = (k - 896) * 2 ^ 23 + closest m (2 ^ dropped k)
-
-pub closest-le : (a d n : ℕ) → 0 < d → a < n * d → closest a d ≤ n
-closest-le a d n p h = le-trans (nearest-le (a / d) (compare (a % d * 2) d)) (div-lt-iff-lt-mul p .1 h)
-
-pub closest-zero : (a d : ℕ) → a * 2 < d → closest a d ≡ 0
-closest-zero a d h = let l : a < d = omega arith in rw (div-eq-of-lt l, mod-eq-of-lt l, is-lt (a * 2) d h)
 
 module _ (m k : ℕ) (full : (k ≡ 0) ⊎ (2 ^ 52 ≤ m)) (less : m < 2 ^ 53) where
   whole-lt : m / 2 ^ dropped k < 2 * hid binary32
@@ -121,10 +116,10 @@ module _ (b : ℕ) (l : b < ones binary64 * hid binary64) where
   narrowing : (s : Bool) (y : Float) → Nearest binary32 s (2 * (m * 2 ^ k * 2 ^ 149)) (λ M. M * 2 ^ 1074) y → IsNarrowed (signed binary64 s b) y
   narrowing s y n = narrowed-of (signed binary64 s b) s (count binary64 b) y (finite binary64 s b l) (rw (count-is binary64 b) n)
 
-  pub answer-fine : place m k < ones binary32 * hid binary32 → Narrowing b (place m k)
+  answer-fine : place m k < ones binary32 * hid binary32 → Narrowing b (place m k)
   answer-fine h = record { fine = le-of-lt h; is = λ s. narrowing s _ (fine m k (digits-full (hid binary64) b) (digits-lt (hid binary64) b (pow-pos 52)) s h) }
 
-  pub answer-over : ones binary32 * hid binary32 ≤ place m k → Narrowing b (ones binary32 * hid binary32)
+  answer-over : ones binary32 * hid binary32 ≤ place m k → Narrowing b (ones binary32 * hid binary32)
   answer-over h =
       record {
         fine = le-refl (ones binary32 * hid binary32);
@@ -132,9 +127,61 @@ module _ (b : ℕ) (l : b < ones binary64 * hid binary64) where
       }
 
 -- an infinity's pattern
-pub answer-infinite : Narrowing (ones binary64 * hid binary64) (ones binary32 * hid binary32)
+answer-infinite : Narrowing (ones binary64 * hid binary64) (ones binary32 * hid binary32)
 answer-infinite =
     record {
       fine = le-refl (ones binary32 * hid binary32);
       is = λ s. subst (λ (x : Float). IsNarrowed x (signed binary32 s (ones binary32 * hid binary32))) (sym (infinity binary64 s)) (infinity binary32 s);
     }
+
+-- ---- below an f32's smallest normal value
+pub place-none : (m k : ℕ) → m < 2 ^ 53 → k < 871 → 0 ≡ place m k
+place-none m k l h =
+    let z = closest-zero m (2 ^ dropped k) (lt-of-lt-of-le {m = 2 ^ 54} (omega arith) (pow-mono {i = 54} {j = dropped k} (omega arith))) in
+    omega arith
+
+pub place-some : (m k : ℕ) → k < 896 → closest m (2 * 2 ^ (924 - k)) ≡ place m k
+place-some m k h =
+    let few : k - 896 ≡ 0 = omega arith in
+    let e : suc (924 - k) ≡ dropped k = omega arith in
+    rw (← pow-succ' 2 (924 - k), e, few) (sym (zero-add (closest m (2 ^ dropped k))))
+
+pub answer-small : (b : ℕ) → b < 0x3810_0000_0000_0000 → Narrowing b (place (digitsOf (2 ^ 52) b) (b / 2 ^ 52 - 1))
+answer-small b l =
+    let m = digitsOf (2 ^ 52) b in
+    let k = b / 2 ^ 52 - 1 in
+    let x : b / 2 ^ 52 < 897 = div-lt-iff-lt-mul (pow-pos 52) .1 l in
+    let d : m < 2 ^ 24 * 2 ^ dropped k = lt-of-lt-of-le (digits-lt (2 ^ 52) b (pow-pos 52)) (mul-le-mul-left (2 ^ 24) (pow-mono {i = 29} {j = dropped k} (omega arith))) in
+    let c : closest m (2 ^ dropped k) ≤ 2 ^ 24 = closest-le m (2 ^ dropped k) (2 ^ 24) (pow-pos (dropped k)) d in
+    answer-fine b (omega arith) (omega arith)
+
+-- ---- from there on: the pattern less 896 fields, with 29 digits dropped, so that a carry goes on into the exponent
+module _ (b : ℕ) (from : 0x3810_0000_0000_0000 ≤ b) (to : b ≤ ones binary64 * hid binary64) where
+  abbrev n : ℕ
+  n = closest (b - 0x3800_0000_0000_0000) (2 ^ 29)
+
+  place-normal : place (digitsOf (2 ^ 52) b) (b / 2 ^ 52 - 1) ≡ n
+  place-normal = go (b / 2 ^ 52) (b % 2 ^ 52) (div-add-mod' b (2 ^ 52)) (le-div-iff-mul-le (pow-pos 52) .1 from)
+    where
+      go : (x t : ℕ) → x * 2 ^ 52 + t ≡ b → 897 ≤ x → place (t + cond (eqb x 0) 0 (2 ^ 52)) (x - 1) ≡ n
+      go x t e l =
+          let some : x ≡ 0 → ⊥ = λ z. omega arith in
+          let d : dropped (x - 1) ≡ 29 = omega arith in
+          let j = (x - 1 - 896) * 2 ^ 22 in
+          let apart : b - 0x3800_0000_0000_0000 ≡ 2 ^ 29 * (2 * j) + (t + 2 ^ 52) = omega arith in
+          let twice : (x - 1 - 896) * 2 ^ 23 ≡ 2 * j = omega arith in
+          rw (ne-eqb x 0 some, d, apart, twice) (sym (closest-more j (t + 2 ^ 52) (2 ^ 29) (pow-pos 29)))
+
+  pub normal-fine : n < ones binary32 * hid binary32 → Narrowing b n
+  normal-fine h = go (eq-or-lt-of-le to)
+    where
+      go : (b ≡ ones binary64 * hid binary64) ⊎ (b < ones binary64 * hid binary64) → Narrowing b n
+      go (inl e) = absurd (not-le-of-lt (subst (λ (x : ℕ). closest (x - 0x3800_0000_0000_0000) (2 ^ 29) < ones binary32 * hid binary32) e h) (lit≤ tt))
+      go (inr l) = subst (Narrowing b) place-normal (answer-fine b l (rw place-normal h))
+
+  pub normal-over : ones binary32 * hid binary32 ≤ n → Narrowing b (ones binary32 * hid binary32)
+  normal-over h = go (eq-or-lt-of-le to)
+    where
+      go : (b ≡ ones binary64 * hid binary64) ⊎ (b < ones binary64 * hid binary64) → Narrowing b (ones binary32 * hid binary32)
+      go (inl e) = rw e answer-infinite
+      go (inr l) = answer-over b l (rw place-normal h)

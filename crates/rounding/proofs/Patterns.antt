@@ -259,7 +259,7 @@ not-nan f s b h = go (eq-or-lt-of-le h)
     go (inl e) = rw (e, infinity f s) tt
     go (inr l) = no-nan (signed f s b) s (count f b) (2 ^ low f) (finite f s b l)
 
-toBits-signed : (f : Format) (s : Bool) (b : ℕ) → b ≤ ones f * hid f → toBits f (signed f s b) ≡ cond s (top f) 0 + b
+pub toBits-signed : (f : Format) (s : Bool) (b : ℕ) → b ≤ ones f * hid f → toBits f (signed f s b) ≡ cond s (top f) 0 + b
 toBits-signed f s b h = toBits-ofBits f (cond s (top f) 0 + b) (small s (top f) (below-top f b h)) (not-nan f s b h)
   where
     small : (s : Bool) (t : ℕ) → b < t → cond s t 0 + b < 2 * t

@@ -1,8 +1,8 @@
 -- A fraction rounded to nearest: the value nearest to a / d * 2 ^ k smallest values is `closest a d` of them, 2 ^ k times, and `round`, by which sums and products round, is the nearest value. Over the format.
-use mathlib.Core.Path.{_≡_, refl, sym, ap, _∙_, subst}
+use mathlib.Core.Path.{_≡_, sym, ap, _∙_, subst}
 use mathlib.Core.Logic.{_⊎_, inl, inr}
 use Prim.Native.Nat.{ℕ, suc, _+_, _-_, _*_, _/_, _%_, _^_, _≤_, _<_, compare, Ordering, Ordering·lt, Ordering·eq, Ordering·gt}
-use native.Mathlib.Nat.{add-assoc, add-suc, mul-pos, mul-le-mul-right, mul-lt-mul-of-pos-right, lt-of-mul-lt-mul-right, le-of-mul-le-mul-right, mul-add-mod-self-left, le-trans, le-antisymm, lt-of-not-le, le-of-lt, le-of-suc-le-suc, lt-of-le-of-lt, lt-suc-self, mod-lt, div-add-mod', div-div-eq-div-mul, le-div-iff-mul-le, eq-zero-or-pos}
+use native.Mathlib.Nat.{add-suc, mul-pos, mul-le-mul-right, mul-lt-mul-of-pos-right, lt-of-mul-lt-mul-right, le-of-mul-le-mul-right, le-trans, le-antisymm, lt-of-not-le, le-of-lt, le-of-suc-le-suc, lt-of-le-of-lt, lt-suc-self, mod-lt, div-add-mod', div-div-eq-div-mul, le-div-iff-mul-le, eq-zero-or-pos}
 use native.Mathlib.Decide.{decLt}
 use native.Mathlib.Omega.{arith}
 use mathlib.Core.Bool.{Bool, cond}
@@ -19,6 +19,7 @@ use Rattle.float_laws.proofs.Value.{value-unique}
 use Rattle.rounding.specs.Nearest.{Nearest, Rounds}
 use Rattle.rounding.specs.Pick.{count}
 use Rattle.rounding.proofs.Compare.{Compared, compared, is-lt, is-eq, is-gt, compare-scale}
+use Rattle.rounding.proofs.Closest.{nearest-more}
 use Rattle.rounding.proofs.Patterns.{Full, full-suc, signed, infinity, finite, hid-even, twice-hid, count-at, count-top, count-lt, count-le}
 use Rattle.rounding.proofs.Nearest.{Rising, floor-nearest, top-nearest}
 
@@ -111,12 +112,10 @@ module _ (f : Format) (s : Bool) (N C a d k : ℕ) (pC : 0 < C) (pd : 0 < d) (sa
 
   -- the field's weight is even
   moved : (o : Ordering) → nearest floor o ≡ k * hid f + nearest (a / d) o
-  moved Ordering·lt = refl
-  moved Ordering·gt = sym (add-suc (k * hid f) (a / d))
-  moved Ordering·eq = rw (parity (2 ^ (prec f - 2)) (hid f) (a / d) (hid-even f)) (add-assoc (k * hid f) (a / d) (a / d % 2))
+  moved o = let even : k * hid f ≡ 2 * (k * 2 ^ (prec f - 2)) = rw (hid-even f) (turn k (2 ^ (prec f - 2))) in rw even (nearest-more (k * 2 ^ (prec f - 2)) (a / d) o)
     where
-      parity : (p h q : ℕ) → h ≡ 2 * p → (k * h + q) % 2 ≡ q % 2
-      parity p h q e = let twice : k * h ≡ 2 * (k * p) = rw e (omega arith) in rw twice (mul-add-mod-self-left 2 (k * p) q)
+      turn : (k p : ℕ) → k * (2 * p) ≡ 2 * (k * p)
+      turn k p = omega arith
 
   -- the pattern of the nearest value; from an infinity's pattern on it stands for the infinity
   abbrev pub place : ℕ

@@ -1,70 +1,29 @@
--- `rounding::narrowing::narrow` meets its contract: NaN to NaN, and the pattern without its sign by `narrow_pattern`.
-use mathlib.Core.Path.{_≡_, ap, _∙_, subst}
-use Prim.Native.Nat.{ℕ, _+_, _%_}
-use native.Mathlib.Nat.{mod-eq-of-lt, zero-add, add-sub-of-le}
-use mathlib.Core.Bool.{true, false}
-use lib.Ieee.{Float, binary32, binary64, ofBits, toBits, top}
-use lib.Ieee.Bits.{ofBits-toBits, toBits-lt}
+-- `rounding::narrowing::narrow` meets its contract: NaN to NaN, and the pattern by `narrow_bits`, which is no NaN's then.
+use mathlib.Core.Path.{_≡_, ap, _∙_}
+use lib.Ieee.{binary32, binary64, toBits}
+use lib.Ieee.Bits.{ofBits-toBits}
 use Rattle.float_laws.proofs.Nan.{number-value}
-use Rattle.rounding.specs.Narrow.{IsNarrowed}
-use Rattle.rounding.proofs.Edges.{no-nan, no-nan-below, size-le}
+use Rattle.rounding.specs.Narrow.{narrowed}
 use Rattle.rounding.proofs.NarrowLaw.{nan-narrowed}
+use Rattle.rounding.proofs.NarrowBits.{back-number, back-narrowed}
 use borrow.Author.Needs.{needs}
-use native.Mathlib.Omega.{arith}
 use Rattle.rounding.proofs.narrowing.narrow.Statement.{statement}
 use Rattle.rounding.proofs.narrowing.narrow.Tie as tie
 
 returns : tie.Need-returns
 returns c = nan-narrowed (c .before .args .x) (c .if1 .taken)
 
-float-to-bits-b : tie.Need-float-to-bits-b
-float-to-bits-b c = number-value (c .before .args .x) (c .if1 .left)
-
-narrow-pattern-requires : tie.Need-narrow-pattern-requires
-narrow-pattern-requires c κs =
-    let x = c .before .before .args .x in
-    let s = size-le binary64 x (search needs) (number-value x (c .before .if1 .left)) in
-    let e : toBits binary64 x % top binary64 ≡ toBits binary64 x = mod-eq-of-lt (omega arith) in
-    omega arith
+-- the pattern is that of x's f32
+pattern : (c : tie.After-narrow-bits) → c .narrow-bits .result ≡ toBits binary32 (narrowed (c .before .before .args .x))
+pattern c = c .narrow-bits .ensures ∙ ap (λ x. toBits binary32 (narrowed x)) (ofBits-toBits binary64 (c .before .before .args .x) (search needs))
 
 float-from-bits-result : tie.Need-float-from-bits-result
-float-from-bits-result c = no-nan binary32 (c .narrow-pattern .result) (c .narrow-pattern .ensures .fine)
-
-narrow-pattern-requires-2 : tie.Need-narrow-pattern-requires-2
-narrow-pattern-requires-2 c κs =
-    let x = c .before .before .args .x in
-    let s = size-le binary64 x (search needs) (number-value x (c .before .if1 .left)) in
-    let l = toBits-lt binary64 x (search needs) in
-    omega arith
-
-float-from-bits-result-2 : tie.Need-float-from-bits-result-2
-float-from-bits-result-2 c = no-nan-below binary32 (c .narrow-pattern2 .result) (c .narrow-pattern2 .ensures .fine)
+float-from-bits-result c = let x = c .before .before .args .x in back-number x (c .narrow-bits .result) (pattern c) (number-value x (c .before .if1 .left))
 
 returns-2 : tie.Need-returns-2
-returns-2 c =
-    let x = c .before .before .before .args .x in
-    let r = c .narrow-pattern .result in
-    subst (λ (y : Float). IsNarrowed y (ofBits binary32 r)) (ap (ofBits binary64) (zero-add (toBits binary64 x)) ∙ ofBits-toBits binary64 x (search needs))
-    (subst (λ (z : ℕ). IsNarrowed (ofBits binary64 (0 + toBits binary64 x)) (ofBits binary32 z)) (zero-add r) (c .narrow-pattern .ensures .is false))
-
-returns-3 : tie.Need-returns-3
-returns-3 c =
-    let x = c .before .before .before .args .x in
-    let r = c .narrow-pattern2 .result in
-    subst (λ (y : Float). IsNarrowed y (ofBits binary32 (top binary32 + r))) (ap (ofBits binary64) (add-sub-of-le {n = toBits binary64 x} {m = top binary64} (omega arith)) ∙ ofBits-toBits binary64 x (search needs))
-    (c .narrow-pattern2 .ensures .is true)
+returns-2 c = back-narrowed (c .before .before .args .x) (c .narrow-bits .result) (pattern c)
 
 pub narrow-spec : {M : Type 1} → statement M
 narrow-spec =
     tie.close
-    (tie.spec
-    returns
-    float-to-bits-b
-    narrow-pattern-requires
-    (λ c. search needs)
-    float-from-bits-result
-    narrow-pattern-requires-2
-    (λ c. search needs) (λ c. search needs)
-    float-from-bits-result-2
-    returns-2
-    returns-3)
+    (tie.spec returns (λ c. number-value (c .before .args .x) (c .if1 .left)) (λ c κs. search needs) float-from-bits-result returns-2)
