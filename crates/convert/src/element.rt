@@ -7,7 +7,6 @@ ghost use lib.ListN.{length};
 ghost use lib.Ieee.{binary32, binary64};
 ghost use Rattle.vector_types.specs.Layout.{mostDims, is, bitAt, fits};
 ghost use Rattle.convert.specs.Elements.{unit, element};
-ghost use Rattle.convert.specs.Sparse.{stored};
 use vector_types::VectorType;
 
 // Whether bit i is set.
@@ -19,7 +18,7 @@ fn is_set(body: &[u8], i: usize) -> bool
 }
 
 // Element i of a 1-bit body: 1.0 or -1.0.
-fn unit32(body: &[u8], i: usize) -> f32
+pub(crate) fn unit32(body: &[u8], i: usize) -> f32
     requires { ⌜ i < 8 * length (now body) ⌝ }
     ensures { λ r. ⌜ r ≡ unit (eqb (bitAt (now (body .entry)) i) 0) ⌝ }
 {
@@ -68,19 +67,5 @@ pub(crate) fn double(kind: VectorType, dims: usize, body: &[u8], i: usize) -> f6
         }
         // never: a sparse body is spread first
         VectorType::Float32Sparse => 0.0,
-    }
-}
-
-// Whether element i is not 0.0: a test of the element itself, before any rounding.
-pub(crate) fn is_stored(kind: VectorType, dims: usize, body: &[u8], i: usize) -> bool
-    requires { ⌜ dims ≤ mostDims ⌝ }
-    requires { ⌜ fits kind dims (length (now body)) ≡ true ⌝ }
-    requires { ⌜ is 9 kind ≡ false ⌝ }
-    requires { ⌜ i < dims ⌝ }
-    ensures { λ r. ⌜ r ≡ stored kind dims (now (body .entry)) i ⌝ }
-{
-    match kind {
-        VectorType::Float64Dense => elements::f64_at(body, 8 * i) != 0.0,
-        _ => single(kind, dims, body, i) != 0.0,
     }
 }
