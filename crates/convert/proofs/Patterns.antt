@@ -1,19 +1,21 @@
 -- Tests on a float's pattern: whether it is a zero's, and whether it is that of a number greater than 0. Over the format.
-use mathlib.Core.Path.{_≡_, refl, sym, ap, _∙_}
+use mathlib.Core.Path.{_≡_, refl, sym, _∙_}
 use mathlib.Core.Bool.{Bool, true, false, not, _&&_, cond, and-false, true≢false}
-use Prim.Native.Nat.{ℕ, zero, suc, _+_, _-_, _*_, _/_, _%_, _^_, _≤_, _<_}
-use native.Mathlib.Nat.{mul-pos, zero-mul, zero-add, zero-lt-suc, mod-eq-of-lt}
+use mathlib.Core.List.{List}
+use Prim.Native.Nat.{ℕ, zero, suc, _+_, _-_, _*_, _/_, _%_, _^_, _<_}
+use native.Mathlib.Nat.{mul-pos, zero-mul, zero-add, add-zero, add-suc, add-assoc, zero-lt-suc, mod-eq-of-lt, mul-add-mod-self-left}
 use native.Mathlib.Omega.{arith}
 use lib.Dec.{leb, ltb, eqb}
-use lib.IntN.{ℤ}
-use lib.Pow.{pow-pos}
+use lib.Pow.{pow-pos, pow-add}
 use lib.Ieee.{Float, nan, inf, fin, Format, binary32, binary64, prec, low, up, down, lt, eq, odd, isNan, hid, ones, top, ofFields, ofBits}
 use lib.Ieee.Bits.{nanBits-is, nanBits-above}
 use lib.Ieee.Digits.{Equals, odd-val}
 use lib.Ieee.Fits.{down-pos}
 use lib.Ieee.Positive.{first-pos}
-use borrow.Author.Tests.{lt-ltb, le-ltb, le-leb, lt-leb, eq-eqb, ne-eqb, ltb-true, ltb-false, leb-false, leb-true}
+use borrow.Author.Tests.{lt-ltb, le-ltb, lt-leb, eq-eqb, ne-eqb, eqb-true, eqb-false, ltb-true, ltb-false, leb-false, leb-true}
 use Rattle.float_laws.specs.Zero.{plusZero, sign}
+use Rattle.elements.specs.Bytes.{numberAt, u32At, f64At, AreBytes}
+use Rattle.elements.proofs.Numbers.{numberAt-lt}
 
 -- ---- a zero
 -- a value of size a / c, where a is not 0, is none
@@ -56,6 +58,33 @@ pub zero-pattern : (f : Format) (b : ℕ) → eq (ofBits f b) plusZero ≡ eqb (
 unfolding ofBits
 zero-pattern f b = fields-zero f (leb (top f) b) (b % top f / hid f) (b % hid f) ∙ rw (two-fields f b)
 
+-- the same of an f64 in two halves, whose sum is 0 only if both are
+numberAt-halves : (v w : ℕ) (s : List ℕ) (i : ℕ) → numberAt (v + w) s i ≡ numberAt v s i + numberAt w s (i + v) * 256 ^ v
+unfolding numberAt
+numberAt-halves v zero s i = rw add-zero (omega arith)
+numberAt-halves v (suc w) s i = rw (add-suc, numberAt-halves v w s i, ← add-assoc i v w, pow-add 256 v w) (omega arith)
+
+halves-rest : (l h : ℕ) → l < 0x1_0000_0000 → (l + h * 0x1_0000_0000) % top binary64 ≡ l + h % 0x8000_0000 * 0x1_0000_0000
+halves-rest l h small =
+    let rest = l + h % 0x8000_0000 * 0x1_0000_0000 in
+    let parts : l + h * 0x1_0000_0000 ≡ top binary64 * (h / 0x8000_0000) + rest = omega arith in
+    rw (parts, mul-add-mod-self-left (top binary64) (h / 0x8000_0000) rest) (mod-eq-of-lt (omega arith))
+
+halves-zero : (l r : ℕ) → eqb (l + r) 0 ≡ eqb (l + r * 0x1_0000_0000) 0
+halves-zero l r = by (eqb (l + r) 0) refl
+  where
+    by : (b : Bool) → eqb (l + r) 0 ≡ b → b ≡ eqb (l + r * 0x1_0000_0000) 0
+    by true e = sym (eq-eqb (l + r * 0x1_0000_0000) 0 (omega (arith, eqb-true (l + r) 0 e)))
+    by false e = sym (ne-eqb (l + r * 0x1_0000_0000) 0 (λ z. eqb-false (l + r) 0 e (omega arith)))
+
+pub zero-halves : (s : List ℕ) (i : ℕ) → AreBytes s → eqb (u32At s i + u32At s (i + 4) % 0x8000_0000) 0 ≡ eq (f64At s i) plusZero
+zero-halves s i bytes =
+    let low = u32At s i in
+    let high = u32At s (i + 4) in
+    let rest : numberAt 8 s i % top binary64 ≡ low + high % 0x8000_0000 * 0x1_0000_0000 =
+    rw (numberAt-halves 4 4 s i) (halves-rest low high (numberAt-lt 4 s i bytes)) in
+    rw (zero-pattern binary64 (numberAt 8 s i), rest) (halves-zero low (high % 0x8000_0000))
+
 -- ---- greater than 0: no NaN, no zero, no sign
 above-zero : (x : Float) → lt plusZero x ≡ (not (isNan x) && not (eq x plusZero) && not (sign x))
 unfolding lt eq isNan
@@ -65,8 +94,12 @@ above-zero (fin true m e) = sym (and-false (not (eq (fin true m e) plusZero)))
 above-zero (fin false m e) = by (ltb 0 (m * up e)) refl
   where
     by : (b : Bool) → ltb 0 (m * up e) ≡ b → lt plusZero (fin false m e) ≡ (not (eq (fin false m e) plusZero) && true)
-    by true h = let some = ltb-true 0 (m * up e) h in rw (lt-ltb (0 * 1 * down e) (m * up e * 1) (omega arith), ne-eqb (m * up e * 1) (0 * 1 * down e) (λ z. omega arith))
-    by false h = let none = ltb-false 0 (m * up e) h in rw (le-ltb (0 * 1 * down e) (m * up e * 1) (omega arith), eq-eqb (m * up e * 1) (0 * 1 * down e) (omega arith))
+    by true h =
+        let some = ltb-true 0 (m * up e) h in
+        rw (lt-ltb (0 * 1 * down e) (m * up e * 1) (omega arith), ne-eqb (m * up e * 1) (0 * 1 * down e) (λ z. omega arith))
+    by false h =
+        let none = ltb-false 0 (m * up e) h in
+        rw (le-ltb (0 * 1 * down e) (m * up e * 1) (omega arith), eq-eqb (m * up e * 1) (0 * 1 * down e) (omega arith))
 
 odd-sign : (d : ℕ) (s : Bool) (q k l : ℕ) → sign (odd d s q k l) ≡ s
 unfolding odd
@@ -108,7 +141,7 @@ infinity-below binary32 = omega arith
 infinity-below binary64 = omega arith
 
 -- the patterns of the numbers greater than 0 lie above 0 and up to that of infinity
-pub positive-pattern : (f : Format) (b : ℕ) → lt plusZero (ofBits f b) ≡ (ltb 0 b && leb b (ones f * hid f))
+positive-pattern : (f : Format) (b : ℕ) → lt plusZero (ofBits f b) ≡ (ltb 0 b && leb b (ones f * hid f))
 positive-pattern f b = by (ltb 0 b) (leb b (ones f * hid f)) refl refl
   where
     -- above infinity's: with no sign a NaN's, and else with a sign
@@ -127,3 +160,8 @@ positive-pattern f b = by (ltb 0 b) (leb b (ones f * hid f)) refl refl
         tests f b false false false (nan-pattern f b ∙ rw own (le-ltb (ones f * hid f) b most)) some (λ _. lt-leb (top f) b under)
     by true false e g = over (leb (top f) b) (isNan (ofBits f b)) refl refl (leb-false b (ones f * hid f) g)
     by false u e g = let none : b ≡ 0 = omega (arith, ltb-false 0 b e) in rw none (zero-below f)
+
+-- so the two tests tell of element i, whose pattern is b; the first has told l
+pub bit-positive : (f : Format) {d i b n : ℕ} {l : Bool} → i < d → b ≡ n → ltb 0 b ≡ l
+    → (l && leb b (ones f * hid f)) ≡ (ltb i d && lt plusZero (ofBits f n))
+bit-positive f {d} {i} {b} {n} h e t = rw (lt-ltb i d h, ← e, ← t) (sym (positive-pattern f b))

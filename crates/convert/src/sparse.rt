@@ -1,11 +1,13 @@
 // To Float32Sparse.
 ghost use mathlib.Core.Path.{_≡_};
-ghost use mathlib.Core.Bool.{false, true, cond};
+ghost use mathlib.Core.Bool.{false, true, not, cond};
 ghost use mathlib.Core.List.{[], _∷_};
 ghost use Prim.Native.Nat.{_+_, _*_, _≤_, _<_};
 ghost use lib.ListN.{length};
+ghost use lib.Ieee.{eq};
 ghost use Rattle.promises.specs.Onto.{onto};
-ghost use Rattle.elements.specs.Bytes.{put, bytesOf};
+ghost use Rattle.float_laws.specs.Zero.{plusZero};
+ghost use Rattle.elements.specs.Bytes.{put, bytesOf, f64At};
 ghost use Rattle.vector_types.specs.Layout.{mostDims, is, fits};
 ghost use Rattle.convert.specs.Pieces.{placesOf};
 ghost use Rattle.convert.specs.Sparse.{stored, valueBytes, sparseBody};
@@ -30,6 +32,17 @@ fn scale_for(kind: VectorType, dims: usize, body: &[u8]) -> Scale
     }
 }
 
+// Whether the f64 at a place is not 0.0. Each half is one load; of the whole pattern, compared with 0,
+// the compiler loads single bytes.
+fn is_some64(body: &[u8], at: usize) -> bool
+    requires { ⌜ at + 8 ≤ length (now body) ⌝ }
+    ensures { λ r. ⌜ r ≡ not (eq (f64At (now (body .entry)) at) plusZero) ⌝ }
+{
+    let low = elements::u32_at(body, at) as u64;
+    let high = elements::u32_at(body, at + 4) as u64;
+    low + high % 0x8000_0000 != 0
+}
+
 // Whether element i is not 0.0: a test of the element itself, before any rounding. A pattern without
 // its sign is 0 exactly for the two zeros.
 fn is_stored(kind: VectorType, scale: Scale, dims: usize, body: &[u8], i: usize) -> bool
@@ -42,7 +55,7 @@ fn is_stored(kind: VectorType, scale: Scale, dims: usize, body: &[u8], i: usize)
 {
     match kind {
         VectorType::Float32Dense => elements::u32_at(body, 4 * i) % 0x8000_0000 != 0,
-        VectorType::Float64Dense => elements::u64_at(body, 8 * i) % 0x8000_0000_0000_0000 != 0,
+        VectorType::Float64Dense => is_some64(body, 8 * i),
         VectorType::Float1Bit => true,
         VectorType::Float8 => scale.single(body[i]) != 0.0,
         // never: a sparse body is spread first

@@ -1,6 +1,4 @@
 -- By the kind: each arm packs a body that is known to be of it.
-use mathlib.Core.Path.{_≡_}
-use lib.ListN.{length}
 use borrow.Author.Needs.{needs}
 use Rattle.vector_types.specs.declared.VectorType.the-variants.{Float32Dense, Float64Dense, Float8}
 use Rattle.convert.proofs.Bodies.{known, not-kind}
@@ -9,21 +7,18 @@ use Rattle.convert.proofs.bits.packed_byte.Tie as tie
 
 packed32-requires : tie.Need-packed32-requires
 packed32-requires c κs =
-    let start = c .before .before .before in
-    let pre = start .pre in
-    (pre .0, (known (start .args .dims) (length (start .args .body .now)) Float32Dense (c .enum-told .given .1) (pre .1 .0), pre .1 .1 .1 .1))
+    let pre = c .before .before .before .pre in
+    (pre .0, (known _ _ Float32Dense (c .enum-told .given .1) (pre .1 .0), pre .1 .1 .1 .1))
 
 packed64-requires : tie.Need-packed64-requires
 packed64-requires c κs =
-    let start = c .before .before .before in
-    let pre = start .pre in
-    (pre .0, (known (start .args .dims) (length (start .args .body .now)) Float64Dense (c .enum-told2 .given .1) (pre .1 .0), pre .1 .1 .1 .1))
+    let pre = c .before .before .before .pre in
+    (pre .0, (known _ _ Float64Dense (c .enum-told2 .given .1) (pre .1 .0), pre .1 .1 .1 .1))
 
 packed8-requires : tie.Need-packed8-requires
 packed8-requires c κs =
-    let start = c .before .before .before in
-    let pre = start .pre in
-    (pre .0, (known (start .args .dims) (length (start .args .body .now)) Float8 (c .enum-told3 .given .1) (pre .1 .0), pre .1 .1 .1 .1))
+    let pre = c .before .before .before .pre in
+    (pre .0, (known _ _ Float8 (c .enum-told3 .given .1) (pre .1 .0), pre .1 .1 .1 .1))
 
 returns : tie.Need-returns
 returns c = rw (c .before .enum-told .given .1) (c .packed32 .ensures)

@@ -1,8 +1,5 @@
 -- An arm a kind: a pattern is a zero's if it is 0 without its sign, and a unit is no zero.
-use mathlib.Core.Path.{_∙_}
-use mathlib.Core.Bool.{not}
-use lib.ListN.{length}
-use lib.Ieee.{binary32, binary64, ne}
+use lib.Ieee.{binary32, ne}
 use borrow.Author.Needs.{needs}
 use Rattle.convert.specs.Elements.{element}
 use Rattle.convert.proofs.Bodies.{not-kind, float32-within, float64-within, float8-within}
@@ -13,21 +10,18 @@ use Rattle.convert.proofs.sparse.is_stored.Tie as tie
 
 u32-at-requires : tie.Need-u32-at-requires
 u32-at-requires c κs =
-    let start = c .before .before .before in
-    let a = start .args in
-    float32-within (a .dims) (length (a .body .now)) (a .i) (c .enum-told .given .1) (start .pre .1 .0) (start .pre .1 .1 .1 .0)
+    let pre = c .before .before .before .pre in
+    float32-within _ _ _ (c .enum-told .given .1) (pre .1 .0) (pre .1 .1 .1 .0)
 
-u64-at-requires : tie.Need-u64-at-requires
-u64-at-requires c κs =
-    let start = c .before .before .before in
-    let a = start .args in
-    float64-within (a .dims) (length (a .body .now)) (a .i) (c .enum-told2 .given .1) (start .pre .1 .0) (start .pre .1 .1 .1 .0)
+is-some64-requires : tie.Need-is-some64-requires
+is-some64-requires c κs =
+    let pre = c .before .before .before .pre in
+    float64-within _ _ _ (c .enum-told2 .given .1) (pre .1 .0) (pre .1 .1 .1 .0)
 
 shared-slice-read-single : tie.Need-shared-slice-read-single
 shared-slice-read-single c =
-    let start = c .before .before .before .before in
-    let a = start .args in
-    float8-within (a .dims) (length (a .body .now)) (a .i) (c .before .enum-told4 .given .1) (start .pre .1 .0) (start .pre .1 .1 .1 .0)
+    let pre = c .before .before .before .before .pre in
+    float8-within _ _ _ (c .before .enum-told4 .given .1) (pre .1 .0) (pre .1 .1 .1 .0)
 
 returns : tie.Need-returns
 unfolding element
@@ -35,7 +29,7 @@ returns c = rw (c .before .enum-told .given .1, zero-pattern binary32, c .u32-at
 
 returns-2 : tie.Need-returns-2
 unfolding element
-returns-2 c = rw (c .before .enum-told2 .given .1, zero-pattern binary64, c .u64-at .ensures)
+returns-2 c = rw (c .before .enum-told2 .given .1) (c .is-some64 .ensures)
 
 returns-3 : tie.Need-returns-3
 unfolding element
@@ -59,7 +53,7 @@ is-stored-spec =
     (λ c. search needs) (λ c. search needs)
     u32-at-requires
     (λ c. search needs) (λ c. search needs)
-    u64-at-requires
+    is-some64-requires
     (λ c. search needs) (λ c. search needs)
     shared-slice-read-single
     (λ c κs. search needs) (λ c. search needs)

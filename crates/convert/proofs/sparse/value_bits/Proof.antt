@@ -1,11 +1,8 @@
 -- The bytes of a Float32Dense element as they stand, of any other the pattern of its single.
-use mathlib.Core.Path.{ap, _∙_}
 use Prim.Native.Nat.{_*_}
 use lib.ListN.{length}
-use lib.Ieee.{binary32}
 use borrow.Author.Needs.{needs}
 use Rattle.elements.proofs.Numbers.{bytesOf-numberAt}
-use Rattle.elements.specs.Bytes.{floatBytes}
 use Rattle.convert.specs.Elements.{element}
 use Rattle.convert.specs.Sparse.{valueBytes}
 use Rattle.convert.proofs.Bodies.{not-kind, float32-within, float64-within, one-bit-within, float8-within}
@@ -15,27 +12,23 @@ use Rattle.convert.proofs.sparse.value_bits.Tie as tie
 
 u32-at-requires : tie.Need-u32-at-requires
 u32-at-requires c κs =
-    let start = c .before .before .before in
-    let a = start .args in
-    float32-within (a .dims) (length (a .body .now)) (a .i) (c .enum-told .given .1) (start .pre .1 .0) (start .pre .1 .1 .1 .0)
+    let pre = c .before .before .before .pre in
+    float32-within _ _ _ (c .enum-told .given .1) (pre .1 .0) (pre .1 .1 .1 .0)
 
 u64-at-requires : tie.Need-u64-at-requires
 u64-at-requires c κs =
-    let start = c .before .before .before in
-    let a = start .args in
-    float64-within (a .dims) (length (a .body .now)) (a .i) (c .enum-told2 .given .1) (start .pre .1 .0) (start .pre .1 .1 .1 .0)
+    let pre = c .before .before .before .pre in
+    float64-within _ _ _ (c .enum-told2 .given .1) (pre .1 .0) (pre .1 .1 .1 .0)
 
 unit32-requires : tie.Need-unit32-requires
 unit32-requires c κs =
-    let start = c .before .before .before in
-    let a = start .args in
-    one-bit-within (a .dims) (length (a .body .now)) (a .i) (c .enum-told3 .given .1) (start .pre .1 .0) (start .pre .1 .1 .1 .0)
+    let pre = c .before .before .before .pre in
+    one-bit-within _ _ _ (c .enum-told3 .given .1) (pre .1 .0) (pre .1 .1 .1 .0)
 
 shared-slice-read-single : tie.Need-shared-slice-read-single
 shared-slice-read-single c =
-    let start = c .before .before .before .before in
-    let a = start .args in
-    float8-within (a .dims) (length (a .body .now)) (a .i) (c .before .enum-told4 .given .1) (start .pre .1 .0) (start .pre .1 .1 .1 .0)
+    let pre = c .before .before .before .before .pre in
+    float8-within _ _ _ (c .before .enum-told4 .given .1) (pre .1 .0) (pre .1 .1 .1 .0)
 
 returns : tie.Need-returns
 unfolding valueBytes
