@@ -10,7 +10,7 @@ use Rattle.vector_types.specs.declared.VectorType.the-variants.{Float32Dense, F
 
 module _ {k : VectorType} (d m : ℕ) where
   -- of a kind that is known
-  known : (t : VectorType) → k ≡ t → fits k d m ≡ true → fits t d m ≡ true
+  pub known : (t : VectorType) → k ≡ t → fits k d m ≡ true → fits t d m ≡ true
   known t e h = subst (λ (x : VectorType). fits x d m ≡ true) e h
 
   pub float32-length : k ≡ Float32Dense → fits k d m ≡ true → m ≡ 4 * d

@@ -6,6 +6,7 @@ pub mod Determined
 pub mod Fitting
 pub mod Lengths
 pub mod Packed
+pub mod Patterns
 pub mod Pieces
 pub mod Places
 pub mod Ranged

@@ -84,15 +84,15 @@ pub pack-none : (p : ℕ → Bool) (d m : ℕ) → Packing p d m 0 1 0
 unfolding packedByte
 pack-none p d m = record { within = omega arith; worth = refl; most = omega arith; small = omega arith; sum = refl }
 
-pub pack-next : {p : ℕ → Bool} {d m byte weight j r : ℕ} → Packing p d m byte weight j → j < 8
-    → r ≡ cond (ltb (8 * m + j) d && p (8 * m + j)) weight 0 → Packing p d m (byte + r) (weight * 2) (j + 1)
-pack-next {p} {d} {m} {byte} {weight} {j} {r} s h e =
+pub pack-next : {p : ℕ → Bool} {d m byte weight j r : ℕ} {on : Bool} → Packing p d m byte weight j → j < 8
+    → on ≡ (ltb (8 * m + j) d && p (8 * m + j)) → r ≡ cond on weight 0 → Packing p d m (byte + r) (weight * 2) (j + 1)
+pack-next {p} {d} {m} {byte} {weight} {j} {r} {on} s h t e =
     record {
       within = omega arith;
       worth = rw add-one (omega arith);
       most = omega (arith, pow-mono {i = suc j} {j = 8} (omega arith));
-      small = omega (arith, cond-le (at p d (8 * m + j)) weight);
-      sum = rw (packed-next p d m j, ← (s .worth), ← (s .sum), e);
+      small = omega (arith, cond-le on weight);
+      sum = rw (packed-next p d m j, ← (s .worth), ← (s .sum), ← t, e);
     }
 
 pub pack-all : {p : ℕ → Bool} {d m byte weight j : ℕ} → Packing p d m byte weight j → 8 ≤ j → byte ≡ packedByte p d m 8

@@ -4,6 +4,7 @@ pub mod Elements
 pub mod Sparse
 pub mod Bits
 pub mod Quantized
+pub mod Scales
 pub mod Result
 pub mod Convert
 pub mod Examples

@@ -7,42 +7,126 @@ ghost use lib.ListN.{length};
 ghost use Rattle.promises.specs.Onto.{onto};
 ghost use Rattle.vector_types.specs.Layout.{mostDims, is, fits, ceil};
 ghost use Rattle.convert.specs.Bits.{positive, packedByte, bitBody};
-use crate::element::is_positive;
+ghost use Rattle.vector_types.specs.declared.VectorType.the-variants.{Float32Dense, Float64Dense, Float8};
+ghost use Rattle.convert.specs.Scales.{scaleFor};
+use crate::scale::Scale;
+use crate::scale::scale_at;
 use vector_types::VectorType;
 
-// What bit i adds to its byte: its weight where there is such an element and it is greater than 0, else 0.
-fn bit(kind: VectorType, dims: usize, body: &[u8], i: usize, weight: u32) -> u32
+// Whether there is an element i and it is greater than 0. A pattern is tested as it stands: those of
+// the numbers greater than 0 lie above 0 and up to that of infinity.
+fn positive32(dims: usize, body: &[u8], i: usize) -> bool
     requires { ⌜ dims ≤ mostDims ⌝ }
-    requires { ⌜ fits kind dims (length (now body)) ≡ true ⌝ }
-    requires { ⌜ is 9 kind ≡ false ⌝ }
-    ensures { λ r. ⌜ r ≡ cond (ltb i dims && positive kind dims (now (body .entry)) i) weight 0 ⌝ }
+    requires { ⌜ fits Float32Dense dims (length (now body)) ≡ true ⌝ }
+    ensures { λ r. ⌜ r ≡ (ltb i dims && positive Float32Dense dims (now (body .entry)) i) ⌝ }
 {
     if dims <= i {
-        return 0;
+        return false;
     }
-    if is_positive(kind, dims, body, i) {
-        return weight;
-    }
-    0
+    let bits = elements::u32_at(body, 4 * i);
+    0 < bits && bits <= 0x7f80_0000
 }
 
-// Byte m of the bits.
-fn packed_byte(kind: VectorType, dims: usize, body: &[u8], m: usize) -> u8
+fn positive64(dims: usize, body: &[u8], i: usize) -> bool
     requires { ⌜ dims ≤ mostDims ⌝ }
-    requires { ⌜ fits kind dims (length (now body)) ≡ true ⌝ }
-    requires { ⌜ is 9 kind ≡ false ⌝ }
+    requires { ⌜ fits Float64Dense dims (length (now body)) ≡ true ⌝ }
+    ensures { λ r. ⌜ r ≡ (ltb i dims && positive Float64Dense dims (now (body .entry)) i) ⌝ }
+{
+    if dims <= i {
+        return false;
+    }
+    let bits = elements::u64_at(body, 8 * i);
+    0 < bits && bits <= 0x7ff0_0000_0000_0000
+}
+
+fn positive8(scale: Scale, dims: usize, body: &[u8], i: usize) -> bool
+    requires { ⌜ fits Float8 dims (length (now body)) ≡ true ⌝ }
+    requires { ⌜ scale ≡ scaleFor Float8 dims (now body) ⌝ }
+    ensures { λ r. ⌜ r ≡ (ltb i dims && positive Float8 dims (now (body .entry)) i) ⌝ }
+{
+    if dims <= i {
+        return false;
+    }
+    0.0 < scale.single(body[i])
+}
+
+// What a bit adds to its byte.
+fn weighed(set: bool, weight: u32) -> u32
+    ensures { λ r. ⌜ r ≡ cond set weight 0 ⌝ }
+{
+    if set { weight } else { 0 }
+}
+
+// Byte m of the bits, a function for each kind.
+fn packed32(dims: usize, body: &[u8], m: usize) -> u8
+    requires { ⌜ dims ≤ mostDims ⌝ }
+    requires { ⌜ fits Float32Dense dims (length (now body)) ≡ true ⌝ }
     requires { ⌜ m < ceil dims 8 ⌝ }
-    ensures { λ r. ⌜ r ≡ packedByte (positive kind dims (now (body .entry))) dims m 8 ⌝ }
+    ensures { λ r. ⌜ r ≡ packedByte (positive Float32Dense dims (now (body .entry))) dims m 8 ⌝ }
 {
     let mut byte: u32 = 0;
     let mut weight: u32 = 1;
     let mut j = 0;
     while j < 8 {
-        byte += bit(kind, dims, body, 8 * m + j, weight);
+        byte += weighed(positive32(dims, body, 8 * m + j), weight);
         weight *= 2;
         j += 1;
     }
     byte as u8
+}
+
+fn packed64(dims: usize, body: &[u8], m: usize) -> u8
+    requires { ⌜ dims ≤ mostDims ⌝ }
+    requires { ⌜ fits Float64Dense dims (length (now body)) ≡ true ⌝ }
+    requires { ⌜ m < ceil dims 8 ⌝ }
+    ensures { λ r. ⌜ r ≡ packedByte (positive Float64Dense dims (now (body .entry))) dims m 8 ⌝ }
+{
+    let mut byte: u32 = 0;
+    let mut weight: u32 = 1;
+    let mut j = 0;
+    while j < 8 {
+        byte += weighed(positive64(dims, body, 8 * m + j), weight);
+        weight *= 2;
+        j += 1;
+    }
+    byte as u8
+}
+
+fn packed8(dims: usize, body: &[u8], m: usize) -> u8
+    requires { ⌜ dims ≤ mostDims ⌝ }
+    requires { ⌜ fits Float8 dims (length (now body)) ≡ true ⌝ }
+    requires { ⌜ m < ceil dims 8 ⌝ }
+    ensures { λ r. ⌜ r ≡ packedByte (positive Float8 dims (now (body .entry))) dims m 8 ⌝ }
+{
+    let scale = scale_at(dims, body);
+    let mut byte: u32 = 0;
+    let mut weight: u32 = 1;
+    let mut j = 0;
+    while j < 8 {
+        byte += weighed(positive8(scale, dims, body, 8 * m + j), weight);
+        weight *= 2;
+        j += 1;
+    }
+    byte as u8
+}
+
+fn packed_byte(kind: VectorType, dims: usize, body: &[u8], m: usize) -> u8
+    requires { ⌜ dims ≤ mostDims ⌝ }
+    requires { ⌜ fits kind dims (length (now body)) ≡ true ⌝ }
+    requires { ⌜ is 9 kind ≡ false ⌝ }
+    requires { ⌜ is 3 kind ≡ false ⌝ }
+    requires { ⌜ m < ceil dims 8 ⌝ }
+    ensures { λ r. ⌜ r ≡ packedByte (positive kind dims (now (body .entry))) dims m 8 ⌝ }
+{
+    match kind {
+        VectorType::Float32Dense => packed32(dims, body, m),
+        VectorType::Float64Dense => packed64(dims, body, m),
+        VectorType::Float8 => packed8(dims, body, m),
+        // never: a 1-bit body is copied
+        VectorType::Float1Bit => 0,
+        // never: a sparse body is spread first
+        VectorType::Float32Sparse => 0,
+    }
 }
 
 // Puts the bits at the start of out.

@@ -1,78 +1,23 @@
-// The elements of a body that is not sparse, one by one.
+// The elements of a 1-bit body, one by one.
 ghost use mathlib.Core.Path.{_≡_};
-ghost use mathlib.Core.Bool.{false, true};
-ghost use Prim.Native.Nat.{_*_, _≤_, _<_};
+ghost use Prim.Native.Nat.{_*_, _<_};
 ghost use lib.Dec.{eqb};
 ghost use lib.ListN.{length};
-ghost use lib.Ieee.{binary32};
-ghost use Rattle.vector_types.specs.Layout.{mostDims, is, bitAt, fits};
-ghost use Rattle.convert.specs.Elements.{unit, element};
-ghost use Rattle.convert.specs.Sparse.{stored};
-ghost use Rattle.convert.specs.Bits.{positive};
-use vector_types::VectorType;
+ghost use Rattle.vector_types.specs.Layout.{bitAt};
+ghost use Rattle.convert.specs.Elements.{unit};
 
-// Whether bit i is set.
-fn is_set(body: &[u8], i: usize) -> bool
+// Bit i, 0 or 1.
+pub(crate) fn bit_at(body: &[u8], i: usize) -> usize
     requires { ⌜ i < 8 * length (now body) ⌝ }
-    ensures { λ r. ⌜ r ≡ eqb (bitAt (now (body .entry)) i) 1 ⌝ }
+    ensures { λ r. ⌜ r ≡ bitAt (now (body .entry)) i ⌝ }
 {
-    body[i / 8] >> (i % 8) & 1 == 1
+    ((body[i / 8] >> (i % 8)) % 2) as usize
 }
 
-// Element i of a 1-bit body: 1.0 or -1.0.
+// Element i: 1.0 or -1.0.
 pub(crate) fn unit32(body: &[u8], i: usize) -> f32
     requires { ⌜ i < 8 * length (now body) ⌝ }
     ensures { λ r. ⌜ r ≡ unit (eqb (bitAt (now (body .entry)) i) 0) ⌝ }
 {
-    if is_set(body, i) { 1.0 } else { -1.0 }
-}
-
-// Element i in f32.
-pub(crate) fn single(kind: VectorType, dims: usize, body: &[u8], i: usize) -> f32
-    requires { ⌜ dims ≤ mostDims ⌝ }
-    requires { ⌜ fits kind dims (length (now body)) ≡ true ⌝ }
-    requires { ⌜ is 9 kind ≡ false ⌝ }
-    requires { ⌜ i < dims ⌝ }
-    ensures { λ r. ⌜ r ≡ element binary32 kind dims (now (body .entry)) i ⌝ }
-{
-    match kind {
-        VectorType::Float32Dense => elements::f32_at(body, 4 * i),
-        VectorType::Float64Dense => rounding::narrow(elements::f64_at(body, 8 * i)),
-        VectorType::Float1Bit => unit32(body, i),
-        VectorType::Float8 => {
-            let end = 4 * ((dims + 3) / 4);
-            let alpha = elements::f32_at(body, end);
-            let shift = elements::f32_at(body, end + 4);
-            alpha * body[i] as f32 + shift
-        }
-        // never: a sparse body is spread first
-        VectorType::Float32Sparse => 0.0,
-    }
-}
-
-// Whether element i is not 0.0, and whether it is greater: tests of the element itself, before any rounding.
-pub(crate) fn is_stored(kind: VectorType, dims: usize, body: &[u8], i: usize) -> bool
-    requires { ⌜ dims ≤ mostDims ⌝ }
-    requires { ⌜ fits kind dims (length (now body)) ≡ true ⌝ }
-    requires { ⌜ is 9 kind ≡ false ⌝ }
-    requires { ⌜ i < dims ⌝ }
-    ensures { λ r. ⌜ r ≡ stored kind dims (now (body .entry)) i ⌝ }
-{
-    match kind {
-        VectorType::Float64Dense => elements::f64_at(body, 8 * i) != 0.0,
-        _ => single(kind, dims, body, i) != 0.0,
-    }
-}
-
-pub(crate) fn is_positive(kind: VectorType, dims: usize, body: &[u8], i: usize) -> bool
-    requires { ⌜ dims ≤ mostDims ⌝ }
-    requires { ⌜ fits kind dims (length (now body)) ≡ true ⌝ }
-    requires { ⌜ is 9 kind ≡ false ⌝ }
-    requires { ⌜ i < dims ⌝ }
-    ensures { λ r. ⌜ r ≡ positive kind dims (now (body .entry)) i ⌝ }
-{
-    match kind {
-        VectorType::Float64Dense => 0.0 < elements::f64_at(body, 8 * i),
-        _ => 0.0 < single(kind, dims, body, i),
-    }
+    if bit_at(body, i) == 1 { 1.0 } else { -1.0 }
 }

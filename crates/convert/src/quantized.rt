@@ -9,12 +9,13 @@ ghost use Rattle.float_laws.specs.Zero.{plusZero};
 ghost use Rattle.promises.specs.Onto.{onto};
 ghost use Rattle.rounding.specs.Narrow.{narrowed};
 ghost use Rattle.elements.specs.Bytes.{f64At};
-ghost use Rattle.vector_types.specs.Layout.{mostDims, is, bitAt, fits, ceil};
+ghost use Rattle.vector_types.specs.Layout.{mostDims, is, fits, ceil};
 ghost use Rattle.vector_types.specs.declared.VectorType.the-variants.{Float32Dense, Float64Dense, Float1Bit};
 ghost use Rattle.convert.specs.Pieces.{pieces};
 ghost use Rattle.convert.specs.Elements.{element};
 ghost use Rattle.convert.specs.Quantized.{least, greatest, quantum, scaleOf, quantizedBody};
 use crate::dense::put_zeros;
+use crate::element::bit_at;
 use crate::element::unit32;
 use crate::scale::Scale;
 use vector_types::VectorType;
@@ -41,14 +42,6 @@ fn narrow_at(body: &[u8], at: usize) -> f32
     ensures { λ r. ⌜ r ≡ narrowed (f64At (now (body .entry)) at) ⌝ }
 {
     elements::f32_of(rounding::narrow_bits(elements::u64_at(body, at)))
-}
-
-// Bit i, 0 or 1.
-fn bit_at(body: &[u8], i: usize) -> usize
-    requires { ⌜ i < 8 * length (now body) ⌝ }
-    ensures { λ r. ⌜ r ≡ bitAt (now (body .entry)) i ⌝ }
-{
-    ((body[i / 8] >> (i % 8)) % 2) as usize
 }
 
 // The range of no elements.

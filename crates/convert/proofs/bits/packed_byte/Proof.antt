@@ -1,65 +1,43 @@
--- `packed_byte` meets its contract. The loop's invariant: the byte is made up of its first bits, and the weight is that of the next.
-use Prim.Native.Nat.{_-_}
-use native.Mathlib.Omega.{arith}
+-- By the kind: each arm packs a body that is known to be of it.
 use borrow.Author.Needs.{needs}
-use Rattle.convert.specs.Bits.{positive}
-use Rattle.convert.proofs.Packed.{Packing, pack-none, pack-next, pack-all}
+use Rattle.vector_types.specs.declared.VectorType.the-variants.{Float32Dense, Float64Dense, Float8}
+use Rattle.convert.proofs.Bodies.{known, not-kind}
 use Rattle.convert.proofs.bits.packed_byte.Statement.{statement}
 use Rattle.convert.proofs.bits.packed_byte.Tie as tie
 
-abbrev Inv-loop : tie.InvT-loop
-Inv-loop kind dims body m byte₀ weight₀ j₀ byte weight j = Packing (positive kind dims body) dims m byte weight j
+packed32-requires : tie.Need-packed32-requires
+packed32-requires c κs =
+    let pre = c .before .before .before .pre in
+    (pre .0, (known _ _ Float32Dense (c .enum-told .given .1) (pre .1 .0), pre .1 .1 .1 .1))
 
-abbrev μ-loop : tie.MeasureT-loop
-μ-loop kind dims body m byte₀ weight₀ j₀ byte weight j = 8 - j
+packed64-requires : tie.Need-packed64-requires
+packed64-requires c κs =
+    let pre = c .before .before .before .pre in
+    (pre .0, (known _ _ Float64Dense (c .enum-told2 .given .1) (pre .1 .0), pre .1 .1 .1 .1))
 
-loop-holds : tie.Need-loop-holds Inv-loop μ-loop
-loop-holds c = pack-none _ _ _
+packed8-requires : tie.Need-packed8-requires
+packed8-requires c κs =
+    let pre = c .before .before .before .pre in
+    (pre .0, (known _ _ Float8 (c .enum-told3 .given .1) (pre .1 .0), pre .1 .1 .1 .1))
 
-mul-bit : tie.Need-mul-bit Inv-loop μ-loop
-mul-bit c = omega arith
+returns : tie.Need-returns
+returns c = rw (c .before .enum-told .given .1) (c .packed32 .ensures)
 
-add-bit : tie.Need-add-bit Inv-loop μ-loop
-add-bit c = omega arith
+returns-2 : tie.Need-returns-2
+returns-2 c = rw (c .before .enum-told2 .given .1) (c .packed64 .ensures)
 
-bit-requires : tie.Need-bit-requires Inv-loop μ-loop
-bit-requires c κs = search needs
+returns-3 : tie.Need-returns-3
+returns-3 c = rw (c .before .enum-told3 .given .1) (c .packed8 .ensures)
 
-add-byte : tie.Need-add-byte Inv-loop μ-loop
-add-byte c = let next = pack-next (c .before .before .loop .inv) (c .before .loop-test .taken) (c .bit .ensures) in omega arith
+returns-4 : tie.Need-returns-4
+returns-4 c = absurd (not-kind (c .enum-told4 .given .1) (c .before .before .before .pre .1 .1 .1 .0))
 
-mul-weight : tie.Need-mul-weight Inv-loop μ-loop
-mul-weight c = omega arith
-
-add-j : tie.Need-add-j Inv-loop μ-loop
-add-j c = omega arith
-
-loop-less : tie.Need-loop-less Inv-loop μ-loop
-loop-less c = omega arith
-
-loop-again : tie.Need-loop-again Inv-loop μ-loop
-loop-again c = pack-next (c .before .before .loop .inv) (c .before .loop-test .taken) (c .bit .ensures)
-
-cast-result : tie.Need-cast-result Inv-loop μ-loop
-cast-result c = omega arith
-
-returns : tie.Need-returns Inv-loop μ-loop
-returns c = pack-all (c .before .loop .inv) (c .loop-test .left)
+returns-5 : tie.Need-returns-5
+returns-5 c = absurd (not-kind (c .enum-told5 .given .1) (c .before .before .before .pre .1 .1 .0))
 
 pub packed-byte-spec : {M : Type 1} → statement M
 packed-byte-spec =
     tie.close
     (tie.spec
-    Inv-loop
-    μ-loop
-    loop-holds
-    mul-bit
-    add-bit
-    bit-requires
-    add-byte
-    mul-weight
-    add-j
-    loop-less
-    loop-again
-    cast-result
-    returns)
+    (λ c. search needs) packed32-requires (λ c. search needs) packed64-requires (λ c. search needs) packed8-requires (λ c. search needs) (λ c. search needs)
+    returns returns-2 returns-3 returns-4 returns-5)

@@ -8,12 +8,12 @@ use Rattle.convert.proofs.element.unit32.Tie as tie
 returns : tie.Need-returns
 returns c =
     let a = c .before .before .before .args in
-    unit-set (a .body .now) (a .i) (sym (c .before .is-set .ensures) ∙ c .if1 .taken)
+    unit-set (a .body .now) (a .i) (sym (c .before .bit-at .ensures) ∙ c .if1 .taken)
 
 returns-2 : tie.Need-returns-2
 returns-2 c =
     let a = c .before .before .before .args in
-    unit-clear (a .body .now) (a .i) (sym (c .before .is-set .ensures) ∙ c .if1 .left)
+    unit-clear (a .body .now) (a .i) (λ e. c .if1 .left (c .before .bit-at .ensures ∙ e))
 
 pub unit32-spec : {M : Type 1} → statement M
 unit32-spec = tie.close (tie.spec (λ c κs. search needs) returns returns-2)

@@ -3,16 +3,26 @@ use borrow.Author.Needs.{needs}
 use Rattle.convert.proofs.sparse.put_entry.Statement.{statement}
 use Rattle.convert.proofs.sparse.put_entry.Tie as tie
 
+is-stored-requires : tie.Need-is-stored-requires
+is-stored-requires c κs =
+    let pre = c .before .before .pre in
+    (pre .0, (pre .1 .0, (pre .1 .1 .0, (pre .1 .1 .1 .0, pre .1 .1 .1 .1 .0))))
+
+value-bits-requires : tie.Need-value-bits-requires
+value-bits-requires c κs =
+    let pre = c .before .before .before .before .before .pre in
+    (pre .0, (pre .1 .0, (pre .1 .1 .0, (pre .1 .1 .1 .0, pre .1 .1 .1 .1 .0))))
+
 put-u32-requires : tie.Need-put-u32-requires
 put-u32-requires c κs =
     let test = c .before .before in
-    let less = rw (← test .before .is-stored .ensures, test .if1 .taken) at (test .before .before .before .before .pre .1 .1 .1 .1 .0) in
+    let less = rw (← test .before .is-stored .ensures, test .if1 .taken) at (test .before .before .before .before .pre .1 .1 .1 .1 .1 .0) in
     search needs
 
 put-u32-requires-2 : tie.Need-put-u32-requires-2
 put-u32-requires-2 c κs =
     let test = c .before .before .before .before .before .before in
-    let less = rw (← test .before .is-stored .ensures, test .if1 .taken) at (test .before .before .before .before .pre .1 .1 .1 .1 .0) in
+    let less = rw (← test .before .is-stored .ensures, test .if1 .taken) at (test .before .before .before .before .pre .1 .1 .1 .1 .1 .0) in
     search needs
 
 returns : tie.Need-returns
@@ -29,6 +39,6 @@ pub put-entry-spec : {M : Type 1} → statement M
 put-entry-spec =
     tie.close
     (tie.spec
-    (λ c κs. search needs) (λ c. search needs) (λ c κs. search needs) put-u32-requires
+    is-stored-requires (λ c. search needs) value-bits-requires put-u32-requires
     (λ c. search needs) (λ c. search needs) (λ c. search needs) (λ c. search needs) put-u32-requires-2
     (λ c. search needs) (λ c. search needs) returns returns-2)
