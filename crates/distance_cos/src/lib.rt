@@ -88,7 +88,7 @@ fn vector_f64_distance_cos(dims: usize, a: &[u8], b: &[u8]) -> f64
     let mut sums = CosSums64::new();
     let mut i = 0;
     while i < dims {
-        sums = sums.step_bits(elements::u64_at(a, 8 * i), elements::u64_at(b, 8 * i));
+        sums = sums.step(elements::f64_at(a, 8 * i), elements::f64_at(b, 8 * i));
         i += 1;
     }
     sums.distance()

@@ -1,6 +1,6 @@
 // The running sums of a cosine, in either width, and the distance of vectors with such sums.
 ghost use mathlib.Core.Path.{_≡_};
-ghost use lib.Ieee.{binary32, binary64, ofBits};
+ghost use lib.Ieee.{binary32, binary64};
 ghost use Rattle.distance_sums.specs.Dense.{noProducts, productsWith, angle, denseCosine};
 ghost use Rattle.distance_sums.specs.Sparse.{productsRule, sparseCosine};
 ghost use Rattle.distance_cos.specs.Sums.{products32, products64};
@@ -116,18 +116,6 @@ impl CosSums64 {
             dot: self.dot + x * y,
             norm1: self.norm1 + x * x,
             norm2: self.norm2 + y * y,
-        }
-    }
-
-    // One pair more, by the patterns: for two numbers, as most are, the code is one straight line.
-    pub(crate) fn step_bits(self, p: u64, q: u64) -> Self
-        ensures { λ r. ⌜ products64 r ≡ productsWith binary64 (products64 self) (ofBits binary64 p) (ofBits binary64 q) ⌝ }
-    {
-        let infinity = 0x7ff0_0000_0000_0000;
-        if p % 0x8000_0000_0000_0000 <= infinity && q % 0x8000_0000_0000_0000 <= infinity {
-            self.step(f64::from_bits(p), f64::from_bits(q))
-        } else {
-            self.step(elements::f64_of(p), elements::f64_of(q))
         }
     }
 

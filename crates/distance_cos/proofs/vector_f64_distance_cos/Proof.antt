@@ -3,7 +3,7 @@ use mathlib.Core.Path.{_≡_, ap, _∙_}
 use Prim.Native.Nat.{_-_, _≤_}
 use native.Mathlib.Omega.{arith}
 use borrow.Author.Needs.{needs}
-use lib.Ieee.{binary64, ofBits}
+use lib.Ieee.{binary64}
 use Rattle.convert.specs.Elements.{element}
 use Rattle.vector_types.specs.declared.VectorType.the-variants.{Float64Dense}
 use Rattle.distance_sums.specs.Dense.{products, denseCosine}
@@ -27,9 +27,7 @@ loop-again : tie.Need-loop-again Inv-loop μ-loop
 unfolding element
 loop-again c =
     let l = c .before .before .before .before .loop in
-    let p = ap (ofBits binary64) (c .before .before .u64-at .ensures) in
-    let q = ap (ofBits binary64) (c .before .u64-at2 .ensures) in
-    (omega arith, products-more _ _ (l .i) _ _ p q binary64 _ _ (l .inv .1) (c .step-bits .ensures))
+    (omega arith, products-more _ _ (l .i) _ _ (c .before .before .f64-at .ensures) (c .before .f64-at2 .ensures) binary64 _ _ (l .inv .1) (c .step .ensures))
 
 returns : tie.Need-returns Inv-loop μ-loop
 unfolding cosineOf
