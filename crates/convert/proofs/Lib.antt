@@ -4,6 +4,7 @@ pub mod Bodies
 pub mod ByKind
 pub mod Determined
 pub mod Fitting
+pub mod Kept
 pub mod Lengths
 pub mod Packed
 pub mod Patterns

@@ -1,5 +1,5 @@
 -- Two regions of a buffer that grow side by side: the values and the indices of a sparse body.
-use mathlib.Core.Path.{_≡_, _∙_}
+use mathlib.Core.Path.{_≡_, refl, sym, _∙_}
 use mathlib.Core.Bool.{Bool, true, false, cond}
 use mathlib.Core.List.{List, [], _∷_, _++_, append-assoc, append-nil}
 use Prim.Native.Nat.{ℕ, _+_, _-_, _*_, _<_, _≤_}
@@ -15,7 +15,7 @@ use Rattle.vector_types.specs.Layout.{fits}
 use Rattle.vector_types.specs.declared.VectorType.{VectorType}
 use Rattle.convert.specs.Pieces.{placesOf, each}
 use Rattle.convert.specs.Sparse.{stored, valueBytes, sparseBody}
-use Rattle.convert.proofs.Places.{places-next, places-room, each-snoc, length-value, length-values, length-indices}
+use Rattle.convert.proofs.Places.{places-next, length-next, places-room, each-snoc, length-value, length-values, length-indices}
 
 -- ---- bytes put at the front, and at two places that are m bytes apart, in either order
 put-front : (l vs : List ℕ) → put l 0 vs ≡ onto vs l
@@ -60,15 +60,15 @@ module _ (l : List ℕ) (at : ℕ) (us vs : List ℕ) where
 
 -- ---- the values and the indices of the elements below i that are stored, laid out for count of these
 module _ (k : VectorType) (d : ℕ) (body : List ℕ) (count : ℕ) (l : List ℕ) where
-  abbrev pub laid : ℕ → List ℕ
+  abbrev laid : ℕ → List ℕ
   laid i = put (put l 0 (each (valueBytes k d body) (placesOf (stored k d body) i))) (4 * count) (each (bytesOf 4) (placesOf (stored k d body) i))
 
-  pub laid-none : laid 0 ≡ l
+  laid-none : laid 0 ≡ l
   unfolding placesOf each
   laid-none = rw (put-nothing (put l 0 []) (4 * count), put-nothing l 0)
 
   module _ (fit : fits k d (length body) ≡ true) (all : count ≡ length (placesOf (stored k d body) d)) (room : 8 * count ≤ length l) where
-    pub laid-next : (i n : ℕ) → i < d → n ≡ length (placesOf (stored k d body) i)
+    laid-next : (i n : ℕ) → i < d → n ≡ length (placesOf (stored k d body) i)
         → cond (stored k d body i) (put (put (laid i) (4 * n) (valueBytes k d body i)) (4 * count + 4 * n) (bytesOf 4 i)) (laid i) ≡ laid (i + 1)
     laid-next i n h e = rw (places-next p i) (by (p i) (omega (arith, places-room p i d h)))
       where
@@ -92,10 +92,41 @@ module _ (k : VectorType) (d : ℕ) (body : List ℕ) (count : ℕ) (l : List �
             (regions-grown l (4 * count) (each g places) (each (bytesOf 4) places) (g i) (bytesOf 4 i) (omega (arith, length-value k d body fit i h)) (omega (arith, length-bytesOf 4 i))))
         by false few = rw append-nil
 
-    pub laid-all : laid d ≡ onto (sparseBody k d body) l
+    laid-all : laid d ≡ onto (sparseBody k d body) l
     unfolding sparseBody
     laid-all =
         let p = stored k d body in
         let values = length-values k d body fit p d (omega arith) in
         let indices = length-indices p d in
         regions-joined l (4 * count) (each (valueBytes k d body) (placesOf p d)) (each (bytesOf 4) (placesOf p d)) (omega arith) (omega arith)
+
+  -- ---- a loop that lays them out: before element i there are n entries, and out holds them
+  pub record Laying (out : List ℕ) (n i : ℕ) : Type 0 where
+    pub few : i ≤ d
+    pub counted : n ≡ length (placesOf (stored k d body) i)
+    pub long : length out ≡ length l
+    pub left : out ≡ laid i
+
+  pub laying-none : Laying l 0 0
+  unfolding placesOf
+  laying-none = record { few = omega arith; counted = refl; long = refl; left = sym laid-none }
+
+  module _ (fit : fits k d (length body) ≡ true) (all : count ≡ length (placesOf (stored k d body) d)) (room : 8 * count ≤ length l) where
+    module _ {out : List ℕ} {n i : ℕ} (h : Laying out n i) where
+      -- element i, which is kept or not, and its value's bytes
+      module _ (less : i < d) (b : Bool) (kept : b ≡ stored k d body i) where
+        pub laying-room : n + length (cond b (i ∷ []) []) ≤ count
+        laying-room = rw kept (omega (arith, h .counted, all, places-room (stored k d body) i d less))
+
+        pub laying-next : (v : List ℕ) → v ≡ valueBytes k d body i → (r : ℕ) → r ≡ n + length (cond b (i ∷ []) []) → (o : List ℕ) → length o ≡ length out
+            → o ≡ cond b (put (put out (4 * n) v) (4 * count + 4 * n) (bytesOf 4 i)) out → Laying o r (i + 1)
+        laying-next v value r more o same e =
+            record {
+              few = omega arith;
+              counted = rw (length-next (stored k d body) i, ← kept, ← (h .counted)) more;
+              long = same ∙ h .long;
+              left = e ∙ rw (value, kept, h .left) (laid-next fit all room i n less (h .counted));
+            }
+
+      pub laying-all : d ≤ i → out ≡ onto (sparseBody k d body) l
+      laying-all ends = let e : i ≡ d = omega (arith, h .few) in h .left ∙ rw e (laid-all fit all room)

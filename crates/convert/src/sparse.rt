@@ -1,14 +1,18 @@
 // To Float32Sparse.
 ghost use mathlib.Core.Path.{_≡_};
-ghost use mathlib.Core.Bool.{false, true, cond};
+ghost use mathlib.Core.Bool.{false, true, not, cond};
 ghost use mathlib.Core.List.{[], _∷_};
-ghost use Prim.Native.Nat.{_+_, _*_, _≤_, _<_};
+ghost use Prim.Native.Nat.{_+_, _*_, _%_, _≤_, _<_};
+ghost use lib.Dec.{eqb};
 ghost use lib.ListN.{length};
+ghost use lib.Ieee.{binary32, binary64, ofBits};
 ghost use Rattle.promises.specs.Onto.{onto};
-ghost use Rattle.elements.specs.Bytes.{put, bytesOf};
+ghost use Rattle.rounding.specs.Narrow.{narrowed};
+ghost use Rattle.elements.specs.Bytes.{put, bytesOf, floatBytes};
 ghost use Rattle.vector_types.specs.Layout.{mostDims, is, fits};
+ghost use Rattle.vector_types.specs.declared.VectorType.the-variants.{Float32Dense, Float64Dense, Float1Bit, Float8};
 ghost use Rattle.convert.specs.Pieces.{placesOf};
-ghost use Rattle.convert.specs.Sparse.{stored, valueBytes, sparseBody};
+ghost use Rattle.convert.specs.Sparse.{stored, sparseBody};
 ghost use Rattle.convert.specs.Scales.{scaleFor};
 use crate::element::unit32;
 use crate::scale::Scale;
@@ -83,57 +87,108 @@ pub(crate) fn count_stored(kind: VectorType, dims: usize, body: &[u8]) -> usize
     n
 }
 
-// The four bytes stored for element i, as a number.
-fn value_bits(kind: VectorType, scale: Scale, dims: usize, body: &[u8], i: usize) -> u32
-    requires { ⌜ dims ≤ mostDims ⌝ }
-    requires { ⌜ fits kind dims (length (now body)) ≡ true ⌝ }
-    requires { ⌜ is 9 kind ≡ false ⌝ }
-    requires { ⌜ i < dims ⌝ }
-    requires { ⌜ scale ≡ scaleFor kind dims (now body) ⌝ }
-    ensures { λ r. ⌜ bytesOf 4 r ≡ valueBytes kind dims (now (body .entry)) i ⌝ }
-{
-    match kind {
-        VectorType::Float32Dense => elements::u32_at(body, 4 * i),
-        VectorType::Float64Dense => rounding::narrow_bits(elements::u64_at(body, 8 * i)),
-        VectorType::Float1Bit => elements::bits32(unit32(body, i)),
-        VectorType::Float8 => elements::bits32(scale.single(body[i])),
-        // never: a sparse body is spread first
-        VectorType::Float32Sparse => 0,
-    }
-}
-
-// Puts element i, if it is stored, as entry n of count; answers how many entries there are then.
-fn put_entry(
-    kind: VectorType,
-    scale: Scale,
-    dims: usize,
-    body: &[u8],
-    i: usize,
-    count: usize,
-    n: usize,
-    out: &mut [u8],
-) -> usize
-    requires { ⌜ dims ≤ mostDims ⌝ }
-    requires { ⌜ fits kind dims (length (now body)) ≡ true ⌝ }
-    requires { ⌜ is 9 kind ≡ false ⌝ }
-    requires { ⌜ i < dims ⌝ }
-    requires { ⌜ scale ≡ scaleFor kind dims (now body) ⌝ }
-    requires { ⌜ n + length (cond (stored kind dims (now body) i) (i ∷ []) []) ≤ count ⌝ }
+// Puts element i, if it is kept, as entry n of count: the four bytes of its value, and its index.
+// Answers how many entries there are then.
+fn put_entry(kept: bool, value: u32, i: usize, count: usize, n: usize, out: &mut [u8]) -> usize
+    requires { ⌜ i < mostDims ⌝ }
+    requires { ⌜ n + length (cond kept (i ∷ []) []) ≤ count ⌝ }
     requires { ⌜ 8 * count ≤ length (now out) ⌝ }
-    ensures { λ r. ⌜ r ≡ n + length (cond (stored kind dims (now (body .entry)) i) (i ∷ []) []) ⌝ }
-    ensures { λ _. ⌜ now (out .exit) ≡ cond (stored kind dims (now (body .entry)) i)
-        (put (put (now (out .entry)) (4 * n) (valueBytes kind dims (now (body .entry)) i)) (4 * count + 4 * n) (bytesOf 4 i))
+    ensures { λ r. ⌜ r ≡ n + length (cond kept (i ∷ []) []) ⌝ }
+    ensures { λ _. ⌜ now (out .exit) ≡ cond kept
+        (put (put (now (out .entry)) (4 * n) (bytesOf 4 value)) (4 * count + 4 * n) (bytesOf 4 i))
         (now (out .entry)) ⌝ }
 {
-    if is_stored(kind, scale, dims, body, i) {
-        elements::put_u32(out, 4 * n, value_bits(kind, scale, dims, body, i));
+    if kept {
+        elements::put_u32(out, 4 * n, value);
         elements::put_u32(out, 4 * count + 4 * n, i as u32);
         return n + 1;
     }
     n
 }
 
-// Puts the count elements that are stored at the start of out: their values, then their indices.
+// The same of an f64 by its pattern: it is narrowed only if it is no zero.
+fn put_double(bits: u64, i: usize, count: usize, n: usize, out: &mut [u8]) -> usize
+    requires { ⌜ i < mostDims ⌝ }
+    requires { ⌜ n + length (cond (not (eqb (bits % 0x8000_0000_0000_0000) 0)) (i ∷ []) []) ≤ count ⌝ }
+    requires { ⌜ 8 * count ≤ length (now out) ⌝ }
+    ensures { λ r. ⌜ r ≡ n + length (cond (not (eqb (bits % 0x8000_0000_0000_0000) 0)) (i ∷ []) []) ⌝ }
+    ensures { λ _. ⌜ now (out .exit) ≡ cond (not (eqb (bits % 0x8000_0000_0000_0000) 0))
+        (put (put (now (out .entry)) (4 * n) (floatBytes binary32 (narrowed (ofBits binary64 bits)))) (4 * count + 4 * n) (bytesOf 4 i))
+        (now (out .entry)) ⌝ }
+{
+    if bits % 0x8000_0000_0000_0000 == 0 {
+        return n;
+    }
+    put_entry(true, rounding::narrow_bits(bits), i, count, n, out)
+}
+
+// Puts the count elements that are stored at the start of out, their values, then their indices: a loop
+// for each kind.
+fn put_stored32(dims: usize, body: &[u8], count: usize, out: &mut [u8])
+    requires { ⌜ dims ≤ mostDims ⌝ }
+    requires { ⌜ fits Float32Dense dims (length (now body)) ≡ true ⌝ }
+    requires { ⌜ count ≡ length (placesOf (stored Float32Dense dims (now body)) dims) ⌝ }
+    requires { ⌜ 8 * count ≤ length (now out) ⌝ }
+    ensures { λ _. ⌜ now (out .exit) ≡ onto (sparseBody Float32Dense dims (now (body .entry))) (now (out .entry)) ⌝ }
+{
+    let mut n = 0;
+    let mut i = 0;
+    while i < dims {
+        let bits = elements::u32_at(body, 4 * i);
+        n = put_entry(bits % 0x8000_0000 != 0, bits, i, count, n, out);
+        i += 1;
+    }
+}
+
+fn put_stored64(dims: usize, body: &[u8], count: usize, out: &mut [u8])
+    requires { ⌜ dims ≤ mostDims ⌝ }
+    requires { ⌜ fits Float64Dense dims (length (now body)) ≡ true ⌝ }
+    requires { ⌜ count ≡ length (placesOf (stored Float64Dense dims (now body)) dims) ⌝ }
+    requires { ⌜ 8 * count ≤ length (now out) ⌝ }
+    ensures { λ _. ⌜ now (out .exit) ≡ onto (sparseBody Float64Dense dims (now (body .entry))) (now (out .entry)) ⌝ }
+{
+    let mut n = 0;
+    let mut i = 0;
+    while i < dims {
+        let bits = elements::u64_at(body, 8 * i);
+        n = put_double(bits, i, count, n, out);
+        i += 1;
+    }
+}
+
+fn put_stored1(dims: usize, body: &[u8], count: usize, out: &mut [u8])
+    requires { ⌜ dims ≤ mostDims ⌝ }
+    requires { ⌜ fits Float1Bit dims (length (now body)) ≡ true ⌝ }
+    requires { ⌜ count ≡ length (placesOf (stored Float1Bit dims (now body)) dims) ⌝ }
+    requires { ⌜ 8 * count ≤ length (now out) ⌝ }
+    ensures { λ _. ⌜ now (out .exit) ≡ onto (sparseBody Float1Bit dims (now (body .entry))) (now (out .entry)) ⌝ }
+{
+    let mut n = 0;
+    let mut i = 0;
+    while i < dims {
+        let x = unit32(body, i);
+        n = put_entry(true, elements::bits32(x), i, count, n, out);
+        i += 1;
+    }
+}
+
+fn put_stored8(dims: usize, body: &[u8], count: usize, out: &mut [u8])
+    requires { ⌜ dims ≤ mostDims ⌝ }
+    requires { ⌜ fits Float8 dims (length (now body)) ≡ true ⌝ }
+    requires { ⌜ count ≡ length (placesOf (stored Float8 dims (now body)) dims) ⌝ }
+    requires { ⌜ 8 * count ≤ length (now out) ⌝ }
+    ensures { λ _. ⌜ now (out .exit) ≡ onto (sparseBody Float8 dims (now (body .entry))) (now (out .entry)) ⌝ }
+{
+    let scale = scale_at(dims, body);
+    let mut n = 0;
+    let mut i = 0;
+    while i < dims {
+        let x = scale.single(body[i]);
+        n = put_entry(x != 0.0, elements::bits32(x), i, count, n, out);
+        i += 1;
+    }
+}
+
 pub(crate) fn put_sparse(kind: VectorType, dims: usize, body: &[u8], count: usize, out: &mut [u8])
     requires { ⌜ dims ≤ mostDims ⌝ }
     requires { ⌜ fits kind dims (length (now body)) ≡ true ⌝ }
@@ -142,11 +197,12 @@ pub(crate) fn put_sparse(kind: VectorType, dims: usize, body: &[u8], count: usiz
     requires { ⌜ 8 * count ≤ length (now out) ⌝ }
     ensures { λ _. ⌜ now (out .exit) ≡ onto (sparseBody kind dims (now (body .entry))) (now (out .entry)) ⌝ }
 {
-    let scale = scale_for(kind, dims, body);
-    let mut n = 0;
-    let mut i = 0;
-    while i < dims {
-        n = put_entry(kind, scale, dims, body, i, count, n, out);
-        i += 1;
+    match kind {
+        VectorType::Float32Dense => put_stored32(dims, body, count, out),
+        VectorType::Float64Dense => put_stored64(dims, body, count, out),
+        VectorType::Float1Bit => put_stored1(dims, body, count, out),
+        VectorType::Float8 => put_stored8(dims, body, count, out),
+        // never: a sparse body is copied
+        VectorType::Float32Sparse => {}
     }
 }

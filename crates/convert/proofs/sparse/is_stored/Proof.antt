@@ -1,10 +1,8 @@
--- An arm a kind: a pattern is a zero's if it is 0 without its sign, and a unit is no zero.
-use lib.Ieee.{binary32, binary64, ne}
+-- An arm a kind: each tests what `stored` says of it.
 use borrow.Author.Needs.{needs}
-use Rattle.convert.specs.Elements.{element}
 use Rattle.convert.proofs.Bodies.{not-kind, float32-within, float64-within, float8-within}
-use Rattle.convert.proofs.Patterns.{zero-pattern}
-use Rattle.convert.proofs.Units.{zero-is, unit-some, scaled-is}
+use Rattle.convert.proofs.Kept.{kept32, kept64, kept1, kept8}
+use Rattle.convert.proofs.Units.{scaled-is}
 use Rattle.convert.proofs.sparse.is_stored.Statement.{statement}
 use Rattle.convert.proofs.sparse.is_stored.Tie as tie
 
@@ -24,24 +22,19 @@ shared-slice-read-single c =
     float8-within _ _ _ (c .before .enum-told4 .given .1) (pre .1 .0) (pre .1 .1 .1 .0)
 
 returns : tie.Need-returns
-unfolding element
-returns c = rw (c .before .enum-told .given .1, zero-pattern binary32, c .u32-at .ensures)
+returns c = rw (c .before .enum-told .given .1) (kept32 _ _ _ _ (c .u32-at .ensures))
 
 returns-2 : tie.Need-returns-2
-unfolding element
-returns-2 c = rw (c .before .enum-told2 .given .1, zero-pattern binary64, c .u64-at .ensures)
+returns-2 c = rw (c .before .enum-told2 .given .1) (kept64 _ _ _ _ (c .u64-at .ensures))
 
 returns-3 : tie.Need-returns-3
-unfolding element
-returns-3 c = rw (c .enum-told3 .given .1, unit-some)
+returns-3 c = rw (c .enum-told3 .given .1) (kept1 _ _ _)
 
 returns-4 : tie.Need-returns-4
-unfolding element ne
 returns-4 c =
     let start = c .before .before .before .before .before in
-    let a = start .args in
     let e = c .before .before .enum-told4 .given .1 in
-    rw (scaled-is (a .dims) (a .body .now) (a .i) (a .scale) (c .single .result) e (start .pre .1 .1 .1 .1) (c .single .ensures), e, zero-is)
+    rw e (kept8 _ _ _ _ (rw e at (scaled-is _ _ (start .args .i) _ _ e (start .pre .1 .1 .1 .1) (c .single .ensures))))
 
 returns-5 : tie.Need-returns-5
 returns-5 c = absurd (not-kind (c .enum-told5 .given .1) (c .before .before .before .pre .1 .1 .0))

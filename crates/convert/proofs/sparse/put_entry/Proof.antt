@@ -1,44 +1,33 @@
--- Both puts where the element is stored, and no change where it is not.
+-- Both puts where the element is kept, and no change where it is not.
 use borrow.Author.Needs.{needs}
 use Rattle.convert.proofs.sparse.put_entry.Statement.{statement}
 use Rattle.convert.proofs.sparse.put_entry.Tie as tie
 
-is-stored-requires : tie.Need-is-stored-requires
-is-stored-requires c κs =
-    let pre = c .before .before .pre in
-    (pre .0, (pre .1 .0, (pre .1 .1 .0, (pre .1 .1 .1 .0, pre .1 .1 .1 .1 .0))))
-
-value-bits-requires : tie.Need-value-bits-requires
-value-bits-requires c κs =
-    let pre = c .before .before .before .before .before .pre in
-    (pre .0, (pre .1 .0, (pre .1 .1 .0, (pre .1 .1 .1 .0, pre .1 .1 .1 .1 .0))))
-
 put-u32-requires : tie.Need-put-u32-requires
 put-u32-requires c κs =
-    let test = c .before .before in
-    let less = rw (← test .before .is-stored .ensures, test .if1 .taken) at (test .before .before .before .before .pre .1 .1 .1 .1 .1 .0) in
+    let test = c .before in
+    let less = rw (test .if1 .taken) at (test .before .before .pre .1 .0) in
     search needs
 
 put-u32-requires-2 : tie.Need-put-u32-requires-2
 put-u32-requires-2 c κs =
-    let test = c .before .before .before .before .before .before in
-    let less = rw (← test .before .is-stored .ensures, test .if1 .taken) at (test .before .before .before .before .pre .1 .1 .1 .1 .1 .0) in
+    let test = c .before .before .before .before .before in
+    let less = rw (test .if1 .taken) at (test .before .before .pre .1 .0) in
     search needs
 
 returns : tie.Need-returns
 returns c =
     let value = c .before .before .before .before .before .before in
-    let test = value .before .before .before in
-    rw (← test .before .is-stored .ensures, test .if1 .taken)
-    (search needs, rw (c .before .before .put-u322 .ensures, value .put-u32 .ensures, value .before .value-bits .ensures))
+    let test = value .before .before in
+    rw (test .if1 .taken) (search needs, rw (c .before .before .put-u322 .ensures, value .put-u32 .ensures))
 
 returns-2 : tie.Need-returns-2
-returns-2 c = rw (← c .before .is-stored .ensures, c .if1 .left) (search needs, search needs)
+returns-2 c = rw (c .if1 .left) (search needs, search needs)
 
 pub put-entry-spec : {M : Type 1} → statement M
 put-entry-spec =
     tie.close
     (tie.spec
-    is-stored-requires (λ c. search needs) value-bits-requires put-u32-requires
+    (λ c. search needs) put-u32-requires
     (λ c. search needs) (λ c. search needs) (λ c. search needs) (λ c. search needs) put-u32-requires-2
     (λ c. search needs) (λ c. search needs) returns returns-2)
