@@ -2,11 +2,11 @@
 use mathlib.Core.Path.{_≡_, refl, sym, ap, subst}
 use mathlib.Core.Logic.{_⊎_, inl, inr}
 use Prim.Native.Nat.{ℕ, suc, _+_, _-_, _*_, _/_, _%_, _^_, _≤_, _<_}
-use native.Mathlib.Nat.{zero-add, le-trans, le-of-eq, le-of-lt, le-refl, le-of-suc-le-suc, lt-of-not-le, not-le-of-lt, le-add-left, lt-of-lt-of-le, eq-or-lt-of-le, mul-le-mul-left, mul-lt-mul-of-pos-right, div-add-mod', div-lt-iff-lt-mul, le-div-iff-mul-le, pow-succ'}
+use native.Mathlib.Nat.{zero-add, le-trans, le-of-eq, le-of-lt, le-refl, le-of-suc-le-suc, lt-of-not-le, le-add-left, lt-of-lt-of-le, eq-or-lt-of-le, mul-le-mul-left, mul-lt-mul-of-pos-right, div-add-mod', div-lt-iff-lt-mul, le-div-iff-mul-le, pow-succ'}
 use native.Mathlib.Decide.{decLt}
 use native.Mathlib.Omega.{arith}
 use mathlib.Core.Bool.{Bool, true, false, cond}
-use lib.Dec.{T, eqb, eqb→eq, lit≤}
+use lib.Dec.{T, eqb, eqb→eq}
 use lib.Pow.{pow-add, pow-pos, pow-mono}
 use lib.Ieee.{Float, nan, inf, fin, binary32, binary64, low, up, down, hid, ones, ne, div, ofBits}
 use lib.Ieee.Compare.{differs-from-itself}
@@ -18,7 +18,7 @@ use Rattle.rounding.specs.Nearest.{Nearest}
 use Rattle.rounding.specs.Pick.{digitsOf, count}
 use Rattle.rounding.specs.Narrow.{IsNarrowed, narrowed}
 use Rattle.rounding.specs.Parts.{Narrowing}
-use Rattle.rounding.proofs.Closest.{closest-le, closest-zero, closest-more}
+use Rattle.rounding.proofs.Closest.{closest-le, closest-zero, closest-more, closest-halved}
 use Rattle.rounding.proofs.Powers.{powers}
 use Rattle.rounding.proofs.Patterns.{Full, digits-lt, signed, infinity, finite, count-is}
 use Rattle.rounding.proofs.Nearest.{only, nearest-scale}
@@ -156,9 +156,12 @@ answer-small b l =
     answer-fine b (omega arith) (omega arith)
 
 -- ---- from there on: the pattern less 896 fields, with 29 digits dropped, so that a carry goes on into the exponent
-module _ (b : ℕ) (from : 0x3810_0000_0000_0000 ≤ b) (to : b ≤ ones binary64 * hid binary64) where
+module _ (b : ℕ) (from : 0x3810_0000_0000_0000 ≤ b) where
+  abbrev q : ℕ
+  q = b - 0x3800_0000_0000_0000
+
   abbrev n : ℕ
-  n = closest (b - 0x3800_0000_0000_0000) (2 ^ 29)
+  n = closest q (2 ^ 29)
 
   place-normal : place (digitsOf (2 ^ 52) b) (b / 2 ^ 52 - 1) ≡ n
   place-normal = go (b / 2 ^ 52) (b % 2 ^ 52) (div-add-mod' b (2 ^ 52)) (le-div-iff-mul-le (pow-pos 52) .1 from)
@@ -168,20 +171,29 @@ module _ (b : ℕ) (from : 0x3810_0000_0000_0000 ≤ b) (to : b ≤ ones binary6
           let some : x ≡ 0 → ⊥ = λ z. omega arith in
           let d : dropped (x - 1) ≡ 29 = omega arith in
           let j = (x - 1 - 896) * 2 ^ 22 in
-          let apart : b - 0x3800_0000_0000_0000 ≡ 2 ^ 29 * (2 * j) + (t + 2 ^ 52) = omega arith in
+          let apart : q ≡ 2 ^ 29 * (2 * j) + (t + 2 ^ 52) = omega arith in
           let twice : (x - 1 - 896) * 2 ^ 23 ≡ 2 * j = omega arith in
           rw (ne-eqb x 0 some, d, apart, twice) (sym (closest-more j (t + 2 ^ 52) (2 ^ 29) (pow-pos 29)))
 
-  pub normal-fine : n < ones binary32 * hid binary32 → Narrowing b n
-  normal-fine h = go (eq-or-lt-of-le to)
-    where
-      go : (b ≡ ones binary64 * hid binary64) ⊎ (b < ones binary64 * hid binary64) → Narrowing b n
-      go (inl e) = absurd (not-le-of-lt (subst (λ (x : ℕ). closest (x - 0x3800_0000_0000_0000) (2 ^ 29) < ones binary32 * hid binary32) e h) (lit≤ tt))
-      go (inr l) = subst (Narrowing b) place-normal (answer-fine b l (rw place-normal h))
+  halved : (q + (2 ^ 28 - 1) + q / 2 ^ 29 % 2) / 2 ^ 29 ≡ n
+  halved = closest-halved q (2 ^ 28) (pow-pos 28)
 
-  pub normal-over : ones binary32 * hid binary32 ≤ n → Narrowing b (ones binary32 * hid binary32)
-  normal-over h = go (eq-or-lt-of-le to)
+  -- below the middle between the largest f32 and 2 ^ 128; the tie goes up, for the largest f32 is odd
+  pub normal-fine : b < 0x47ef_ffff_f000_0000 → Narrowing b n
+  normal-fine h =
+      let less : n < ones binary32 * hid binary32 = omega (arith, halved) in
+      subst (Narrowing b) place-normal (answer-fine b (omega arith) (rw place-normal less))
+
+  pub normal-over : 0x47ef_ffff_f000_0000 ≤ b → b ≤ ones binary64 * hid binary64 → Narrowing b (ones binary32 * hid binary32)
+  normal-over h to = go (eq-or-lt-of-le to)
     where
+      more : Dec (q / 2 ^ 29 < ones binary32 * hid binary32) → ones binary32 * hid binary32 ≤ n
+      more (yes l) =
+          let largest : q / 2 ^ 29 ≡ 0x7f7f_ffff = omega arith in
+          let odd : q / 2 ^ 29 % 2 ≡ 1 = ap (λ (w : ℕ). w % 2) largest in
+          omega (arith, halved)
+      more (no f) = omega (arith, halved)
+
       go : (b ≡ ones binary64 * hid binary64) ⊎ (b < ones binary64 * hid binary64) → Narrowing b (ones binary32 * hid binary32)
       go (inl e) = rw e answer-infinite
-      go (inr l) = answer-over b l (rw place-normal h)
+      go (inr l) = answer-over b l (rw place-normal (more (decLt (q / 2 ^ 29) (ones binary32 * hid binary32))))

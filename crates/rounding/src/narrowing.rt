@@ -1,5 +1,6 @@
 // An f64 to the nearest f32, from its pattern.
 ghost use mathlib.Core.Path.{_≡_};
+ghost use mathlib.Core.Logic.{_⊎_};
 ghost use Prim.Native.Nat.{_*_, _^_, _≤_, _<_};
 ghost use lib.Ieee.{binary32, binary64, ofBits, toBits};
 ghost use lib.Ieee.Nearest.{closest};
@@ -17,29 +18,43 @@ pub fn narrow(x: f64) -> f32
     f32::from_bits(narrow_bits(f64::to_bits(x)))
 }
 
-// The same from the pattern of an f64 to that of an f32, a NaN's included.
+// The same from the pattern of an f64 to that of an f32, a NaN's included. Nearly all values need only
+// the first test.
 pub fn narrow_bits(b: u64) -> u32
     ensures { λ r. ⌜ r ≡ toBits binary32 (narrowed (ofBits binary64 b)) ⌝ }
 {
     let size = b % 0x8000_0000_0000_0000;
+    let sign = b / 0x8000_0000_0000_0000;
+    if 0x3810_0000_0000_0000 <= size && size < 0x47ef_ffff_f000_0000 {
+        return (sign * 0x8000_0000 + narrow_normal(size)) as u32;
+    }
     if 0x7ff0_0000_0000_0000 < size {
         return 0x7fc0_0000;
     }
-    let sign = b / 0x8000_0000_0000_0000;
-    (sign * 0x8000_0000 + narrow_pattern(size)) as u32
+    (sign * 0x8000_0000 + narrow_edge(size)) as u32
 }
 
-// The pattern of the f32 nearest to what has the pattern b as an f64, both without their signs. A
-// normal f32's has an exponent less by 896 and 29 digits fewer, and a carry goes on into the exponent.
-fn narrow_pattern(b: u64) -> u64
+// The pattern of the f32 nearest to what has the pattern b as an f64, both without their signs, from an
+// f32's smallest normal value up to what rounds to infinity: an exponent less by 896 and 29 digits fewer,
+// and a carry goes on into the exponent.
+fn narrow_normal(b: u64) -> u64
+    requires { ⌜ 0x3810_0000_0000_0000 ≤ b ⌝ ∗ ⌜ b < 0x47ef_ffff_f000_0000 ⌝ }
+    ensures { λ r. ⌜ Narrowing b r ⌝ }
+{
+    nearest_quotient(b - 0x3800_0000_0000_0000, 0x1000_0000)
+}
+
+// The same outside of that.
+fn narrow_edge(b: u64) -> u64
+    requires { ⌜ (b < 0x3810_0000_0000_0000) ⊎ (0x47ef_ffff_f000_0000 ≤ b) ⌝ }
     requires { ⌜ b ≤ 0x7ff0_0000_0000_0000 ⌝ }
     ensures { λ r. ⌜ Narrowing b r ⌝ }
 {
     if b < 0x3810_0000_0000_0000 {
-        return narrow_small(b);
+        narrow_small(b)
+    } else {
+        0x7f80_0000
     }
-    let n = nearest_quotient(b - 0x3800_0000_0000_0000, 0x1000_0000);
-    if n < 0x7f80_0000 { n } else { 0x7f80_0000 }
 }
 
 // The same below an f32's smallest normal value, where more digits are dropped.
