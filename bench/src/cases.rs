@@ -8,7 +8,7 @@ use crate::original::Aligned;
 use crate::rules::{defined, Kind, Measure, View};
 use crate::{differences, ours, rides, theirs};
 
-const DIMS: [usize; 4] = [8, 128, 1024, 16384];
+pub const DIMS: [usize; 4] = [8, 128, 1024, 16384];
 const MEASURES: [Measure; 4] = [Measure::Cos, Measure::L2, Measure::Dot, Measure::Jac];
 
 #[derive(Clone, Copy)]
@@ -20,7 +20,7 @@ enum Work {
 pub struct Case {
     work: Work,
     kind: Kind,
-    dims: usize,
+    pub dims: usize,
 }
 
 pub fn all() -> Vec<Case> {
@@ -38,6 +38,15 @@ pub fn all() -> Vec<Case> {
 }
 
 impl Case {
+    /// What is done, whatever the dims.
+    pub fn title(&self) -> String {
+        let Self { work, kind, .. } = self;
+        match work {
+            Work::Distance(measure) => format!("{} of {kind:?}", named(*measure)),
+            Work::Conversion(target) => format!("{kind:?} to {target:?}"),
+        }
+    }
+
     /// Where the two sides part: the bits of a distance, the dims and bytes of a conversion, with
     /// the differences that document 01 lists and no others.
     pub fn difference(&self) -> Option<String> {
@@ -133,12 +142,17 @@ pub extern "C" fn bench_mark() {
     black_box(());
 }
 
+fn named(measure: Measure) -> &'static str {
+    match measure {
+        Measure::Cos => "cosine",
+        Measure::L2 => "L2",
+        Measure::Dot => "dot",
+        Measure::Jac => "Jaccard",
+    }
+}
+
 impl fmt::Display for Case {
     fn fmt(&self, f: &mut fmt::Formatter<'_>) -> fmt::Result {
-        let Self { work, kind, dims } = self;
-        match work {
-            Work::Distance(measure) => write!(f, "{measure:?} of {kind:?}, {dims} dims"),
-            Work::Conversion(target) => write!(f, "{kind:?} to {target:?}, {dims} dims"),
-        }
+        write!(f, "{}, {} dims", self.title(), self.dims)
     }
 }

@@ -101,6 +101,7 @@ fn run(markdown: bool) -> i32 {
         return 0;
     }
     let timed = cases.iter().map(|case| (case, case.time())).collect();
-    report::print(&machine::name(), timed, markdown);
+    let print = if markdown { report::page } else { report::list };
+    print(&machine::name(), timed);
     0
 }
