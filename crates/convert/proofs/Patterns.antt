@@ -7,12 +7,12 @@ use native.Mathlib.Omega.{arith}
 use lib.Dec.{leb, ltb, eqb}
 use lib.Pow.{pow-pos}
 use lib.Ieee.{Float, nan, inf, fin, Format, binary32, binary64, prec, low, up, down, lt, eq, odd, isNan, hid, ones, top, ofFields, ofBits}
-use lib.Ieee.Bits.{nanBits-is, nanBits-above}
 use lib.Ieee.Digits.{Equals, odd-val}
 use lib.Ieee.Fits.{down-pos}
 use lib.Ieee.Positive.{first-pos}
 use borrow.Author.Tests.{lt-ltb, le-ltb, lt-leb, eq-eqb, ne-eqb, ltb-true, ltb-false, leb-false, leb-true}
 use Rattle.float_laws.specs.Zero.{plusZero, sign}
+use Rattle.float_laws.proofs.Nan.{nan-tested}
 
 -- ---- a zero
 -- a value of size a / c, where a is not 0, is none
@@ -89,9 +89,6 @@ module _ (f : Format) where
       by false b h = odd-sign (prec f) s (hid f + t) x (low f)
 
   module _ (b : ℕ) where
-    nan-pattern : isNan (ofBits f b) ≡ ltb (ones f * hid f) (b % top f)
-    nan-pattern = sym (nanBits-is f b) ∙ nanBits-above f b
-
     sign-pattern : isNan (ofBits f b) ≡ false → sign (ofBits f b) ≡ leb (top f) b
     unfolding ofBits
     sign-pattern h = fields-sign (leb (top f) b) (b % top f / hid f) (b % hid f) h
@@ -119,7 +116,7 @@ positive-pattern f b = by (ltb 0 b) (leb b (ones f * hid f)) refl refl
     over true n e g h = tests f b n (eqb (b % top f) 0) true g refl (λ _. e) ∙ and-false (not n && not (eqb (b % top f) 0))
     over false n e g h =
         let own : b % top f ≡ b = mod-eq-of-lt (leb-false (top f) b e) in
-        tests f b true (eqb (b % top f) 0) false (nan-pattern f b ∙ rw own (lt-ltb (ones f * hid f) b h)) refl (λ z. absurd (true≢false z))
+        tests f b true (eqb (b % top f) 0) false (nan-tested f b ∙ rw own (lt-ltb (ones f * hid f) b h)) refl (λ z. absurd (true≢false z))
 
     by : (l u : Bool) → ltb 0 b ≡ l → leb b (ones f * hid f) ≡ u → lt plusZero (ofBits f b) ≡ (l && u)
     by true true e g =
@@ -127,7 +124,7 @@ positive-pattern f b = by (ltb 0 b) (leb b (ones f * hid f)) refl refl
         let under : b < top f = omega (arith, infinity-below f) in
         let own : b % top f ≡ b = mod-eq-of-lt under in
         let some : eqb (b % top f) 0 ≡ false = rw own (ne-eqb b 0 (λ z. omega (arith, ltb-true 0 b e))) in
-        tests f b false false false (nan-pattern f b ∙ rw own (le-ltb (ones f * hid f) b most)) some (λ _. lt-leb (top f) b under)
+        tests f b false false false (nan-tested f b ∙ rw own (le-ltb (ones f * hid f) b most)) some (λ _. lt-leb (top f) b under)
     by true false e g = over (leb (top f) b) (isNan (ofBits f b)) refl refl (leb-false b (ones f * hid f) g)
     by false u e g = let none : b ≡ 0 = omega (arith, ltb-false 0 b e) in rw none (zero-below f)
 

@@ -26,7 +26,7 @@ use Rattle.convert.proofs.Same.{pieces-same}
 
 -- ---- the range
 -- r is the range of the first n elements
-abbrev pub RangeOf : (ℕ → Float) → ℕ → Range → Type 0
+abbrev RangeOf : (ℕ → Float) → ℕ → Range → Type 0
 RangeOf e n r = (r .low ≡ least e n) × (r .high ≡ greatest e n)
 
 -- a loop of n turns, after i of them

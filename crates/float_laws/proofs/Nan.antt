@@ -3,7 +3,7 @@ use mathlib.Core.Path.{_≡_, refl, sym, ap, subst, _∙_}
 use mathlib.Core.Bool.{true, false, not}
 use Prim.Native.Nat.{ℕ, _+_, _*_, _/_, _%_, _<_, _≤_}
 use borrow.Author.Tests.{lt-ltb, le-ltb}
-use lib.Dec.{T}
+use lib.Dec.{T, ltb}
 use lib.Ieee.{Float, nan, inf, fin, Format, binary32, binary64, isNan, nanBits, ones, hid, top, ne, div, ofBits, toBits}
 use lib.Ieee.Bits.{nanBits-is, nanBits-above}
 use lib.Ieee.Compare.{differs-from-itself, nan-differs}
@@ -19,9 +19,16 @@ unfolding div ofBits
 zero-by-zero binary32 = refl
 zero-by-zero binary64 = refl
 
--- a pattern above an infinity's, the sign aside, is a NaN's: code answers 0 / 0
+-- a pattern above an infinity's, the sign aside, is a NaN's
+pub nan-tested : (f : Format) (b : ℕ) → isNan (ofBits f b) ≡ ltb (ones f * hid f) (b % top f)
+nan-tested f b = sym (nanBits-is f b) ∙ nanBits-above f b
+
+pub nan-pattern : (f : Format) (b : ℕ) → ones f * hid f < b % top f → ofBits f b ≡ nan
+nan-pattern f b h = is-nan (ofBits f b) (nan-tested f b ∙ lt-ltb _ _ h)
+
+-- code answers 0 / 0
 pub nan-decoded : (f : Format) (b : ℕ) → ones f * hid f < b % top f → div f (ofBits f 0) (ofBits f 0) ≡ ofBits f b
-nan-decoded f b h = zero-by-zero f ∙ sym (is-nan (ofBits f b) (sym (nanBits-is f b) ∙ nanBits-above f b ∙ lt-ltb _ _ h))
+nan-decoded f b h = zero-by-zero f ∙ sym (nan-pattern f b h)
 
 -- and no other pattern is
 pub number-pattern : (f : Format) (b : ℕ) → b % top f ≤ ones f * hid f → T (not (nanBits f b))

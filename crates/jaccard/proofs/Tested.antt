@@ -1,12 +1,11 @@
 -- The two tests of the code, of a value and of a pattern: a float is NaN, or equals itself.
-use mathlib.Core.Path.{_≡_, sym, _∙_}
+use mathlib.Core.Path.{_≡_, _∙_}
 use mathlib.Core.Bool.{true, false}
-use Prim.Native.Nat.{ℕ, _*_, _%_, _<_, _≤_}
+use Prim.Native.Nat.{ℕ, _*_, _%_, _≤_}
 use borrow.Author.Tests.{le-ltb}
 use lib.Ieee.{Float, nan, Format, eq, ne, ones, hid, top, ofBits}
-use lib.Ieee.Bits.{nanBits-is, nanBits-above}
 use lib.Ieee.Compare.{differs-from-itself}
-use Rattle.float_laws.proofs.Nan.{zero-by-zero, nan-decoded}
+use Rattle.float_laws.proofs.Nan.{nan-tested}
 use Rattle.float_laws.proofs.Order.{eq-self}
 
 pub nan-value : (x : Float) → eq x x ≡ false → x ≡ nan
@@ -14,8 +13,5 @@ unfolding ne
 nan-value x e = differs-from-itself x (rw e tt)
 
 module _ (f : Format) (b : ℕ) where
-  pub nan-pattern : ones f * hid f < b % top f → ofBits f b ≡ nan
-  nan-pattern h = sym (nan-decoded f b h) ∙ zero-by-zero f
-
   pub number-itself : b % top f ≤ ones f * hid f → eq (ofBits f b) (ofBits f b) ≡ true
-  number-itself h = eq-self (ofBits f b) (sym (nanBits-is f b) ∙ nanBits-above f b ∙ le-ltb _ _ h)
+  number-itself h = eq-self (ofBits f b) (nan-tested f b ∙ le-ltb _ _ h)

@@ -1,7 +1,7 @@
 -- The root where nothing is to be rounded: zeros, infinities, numbers below zero, NaN; and which patterns are a NaN's. Over the format.
 use mathlib.Core.Path.{_≡_, refl, sym, ap, _∙_, subst}
 use mathlib.Core.Logic.{_⊎_, inl, inr}
-use Prim.Native.Nat.{ℕ, zero, suc, _*_, _%_, _≤_, _<_}
+use Prim.Native.Nat.{ℕ, zero, suc, _*_, _≤_, _<_}
 use native.Mathlib.Nat.{le-trans, le-of-eq, lt-irrefl, lt-of-le-of-lt, eq-zero-or-pos, zero-lt-suc, zero-mul, mul-pos, mod-le}
 use mathlib.Core.Bool.{Bool, true, false, not, true≢false, false≢true}
 use lib.IntN.{ℤ, pos}
@@ -10,7 +10,7 @@ use lib.Ieee.{Float, nan, inf, fin, Format, binary32, binary64, up, down, hid, o
 use lib.Ieee.Bits.{ofBits-toBits}
 use lib.Ieee.Fits.{up-pos, and-l}
 use borrow.Author.Tests.{ltb-true, lt-ltb}
-use Rattle.float_laws.proofs.Nan.{zero-by-zero, nan-decoded, number-pattern}
+use Rattle.float_laws.proofs.Nan.{zero-by-zero, number-pattern}
 use Rattle.rounding.specs.Root.{IsRoot}
 use Rattle.rounding.proofs.Patterns.{toBits-lt}
 
@@ -93,10 +93,6 @@ no-root f x h k = rw (zero-by-zero f) (go x (rw (zero-is f) at h) (rw (zero-is f
         absurd (true≢false (sym (lt-ltb (0 * 1 * down e) (suc m * up e * 1) (lt-of-le-of-lt (le-of-eq (zero-mul (down e))) (mul-pos (mul-pos (zero-lt-suc m) (up-pos e)) (zero-lt-suc 0)))) ∙ h))
     go (fin s zero e) h k = absurd (true≢false (sym (level-zero s (0 * up e * 1) (0 * 1 * down e) (ap (λ (y : ℕ). y * 1) (zero-mul (up e))) (zero-mul (down e))) ∙ k))
 
--- ---- a pattern above an infinity's, the sign aside, is a NaN's
-pub nan-pattern : (f : Format) (b : ℕ) → ones f * hid f < b % top f → ofBits f b ≡ nan
-nan-pattern f b h = sym (nan-decoded f b h) ∙ zero-by-zero f
-
--- and one up to an infinity's is not
+-- ---- a pattern up to an infinity's is no NaN's
 pub no-nan : (f : Format) (b : ℕ) → b ≤ ones f * hid f → T (not (nanBits f b))
 no-nan f b h = number-pattern f b (le-trans (mod-le b (top f)) h)

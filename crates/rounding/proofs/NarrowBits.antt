@@ -10,11 +10,10 @@ use lib.Ieee.{Float, nan, inf, fin, binary32, binary64, hid, ones, top, up, down
 use lib.Ieee.Bits.{ofBits-toBits, nanBits-is}
 use lib.Ieee.Compare.{nan-differs}
 use lib.Ieee.Fits.{nan-fits, inf-fits, round-fits}
-use Rattle.float_laws.proofs.Nan.{nan-encoded}
+use Rattle.float_laws.proofs.Nan.{nan-encoded, nan-pattern}
 use Rattle.rounding.specs.Narrow.{IsNarrowed, narrowed}
 use Rattle.rounding.specs.Parts.{Narrowing}
 use Rattle.rounding.proofs.Patterns.{signed, toBits-signed}
-use Rattle.rounding.proofs.Edges.{nan-pattern}
 use Rattle.rounding.proofs.NarrowLaw.{narrowed-is, narrowed-only}
 
 -- ---- the f32 of a value is a value of the format, and NaN only for NaN

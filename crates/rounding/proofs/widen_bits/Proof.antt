@@ -6,8 +6,7 @@ use lib.Ieee.{nan, binary32, binary64, ofBits, toBits, fits, isNan}
 use lib.Ieee.Bits.{nanBits-is, ofBits-fits}
 use lib.Ieee.Compare.{nan-differs}
 use lib.Ieee.Fits.{and-i, fits-widens}
-use Rattle.float_laws.proofs.Nan.{number-pattern, nan-encoded}
-use Rattle.rounding.proofs.Edges.{nan-pattern}
+use Rattle.float_laws.proofs.Nan.{number-pattern, nan-encoded, nan-pattern}
 use borrow.Author.Needs.{needs}
 use Rattle.rounding.proofs.widen_bits.Statement.{statement}
 use Rattle.rounding.proofs.widen_bits.Tie as tie
