@@ -1,5 +1,5 @@
 -- Places that pass a test, the pieces of these, and how long a sparse body made of them is.
-use mathlib.Core.Path.{_≡_, refl}
+use mathlib.Core.Path.{_≡_, refl, _∙_}
 use mathlib.Core.Bool.{Bool, true, false, cond}
 use mathlib.Core.List.{List, [], _∷_, _++_, append-assoc, append-nil}
 use Prim.Native.Nat.{ℕ, zero, suc, _+_, _-_, _*_, _<_, _≤_}
@@ -46,6 +46,35 @@ module _ (p : ℕ → Bool) where
 
   pub places-room : (n m : ℕ) → n < m → length (placesOf p n) + length (cond (p n) (n ∷ []) []) ≤ length (placesOf p m)
   places-room n m h = rw (← length-next n) (places-rise (n + 1) m (omega arith))
+
+  -- a loop that counts them among the first d: n before place i
+  pub record Counting (d n i : ℕ) : Type 0 where
+    pub few : i ≤ d
+    pub found : n ≡ length (placesOf p i)
+
+  pub count-none : (d : ℕ) → Counting d 0 0
+  unfolding placesOf
+  count-none d = record { few = omega arith; found = refl }
+
+  module _ {d n i : ℕ} (h : Counting d n i) where
+    pub count-few : n ≤ i
+    count-few = rw (h .found) (places-few i)
+
+    pub count-next : i < d → (b : Bool) → b ≡ p i → (r : ℕ) → r ≡ n + cond b 1 0 → Counting d r (i + 1)
+    count-next less b e r more = record { few = omega arith; found = rw (length-next i, ← (h .found), ← e) (more ∙ one b) }
+      where
+        one : (b : Bool) → n + cond b 1 0 ≡ n + length (cond b (i ∷ []) [])
+        one true = refl
+        one false = refl
+
+    pub count-all : d ≤ i → n ≡ length (placesOf p d)
+    count-all ends = let e : d ≡ i = omega (arith, h .few) in rw e (h .found)
+
+  -- where all pass
+  pub places-all : ((i : ℕ) → true ≡ p i) → (n : ℕ) → length (placesOf p n) ≡ n
+  unfolding placesOf
+  places-all h zero = refl
+  places-all h (suc n) = rw (length-append, ← (h n), places-all h n) (omega arith)
 
 -- ---- the pieces of places, which have w bytes each
 pub each-append : (g : ℕ → List ℕ) (is js : List ℕ) → each g (is ++ js) ≡ each g is ++ each g js

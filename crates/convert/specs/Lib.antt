@@ -4,7 +4,6 @@ pub mod Elements
 pub mod Sparse
 pub mod Bits
 pub mod Quantized
-pub mod Scales
 pub mod Result
 pub mod Convert
 pub mod Examples

@@ -12,7 +12,7 @@ use Rattle.elements.specs.Bytes.{floatBytes}
 use Rattle.vector_types.specs.Layout.{ceil}
 use Rattle.vector_types.specs.declared.VectorType.{VectorType}
 use Rattle.convert.specs.Pieces.{pieces}
-use Rattle.convert.specs.Elements.{element}
+use Rattle.convert.specs.Elements.{alphaOf, shiftOf, element}
 use Rattle.convert.specs.declared.scale.Scale.{Scale}
 
 -- the least and the greatest of the first n elements, from +infinity and -infinity: NaN is passed over, and the first of two zeros kept
@@ -36,10 +36,15 @@ abbrev pub quantum : Float → Float → Float → ℕ
 quantum alpha shift x =
     cond (eq alpha plusZero) 0 (truncated (add binary32 (div binary32 (sub binary32 x shift) alpha) half))
 
--- alpha and shift of d elements; of none, both are 0.0
+-- alpha and shift
 abbrev pub scale : Float → Float → Scale
 scale a s = record { alpha = a; shift = s }
 
+-- those that a Float8 body of d elements holds
+abbrev pub scaleIn : ℕ → List ℕ → Scale
+scaleIn d body = scale (alphaOf d body) (shiftOf d body)
+
+-- those of d elements; of none, both are 0.0
 unfoldable pub scaleOf : (ℕ → Float) → ℕ → Scale
 unfolding least greatest
 scaleOf e d = cond (eqb d 0) (scale plusZero plusZero) (scale (alphaFor (least e d) (greatest e d)) (least e d))

@@ -8,7 +8,7 @@ ghost use Rattle.promises.specs.Onto.{onto};
 ghost use Rattle.vector_types.specs.Layout.{mostDims, is, fits, ceil};
 ghost use Rattle.convert.specs.Bits.{positive, packedByte, bitBody};
 ghost use Rattle.vector_types.specs.declared.VectorType.the-variants.{Float32Dense, Float64Dense, Float8};
-ghost use Rattle.convert.specs.Scales.{scaleFor};
+ghost use Rattle.convert.specs.Quantized.{scaleIn};
 use crate::scale::Scale;
 use crate::scale::scale_at;
 use vector_types::VectorType;
@@ -41,7 +41,7 @@ fn positive64(dims: usize, body: &[u8], i: usize) -> bool
 
 fn positive8(scale: Scale, dims: usize, body: &[u8], i: usize) -> bool
     requires { ⌜ fits Float8 dims (length (now body)) ≡ true ⌝ }
-    requires { ⌜ scale ≡ scaleFor Float8 dims (now body) ⌝ }
+    requires { ⌜ scale ≡ scaleIn dims (now body) ⌝ }
     ensures { λ r. ⌜ r ≡ (ltb i dims && positive Float8 dims (now (body .entry)) i) ⌝ }
 {
     if dims <= i {

@@ -4,8 +4,8 @@ ghost use Prim.Native.Nat.{_+_, _*_, _≤_};
 ghost use lib.ListN.{length};
 ghost use lib.Ieee.{binary32};
 ghost use Rattle.vector_types.specs.Layout.{mostDims, ceil};
-ghost use Rattle.convert.specs.Elements.{alphaOf, shiftOf, scaled};
-ghost use Rattle.convert.specs.Quantized.{scale};
+ghost use Rattle.convert.specs.Elements.{scaled};
+ghost use Rattle.convert.specs.Quantized.{scaleIn};
 
 pub struct Scale {
     pub alpha: f32,
@@ -16,7 +16,7 @@ pub struct Scale {
 pub(crate) fn scale_at(dims: usize, body: &[u8]) -> Scale
     requires { ⌜ dims ≤ mostDims ⌝ }
     requires { ⌜ length (now body) ≡ 4 * ceil dims 4 + 8 ⌝ }
-    ensures { λ r. ⌜ r ≡ scale (alphaOf dims (now (body .entry))) (shiftOf dims (now (body .entry))) ⌝ }
+    ensures { λ r. ⌜ r ≡ scaleIn dims (now (body .entry)) ⌝ }
 {
     let end = 4 * ((dims + 3) / 4);
     let alpha = elements::f32_at(body, end);

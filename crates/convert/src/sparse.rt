@@ -13,78 +13,80 @@ ghost use Rattle.vector_types.specs.Layout.{mostDims, is, fits};
 ghost use Rattle.vector_types.specs.declared.VectorType.the-variants.{Float32Dense, Float64Dense, Float1Bit, Float8};
 ghost use Rattle.convert.specs.Pieces.{placesOf};
 ghost use Rattle.convert.specs.Sparse.{stored, sparseBody};
-ghost use Rattle.convert.specs.Scales.{scaleFor};
 use crate::element::unit32;
-use crate::scale::Scale;
 use crate::scale::scale_at;
 use vector_types::VectorType;
 
-// Alpha and shift of a Float8 body; of another kind they are not used.
-fn scale_for(kind: VectorType, dims: usize, body: &[u8]) -> Scale
-    requires { ⌜ dims ≤ mostDims ⌝ }
-    requires { ⌜ fits kind dims (length (now body)) ≡ true ⌝ }
-    ensures { λ r. ⌜ r ≡ scaleFor kind dims (now (body .entry)) ⌝ }
+// One more, if an element is kept.
+fn counted(kept: bool, n: usize) -> usize
+    requires { ⌜ n < mostDims ⌝ }
+    ensures { λ r. ⌜ r ≡ n + cond kept 1 0 ⌝ }
 {
-    match kind {
-        VectorType::Float8 => scale_at(dims, body),
-        _ => Scale {
-            alpha: 0.0,
-            shift: 0.0,
-        },
-    }
+    if kept { n + 1 } else { n }
 }
 
-// Whether element i is not 0.0: a test of the element itself, before any rounding. A pattern without
-// its sign is 0 exactly for the two zeros.
-fn is_stored(kind: VectorType, scale: Scale, dims: usize, body: &[u8], i: usize) -> bool
+// How many elements are stored, those that are not 0.0, before any rounding: a loop for each kind. A
+// pattern without its sign is 0 exactly for the two zeros.
+fn count32(dims: usize, body: &[u8]) -> usize
     requires { ⌜ dims ≤ mostDims ⌝ }
-    requires { ⌜ fits kind dims (length (now body)) ≡ true ⌝ }
-    requires { ⌜ is 9 kind ≡ false ⌝ }
-    requires { ⌜ i < dims ⌝ }
-    requires { ⌜ scale ≡ scaleFor kind dims (now body) ⌝ }
-    ensures { λ r. ⌜ r ≡ stored kind dims (now (body .entry)) i ⌝ }
+    requires { ⌜ fits Float32Dense dims (length (now body)) ≡ true ⌝ }
+    ensures { λ r. ⌜ r ≡ length (placesOf (stored Float32Dense dims (now (body .entry))) dims) ⌝ }
 {
-    match kind {
-        VectorType::Float32Dense => elements::u32_at(body, 4 * i) % 0x8000_0000 != 0,
-        VectorType::Float64Dense => elements::u64_at(body, 8 * i) % 0x8000_0000_0000_0000 != 0,
-        VectorType::Float1Bit => true,
-        VectorType::Float8 => scale.single(body[i]) != 0.0,
-        // never: a sparse body is spread first
-        VectorType::Float32Sparse => false,
-    }
-}
-
-// How many elements are stored among the first, one more or not.
-fn step(kind: VectorType, scale: Scale, dims: usize, body: &[u8], i: usize, n: usize) -> usize
-    requires { ⌜ dims ≤ mostDims ⌝ }
-    requires { ⌜ fits kind dims (length (now body)) ≡ true ⌝ }
-    requires { ⌜ is 9 kind ≡ false ⌝ }
-    requires { ⌜ i < dims ⌝ }
-    requires { ⌜ scale ≡ scaleFor kind dims (now body) ⌝ }
-    requires { ⌜ n ≤ i ⌝ }
-    ensures { λ r. ⌜ r ≡ n + length (cond (stored kind dims (now (body .entry)) i) (i ∷ []) []) ⌝ }
-{
-    if is_stored(kind, scale, dims, body, i) {
-        return n + 1;
+    let mut n = 0;
+    let mut i = 0;
+    while i < dims {
+        let bits = elements::u32_at(body, 4 * i);
+        n = counted(bits % 0x8000_0000 != 0, n);
+        i += 1;
     }
     n
 }
 
-// How many elements are stored.
+fn count64(dims: usize, body: &[u8]) -> usize
+    requires { ⌜ dims ≤ mostDims ⌝ }
+    requires { ⌜ fits Float64Dense dims (length (now body)) ≡ true ⌝ }
+    ensures { λ r. ⌜ r ≡ length (placesOf (stored Float64Dense dims (now (body .entry))) dims) ⌝ }
+{
+    let mut n = 0;
+    let mut i = 0;
+    while i < dims {
+        let bits = elements::u64_at(body, 8 * i);
+        n = counted(bits % 0x8000_0000_0000_0000 != 0, n);
+        i += 1;
+    }
+    n
+}
+
+fn count8(dims: usize, body: &[u8]) -> usize
+    requires { ⌜ dims ≤ mostDims ⌝ }
+    requires { ⌜ fits Float8 dims (length (now body)) ≡ true ⌝ }
+    ensures { λ r. ⌜ r ≡ length (placesOf (stored Float8 dims (now (body .entry))) dims) ⌝ }
+{
+    let scale = scale_at(dims, body);
+    let mut n = 0;
+    let mut i = 0;
+    while i < dims {
+        let x = scale.single(body[i]);
+        n = counted(x != 0.0, n);
+        i += 1;
+    }
+    n
+}
+
 pub(crate) fn count_stored(kind: VectorType, dims: usize, body: &[u8]) -> usize
     requires { ⌜ dims ≤ mostDims ⌝ }
     requires { ⌜ fits kind dims (length (now body)) ≡ true ⌝ }
     requires { ⌜ is 9 kind ≡ false ⌝ }
     ensures { λ r. ⌜ r ≡ length (placesOf (stored kind dims (now (body .entry))) dims) ⌝ }
 {
-    let scale = scale_for(kind, dims, body);
-    let mut n = 0;
-    let mut i = 0;
-    while i < dims {
-        n = step(kind, scale, dims, body, i, n);
-        i += 1;
+    match kind {
+        VectorType::Float32Dense => count32(dims, body),
+        VectorType::Float64Dense => count64(dims, body),
+        VectorType::Float1Bit => dims,
+        VectorType::Float8 => count8(dims, body),
+        // never: a sparse body is copied
+        VectorType::Float32Sparse => 0,
     }
-    n
 }
 
 // Puts element i, if it is kept, as entry n of count: the four bytes of its value, and its index.

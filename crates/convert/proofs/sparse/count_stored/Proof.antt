@@ -1,45 +1,49 @@
--- The elements below i that are stored have been counted.
-use mathlib.Core.Path.{_≡_, ap, _∙_}
-use Prim.Native.Nat.{ℕ, _-_, _≤_}
-use lib.ListN.{length}
+-- A body of each kind has its own loop; of bits all are stored, and the last arm is never taken.
+use mathlib.Core.Path.{sym}
 use borrow.Author.Needs.{needs}
-use Rattle.convert.specs.Pieces.{placesOf}
-use Rattle.convert.specs.Sparse.{stored}
-use Rattle.convert.proofs.Places.{length-next, places-few}
+use Rattle.convert.proofs.Bodies.{not-kind}
+use Rattle.convert.proofs.Kept.{kept1}
+use Rattle.convert.proofs.Places.{places-all}
 use Rattle.convert.proofs.sparse.count_stored.Statement.{statement}
 use Rattle.convert.proofs.sparse.count_stored.Tie as tie
 
-abbrev Inv-loop : tie.InvT-loop
-Inv-loop kind dims body scale n₀ i₀ n i = (i ≤ dims) × (n ≡ length (placesOf (stored kind dims body) i))
+count32-requires : tie.Need-count32-requires
+count32-requires c κs = let pre = c .before .before .before .pre in (pre .0, rw (c .enum-told .given .1) at (pre .1 .0))
 
-abbrev μ-loop : tie.MeasureT-loop
-μ-loop kind dims body scale n₀ i₀ n i = dims - i
+count64-requires : tie.Need-count64-requires
+count64-requires c κs = let pre = c .before .before .before .pre in (pre .0, rw (c .enum-told2 .given .1) at (pre .1 .0))
 
-loop-holds : tie.Need-loop-holds Inv-loop μ-loop
-unfolding placesOf
-loop-holds c = search needs
+count8-requires : tie.Need-count8-requires
+count8-requires c κs = let pre = c .before .before .before .pre in (pre .0, rw (c .enum-told4 .given .1) at (pre .1 .0))
 
-step-requires : tie.Need-step-requires Inv-loop μ-loop
-step-requires c κs =
-    let start = c .before .before .before .before in
-    let a = start .args in
-    let few = places-few (stored (a .kind) (a .dims) (a .body .now)) (c .before .loop .i) in
-    let pre = start .pre in
-    (pre .0, (pre .1 .0, (pre .1 .1, (search needs, (c .before .before .scale-for .ensures, search needs)))))
+returns : tie.Need-returns
+returns c = rw (c .before .enum-told .given .1) (c .count32 .ensures)
 
-loop-again : tie.Need-loop-again Inv-loop μ-loop
-loop-again c =
-    let a = c .before .before .before .before .before .args in
-    let p = stored (a .kind) (a .dims) (a .body .now) in
-    (search needs, rw (length-next p (c .before .before .loop .i)) (search needs))
+returns-2 : tie.Need-returns-2
+returns-2 c = rw (c .before .enum-told2 .given .1) (c .count64 .ensures)
 
-returns : tie.Need-returns Inv-loop μ-loop
-returns c =
-    let a = c .before .before .before .before .args in
-    let e : c .before .loop .i ≡ a .dims = search needs in
-    c .before .loop .inv .1 ∙ ap (λ (i : ℕ). length (placesOf (stored (a .kind) (a .dims) (a .body .now)) i)) e
+returns-3 : tie.Need-returns-3
+returns-3 c =
+    let a = c .before .before .before .args in
+    rw (c .enum-told3 .given .1) (sym (places-all _ (kept1 (a .dims) (a .body .now)) (a .dims)))
+
+returns-4 : tie.Need-returns-4
+returns-4 c = rw (c .before .enum-told4 .given .1) (c .count8 .ensures)
+
+returns-5 : tie.Need-returns-5
+returns-5 c = absurd (not-kind (c .enum-told5 .given .1) (c .before .before .before .pre .1 .1))
 
 pub count-stored-spec : {M : Type 1} → statement M
 count-stored-spec =
     tie.close
-    (tie.spec Inv-loop μ-loop (λ c κs. search needs) loop-holds step-requires (λ c. search needs) (λ c. search needs) loop-again returns)
+    (tie.spec
+    (λ c. search needs) count32-requires
+    (λ c. search needs) count64-requires
+    (λ c. search needs)
+    (λ c. search needs) count8-requires
+    (λ c. search needs)
+    returns
+    returns-2
+    returns-3
+    returns-4
+    returns-5)

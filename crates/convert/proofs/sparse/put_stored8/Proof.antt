@@ -31,7 +31,7 @@ put-entry-requires c κs =
     let turn = c .before .before .before .before in
     let pre = turn .before .before .before .before .before .pre in
     let less = turn .loop-test .taken in
-    (omega (arith, pre .0), (laying-room _ _ _ _ _ (pre .1 .0) (pre .1 .1 .0) (pre .1 .1 .1) (turn .before .loop .inv) less _ (kept8 _ _ _ _ (scaled-is _ _ _ _ _ refl (turn .before .before .scale-at .ensures) (c .before .before .single .ensures))), search needs))
+    (omega (arith, pre .0), (laying-room _ _ _ _ _ (pre .1 .0) (pre .1 .1 .0) (pre .1 .1 .1) (turn .before .loop .inv) less _ (kept8 _ _ _ _ (scaled-is _ _ _ _ _ (turn .before .before .scale-at .ensures) (c .before .before .single .ensures))), search needs))
 
 loop-again : tie.Need-loop-again Inv-loop μ-loop
 loop-again c =
@@ -39,7 +39,7 @@ loop-again c =
     let pre = turn .before .before .before .before .before .pre in
     let less = turn .loop-test .taken in
     let put = c .before .before .put-entry in
-    let x = scaled-is _ _ _ _ _ refl (turn .before .before .scale-at .ensures) (c .before .before .before .before .before .single .ensures) in
+    let x = scaled-is _ _ _ _ _ (turn .before .before .scale-at .ensures) (c .before .before .before .before .before .single .ensures) in
     laying-next _ _ _ _ _ (pre .1 .0) (pre .1 .1 .0) (pre .1 .1 .1) (turn .before .loop .inv) less _ (kept8 _ _ _ _ x) _ (value8 _ _ _ _ x _ (c .before .before .before .before .bits32 .ensures))
     _ (put .ensures .0) _ (search needs) (put .ensures .1)
 
