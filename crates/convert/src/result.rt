@@ -9,7 +9,7 @@ ghost use Rattle.vector_types.specs.Read.{readOf};
 ghost use Rattle.vector_types.specs.Parts.{bodyOf};
 ghost use Rattle.vector_types.specs.declared.ReadAnswer.the-variants.{View as Seen};
 ghost use Rattle.convert.specs.Result.{made, resultOf};
-ghost use Rattle.convert.specs.Convert.{convertedTo, answerWith, outWith, answerOf, scratchBy, outBy};
+ghost use Rattle.convert.specs.Convert.{convertedTo, answerWith, outWith, outcome, bodyOutcome};
 ghost use Rattle.vector_types.specs.declared.VectorType.the-variants.{Float32Sparse};
 use crate::ConvertAnswer;
 use crate::bits::put_bits;
@@ -19,7 +19,9 @@ use crate::dense::spread32;
 use crate::quantized::put_quantized;
 use crate::sparse::count_stored;
 use crate::sparse::put_sparse;
+use vector_types::Detail;
 use vector_types::Dims;
+use vector_types::Refusal;
 use vector_types::VectorType;
 use vector_types::View;
 use vector_types::is_same_kind;
@@ -116,17 +118,21 @@ fn convert_through(
     requires { ⌜ fits Float32Sparse dims (length (now body)) ≡ true ⌝ }
     requires { ⌜ strays Float32Sparse dims (now body) ≡ false ⌝ }
     requires { ⌜ counted target ≡ true ⌝ }
-    ensures { λ r. ⌜ r ≡ answerOf Float32Sparse dims (now (body .entry)) target (length (now (scratch .entry))) (length (now (out .entry))) ⌝ }
-    ensures { λ _. ⌜ now (scratch .exit) ≡ scratchBy Float32Sparse dims (now (body .entry)) target (now (scratch .entry)) (length (now (out .entry))) ⌝ }
-    ensures { λ _. ⌜ now (out .exit) ≡ outBy Float32Sparse dims (now (body .entry)) target (length (now (scratch .entry))) (now (out .entry)) ⌝ }
+    ensures { λ r. ⌜ outcome r (now (scratch .exit)) (now (out .exit)) ≡ bodyOutcome Float32Sparse dims (now (body .entry)) target (now (scratch .entry)) (now (out .entry)) ⌝ }
 {
     let whole = 4 * dims;
     if scratch.len() < whole {
-        return ConvertAnswer::ShortScratch(whole);
+        return ConvertAnswer::Refused(Refusal {
+            number: 17,
+            detail: Detail::Needs(whole),
+        });
     }
     let need = made_length(VectorType::Float32Sparse, target, dims, body);
     if out.len() < need {
-        return ConvertAnswer::Short(need);
+        return ConvertAnswer::Refused(Refusal {
+            number: 15,
+            detail: Detail::Needs(need),
+        });
     }
     spread32(dims, body, scratch);
     put_made(
@@ -159,7 +165,10 @@ fn convert_body(
         return convert_made(kind, dims, body, target, out);
     }
     if out.len() < body.len() {
-        return ConvertAnswer::Short(body.len());
+        return ConvertAnswer::Refused(Refusal {
+            number: 15,
+            detail: Detail::Needs(body.len()),
+        });
     }
     let need = bytes::copy(body, out);
     converted(target, dims, need)
@@ -182,7 +191,10 @@ fn convert_made(
 {
     let need = made_length(kind, target, dims, body);
     if out.len() < need {
-        return ConvertAnswer::Short(need);
+        return ConvertAnswer::Refused(Refusal {
+            number: 15,
+            detail: Detail::Needs(need),
+        });
     }
     put_made(kind, target, dims, body, need, out);
     converted(target, dims, need)
@@ -197,9 +209,7 @@ pub(crate) fn convert_view(
     out: &mut [u8],
 ) -> ConvertAnswer
     requires { ⌜ readOf (now blob) ≡ Seen view ⌝ }
-    ensures { λ r. ⌜ r ≡ answerOf (view .kind) (view .dims .0) (bodyOf (now (blob .entry))) target (length (now (scratch .entry))) (length (now (out .entry))) ⌝ }
-    ensures { λ _. ⌜ now (scratch .exit) ≡ scratchBy (view .kind) (view .dims .0) (bodyOf (now (blob .entry))) target (now (scratch .entry)) (length (now (out .entry))) ⌝ }
-    ensures { λ _. ⌜ now (out .exit) ≡ outBy (view .kind) (view .dims .0) (bodyOf (now (blob .entry))) target (length (now (scratch .entry))) (now (out .entry)) ⌝ }
+    ensures { λ r. ⌜ outcome r (now (scratch .exit)) (now (out .exit)) ≡ bodyOutcome (view .kind) (view .dims .0) (bodyOf (now (blob .entry))) target (now (scratch .entry)) (now (out .entry)) ⌝ }
 {
     let kind = view.kind;
     let dims = view.dims;

@@ -62,7 +62,7 @@ fn measure(distance: Distance, kind: VectorType, dims: usize, a: &[u8], b: &[u8]
 fn refuse(number: u8) -> DistanceAnswer
     ensures { λ r. ⌜ r ≡ refuses number ⌝ }
 {
-    DistanceAnswer::Refused(Refusal { number }, Which::Neither)
+    DistanceAnswer::Refused(Refusal::plain(number), Which::Neither)
 }
 
 // The distance of two accepted blobs, of which these are the views.

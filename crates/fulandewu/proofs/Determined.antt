@@ -2,6 +2,7 @@
 use mathlib.Core.Path.{_∙_, sym}
 use denote.Ref.{now}
 use Rattle.promises.specs.Determined.{Determined}
+use Rattle.fulandewu.specs.Exported.{writeExport, convertExport}
 use Rattle.fulandewu.proofs.reading.fulandewu_read.Reads as read
 use Rattle.fulandewu.proofs.reading.fulandewu_read_strict.Reads as read-strict
 use Rattle.fulandewu.proofs.writing.fulandewu_write.Reads as write
@@ -21,11 +22,11 @@ read-determined κs a = (λ r r′ x x′ p q. p .0 ∙ sym (q .0), (λ r r′ x
 pub read-strict-determined : (κs : _) (a : _) → Determined (read-strict.Post κs a) (λ r x. r) × (Determined (read-strict.Post κs a) (λ r x. now (x .1 .0)) × (Determined (read-strict.Post κs a) (λ r x. now (x .1 .1 .0)) × Determined (read-strict.Post κs a) (λ r x. now (x .1 .1 .1 .0))))
 read-strict-determined κs a = (λ r r′ x x′ p q. p .0 ∙ sym (q .0), (λ r r′ x x′ p q. p .1 .0 ∙ sym (q .1 .0), (λ r r′ x x′ p q. p .1 .1 .0 ∙ sym (q .1 .1 .0), λ r r′ x x′ p q. p .1 .1 .1 ∙ sym (q .1 .1 .1))))
 
-pub write-determined : (κs : _) (a : _) → Determined (write.Post κs a) (λ r x. r) × (Determined (write.Post κs a) (λ r x. now (x .1 .1 .1 .0)) × (Determined (write.Post κs a) (λ r x. now (x .1 .1 .1 .1 .0)) × Determined (write.Post κs a) (λ r x. now (x .1 .1 .1 .1 .1 .0))))
-write-determined κs a = (λ r r′ x x′ p q. p .0 ∙ sym (q .0), (λ r r′ x x′ p q. p .1 .0 ∙ sym (q .1 .0), (λ r r′ x x′ p q. p .1 .1 .0 ∙ sym (q .1 .1 .0), λ r r′ x x′ p q. p .1 .1 .1 ∙ sym (q .1 .1 .1))))
+pub write-determined : (κs : _) (a : _) → Determined (write.Post κs a) (λ r x. writeExport r (now (x .1 .1 .1 .0)) (now (x .1 .1 .1 .1 .0)) (now (x .1 .1 .1 .1 .1 .0)))
+write-determined κs a r r′ x x′ p q = p ∙ sym q
 
-pub convert-determined : (κs : _) (a : _) → Determined (convert.Post κs a) (λ r x. r) × (Determined (convert.Post κs a) (λ r x. now (x .1 .1 .0)) × (Determined (convert.Post κs a) (λ r x. now (x .1 .1 .1 .0)) × (Determined (convert.Post κs a) (λ r x. now (x .1 .1 .1 .1 .0)) × (Determined (convert.Post κs a) (λ r x. now (x .1 .1 .1 .1 .1 .0)) × Determined (convert.Post κs a) (λ r x. now (x .1 .1 .1 .1 .1 .1 .0))))))
-convert-determined κs a = (λ r r′ x x′ p q. p .0 ∙ sym (q .0), (λ r r′ x x′ p q. p .1 .0 ∙ sym (q .1 .0), (λ r r′ x x′ p q. p .1 .1 .0 ∙ sym (q .1 .1 .0), (λ r r′ x x′ p q. p .1 .1 .1 .0 ∙ sym (q .1 .1 .1 .0), (λ r r′ x x′ p q. p .1 .1 .1 .1 .0 ∙ sym (q .1 .1 .1 .1 .0), λ r r′ x x′ p q. p .1 .1 .1 .1 .1 ∙ sym (q .1 .1 .1 .1 .1))))))
+pub convert-determined : (κs : _) (a : _) → Determined (convert.Post κs a) (λ r x. convertExport r (now (x .1 .1 .0)) (now (x .1 .1 .1 .0)) (now (x .1 .1 .1 .1 .0)) (now (x .1 .1 .1 .1 .1 .0)) (now (x .1 .1 .1 .1 .1 .1 .0)))
+convert-determined κs a r r′ x x′ p q = p ∙ sym q
 
 pub distance-cos-determined : (κs : _) (a : _) → Determined (distance-cos.Post κs a) (λ r x. r) × (Determined (distance-cos.Post κs a) (λ r x. now (x .1 .1 .0)) × Determined (distance-cos.Post κs a) (λ r x. now (x .1 .1 .1 .0)))
 distance-cos-determined κs a = (λ r r′ x x′ p q. p .0 ∙ sym (q .0), (λ r r′ x x′ p q. p .1 .0 ∙ sym (q .1 .0), λ r r′ x x′ p q. p .1 .1 ∙ sym (q .1 .1)))

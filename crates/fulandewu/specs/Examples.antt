@@ -7,19 +7,19 @@ use lib.Ieee.{Float, add, sub, mul, div, neg, eq, lt, le, isNan, ofInt, ofBits, 
 use Rattle.float_laws.specs.Running.{running, total}
 use Rattle.elements.specs.Bytes.{numberAt, bytesOf}
 use Rattle.rounding.specs.Root.{root}
-use Rattle.vector_types.specs.Answers.{readNumber, writeNumber}
+use Rattle.vector_types.specs.Answers.{readNumber}
 use Rattle.vector_types.specs.Search.{firstFrom}
 use Rattle.vector_types.specs.Layout.{named, byByte, before, fits, rowOf}
 use Rattle.vector_types.specs.Read.{readOf, strictOf, refusals, strictRefusals, shown}
 use Rattle.vector_types.specs.Parts.{bodyOf}
-use Rattle.vector_types.specs.Write.{writeOf, leftOf, writeRefusals, tailOf, blobOf}
+use Rattle.vector_types.specs.Write.{writeOf, writeOutcome, writeRefusals, tailOf, blobOf}
 use Rattle.vector_types.specs.declared.ReadAnswer.{ReadAnswer}
-use Rattle.convert.specs.Convert.{convertNumber, convertOf, leftOut}
+use Rattle.convert.specs.Convert.{convertOf, convertOutcome}
 use Rattle.distance.specs.Answer.{distanceNumber, distanceOf}
 use Rattle.distance.specs.declared.Distance.{Distance}
 use Rattle.distance.specs.declared.Distance.the-variants.{Cos, L2, Dot, Jaccard}
 use Rattle.nearer.specs.Nearer.{nearerNumber, nearerOf}
-use Rattle.fulandewu.specs.Exported.{kindShown, dimsShown, lengthShown, writtenBy, leftBy, lengthWritten, lengthNeeded, convertedBy, outBy, dimsMade, lengthMade, roomNeeded, distanceMeasured, whichRefused, candidateChosen, distanceChosen, amongRefused}
+use Rattle.fulandewu.specs.Exported.{kindShown, dimsShown, lengthShown, writtenBy, writeTold, convertedBy, convertTold, distanceMeasured, whichRefused, candidateChosen, distanceChosen, amongRefused}
 
 -- what an export returns, then what it leaves in the numbers that it is lent, then in its output
 pub record Example : Type 0 where
@@ -43,13 +43,13 @@ reads reader s = let r = reader s in
 
 -- `written` and `needed`, and an output of so many bytes
 abbrev pub writes : ℕ → ℕ → List ℕ → ℕ → List ℕ → Example
-writes byte d body room = let out = replicate room old in let r = writtenBy byte d body out in
-    leaves (writeNumber r ∷ lengthWritten r old ∷ lengthNeeded r old ∷ leftBy byte d body out)
+writes byte d body room = let out = replicate room old in let t = writeTold (writtenBy byte d body out) old old in
+    leaves (t .number ∷ t .written ∷ t .needed ∷ t .out)
 
 -- `dims`, `length` and `needed`, for so much scratch and so much output
 abbrev pub converts : List ℕ → ℕ → ℕ → ℕ → List ℕ → Example
-converts s byte work room = let scratch = replicate work old in let out = replicate room old in let r = convertedBy s byte scratch out in
-    leaves (convertNumber r ∷ dimsMade r old ∷ lengthMade r old ∷ roomNeeded r old ∷ outBy s byte scratch out)
+converts s byte work room = let scratch = replicate work old in let out = replicate room old in let t = convertTold (convertedBy s byte scratch out) old old old in
+    leaves (t .number ∷ t .dims ∷ t .length ∷ t .needed ∷ t .out)
 
 -- the pattern of `distance`, and `which`
 abbrev pub measures : Distance → List ℕ → List ℕ → List ℕ → Example
@@ -124,5 +124,5 @@ table =
     ∷ []
 
 pub table-holds : map (λ (e : Example). e .defined) table ≡ map (λ (e : Example). e .written) table
-unfolding readOf strictOf bodyOf named byByte before fits refusals strictRefusals shown firstFrom numberAt rowOf writtenBy leftBy writeOf leftOf writeRefusals tailOf blobOf bytesOf convertedBy outBy convertOf leftOut distanceOf nearerOf running total root add sub mul div neg eq lt le isNan ofInt ofBits toBits
+unfolding readOf strictOf bodyOf named byByte before fits refusals strictRefusals shown firstFrom numberAt rowOf writtenBy writeOf writeOutcome writeRefusals tailOf blobOf bytesOf convertedBy convertOf convertOutcome distanceOf nearerOf running total root add sub mul div neg eq lt le isNan ofInt ofBits toBits
 table-holds = refl

@@ -5,15 +5,18 @@ use Prim.Native.Nat.{ℕ}
 use mathlib.Core.List.{List}
 use lib.ListN.{length}
 use lib.Ieee.{Float}
+use Rattle.vector_types.specs.Answers.{writeNumber}
 use Rattle.vector_types.specs.Layout.{byteOf, byByte}
-use Rattle.vector_types.specs.Write.{writeOf, leftOf}
+use Rattle.vector_types.specs.Write.{WriteOutcome, outcome, writeOutcome}
+use Rattle.vector_types.specs.declared.Detail.{Detail}
+use Rattle.vector_types.specs.declared.Detail.the-variants.{Nothing, Needs}
 use Rattle.vector_types.specs.declared.ReadAnswer.{ReadAnswer}
 use Rattle.vector_types.specs.declared.ReadAnswer.the-variants.{View as Seen, Refused as Unread}
 use Rattle.vector_types.specs.declared.WriteAnswer.{WriteAnswer}
-use Rattle.vector_types.specs.declared.WriteAnswer.the-variants.{Written, Refused as Unwritten, Short}
-use Rattle.convert.specs.Convert.{convertOf, leftScratch, leftOut}
+use Rattle.vector_types.specs.declared.WriteAnswer.the-variants.{Written, Refused as Unwritten}
+use Rattle.convert.specs.Convert.{convertNumber, ConvertOutcome, outcome as leaving, convertOutcome}
 use Rattle.convert.specs.declared.ConvertAnswer.{ConvertAnswer}
-use Rattle.convert.specs.declared.ConvertAnswer.the-variants.{Converted, Refused as Unconverted, ShortScratch, Short as ShortOut}
+use Rattle.convert.specs.declared.ConvertAnswer.the-variants.{Converted, Refused as Unconverted}
 use Rattle.distance.specs.declared.Which.{Which}
 use Rattle.distance.specs.declared.Which.the-variants.{First, Second, Neither}
 use Rattle.distance.specs.declared.DistanceAnswer.{DistanceAnswer}
@@ -41,72 +44,78 @@ abbrev pub lengthShown : ReadAnswer → ℕ → ℕ
 lengthShown (Seen v) before = v .length
 lengthShown (Unread r) before = before
 
--- of writing: the answer to a type byte, dims and body, for a buffer, and what is left in the buffer
-abbrev pub writeAs : Chosen → ℕ → List ℕ → List ℕ → WriteAnswer
-writeAs (Kind k) d body out = writeOf k d body (length out)
-writeAs (Refused r) d body out = Unwritten r
+-- of a refusal: how long a buffer that is too short would have to be
+abbrev pub needTold : Detail → ℕ → ℕ
+needTold Nothing before = before
+needTold (Needs need) before = need
 
-unfoldable pub writtenBy : ℕ → ℕ → List ℕ → List ℕ → WriteAnswer
+-- of writing: the outcome for a type byte, dims and body, and a buffer
+abbrev pub writeAs : Chosen → ℕ → List ℕ → List ℕ → WriteOutcome
+writeAs (Kind k) d body out = writeOutcome k d body out
+writeAs (Refused r) d body out = outcome (Unwritten r) out
+
+unfoldable pub writtenBy : ℕ → ℕ → List ℕ → List ℕ → WriteOutcome
 writtenBy byte d body out = writeAs (chosenOf (byByte byte)) d body out
 
-abbrev pub leftAs : Chosen → ℕ → List ℕ → List ℕ → List ℕ
-leftAs (Kind k) d body out = leftOf k d body out
-leftAs (Refused r) d body out = out
-
-unfoldable pub leftBy : ℕ → ℕ → List ℕ → List ℕ → List ℕ
-leftBy byte d body out = leftAs (chosenOf (byByte byte)) d body out
-
--- the length of a blob that is written, and that of one that did not fit: 15
+-- the length of a blob that is written, and that of one that did not fit
 abbrev pub lengthWritten : WriteAnswer → ℕ → ℕ
 lengthWritten (Written n) before = n
 lengthWritten (Unwritten r) before = before
-lengthWritten (Short need) before = before
 
 abbrev pub lengthNeeded : WriteAnswer → ℕ → ℕ
 lengthNeeded (Written n) before = before
-lengthNeeded (Unwritten r) before = before
-lengthNeeded (Short need) before = need
+lengthNeeded (Unwritten r) before = needTold (r .detail) before
 
--- of converting: the answer to a blob and a type byte, for two buffers, and what is left in each
-abbrev pub convertAs : Chosen → List ℕ → List ℕ → List ℕ → ConvertAnswer
-convertAs (Kind t) blob scratch out = convertOf blob t (length scratch) (length out)
-convertAs (Refused r) blob scratch out = Unconverted r
+-- what an export of the writer leaves: the number, the buffer and the two lent numbers
+pub record WriteExport : Type 0 where
+  pub number : ℕ
+  pub out : List ℕ
+  pub written : ℕ
+  pub needed : ℕ
 
-unfoldable pub convertedBy : List ℕ → ℕ → List ℕ → List ℕ → ConvertAnswer
+abbrev pub writeExport : ℕ → List ℕ → ℕ → ℕ → WriteExport
+writeExport n out written needed = record { number = n; out = out; written = written; needed = needed }
+
+abbrev pub writeTold : WriteOutcome → ℕ → ℕ → WriteExport
+writeTold o written needed = writeExport (writeNumber (o .answer)) (o .out) (lengthWritten (o .answer) written) (lengthNeeded (o .answer) needed)
+
+-- of converting: the outcome for a blob and a type byte, and two buffers
+abbrev pub convertAs : Chosen → List ℕ → List ℕ → List ℕ → ConvertOutcome
+convertAs (Kind t) blob scratch out = convertOutcome blob t scratch out
+convertAs (Refused r) blob scratch out = leaving (Unconverted r) scratch out
+
+unfoldable pub convertedBy : List ℕ → ℕ → List ℕ → List ℕ → ConvertOutcome
 convertedBy blob byte scratch out = convertAs (chosenOf (byByte byte)) blob scratch out
-
-abbrev pub scratchAs : Chosen → List ℕ → List ℕ → List ℕ → List ℕ
-scratchAs (Kind t) blob scratch out = leftScratch blob t scratch (length out)
-scratchAs (Refused r) blob scratch out = scratch
-
-unfoldable pub scratchBy : List ℕ → ℕ → List ℕ → List ℕ → List ℕ
-scratchBy blob byte scratch out = scratchAs (chosenOf (byByte byte)) blob scratch out
-
-abbrev pub outAs : Chosen → List ℕ → List ℕ → List ℕ → List ℕ
-outAs (Kind t) blob scratch out = leftOut blob t (length scratch) out
-outAs (Refused r) blob scratch out = out
-
-unfoldable pub outBy : List ℕ → ℕ → List ℕ → List ℕ → List ℕ
-outBy blob byte scratch out = outAs (chosenOf (byByte byte)) blob scratch out
 
 -- the dims and the length of a new body, and how long the buffer would have to be that is too short: 17 or 15
 abbrev pub dimsMade : ConvertAnswer → ℕ → ℕ
 dimsMade (Converted v) before = v .dims .0
 dimsMade (Unconverted r) before = before
-dimsMade (ShortScratch need) before = before
-dimsMade (ShortOut need) before = before
 
 abbrev pub lengthMade : ConvertAnswer → ℕ → ℕ
 lengthMade (Converted v) before = v .length
 lengthMade (Unconverted r) before = before
-lengthMade (ShortScratch need) before = before
-lengthMade (ShortOut need) before = before
 
 abbrev pub roomNeeded : ConvertAnswer → ℕ → ℕ
 roomNeeded (Converted v) before = before
-roomNeeded (Unconverted r) before = before
-roomNeeded (ShortScratch need) before = need
-roomNeeded (ShortOut need) before = need
+roomNeeded (Unconverted r) before = needTold (r .detail) before
+
+-- what an export of the conversion leaves
+pub record ConvertExport : Type 0 where
+  pub number : ℕ
+  pub scratch : List ℕ
+  pub out : List ℕ
+  pub dims : ℕ
+  pub length : ℕ
+  pub needed : ℕ
+
+abbrev pub convertExport : ℕ → List ℕ → List ℕ → ℕ → ℕ → ℕ → ConvertExport
+convertExport n scratch out d m needed = record { number = n; scratch = scratch; out = out; dims = d; length = m; needed = needed }
+
+abbrev pub convertTold : ConvertOutcome → ℕ → ℕ → ℕ → ConvertExport
+convertTold o d m needed =
+    let r = o .answer in
+    convertExport (convertNumber r) (o .scratch) (o .out) (dimsMade r d) (lengthMade r m) (roomNeeded r needed)
 
 -- of a distance: the distance, and the blob that a refusal is about
 abbrev pub whichByte : Which → ℕ

@@ -1,16 +1,15 @@
 // Converting a blob to another kind.
 ghost use mathlib.Core.Path.{_≡_};
-ghost use Rattle.convert.specs.Convert.{convertNumber};
-ghost use Rattle.fulandewu.specs.Exported.{convertedBy, scratchBy, outBy, dimsMade, lengthMade, roomNeeded};
+ghost use Rattle.convert.specs.Convert.{convertNumber, outcome};
+ghost use Rattle.fulandewu.specs.Exported.{convertedBy, dimsMade, lengthMade, roomNeeded, convertExport, convertTold};
 use crate::kinds::Chosen;
 use crate::kinds::kind_of;
+use crate::numbers::tell_need;
 use convert::ConvertAnswer;
 
 // Converts a blob to the kind that a byte names.
 fn convert_as(blob: &[u8], kind: u8, scratch: &mut [u8], out: &mut [u8]) -> ConvertAnswer
-    ensures { λ r. ⌜ r ≡ convertedBy (now (blob .entry)) kind (now (scratch .entry)) (now (out .entry)) ⌝ }
-    ensures { λ _. ⌜ now (scratch .exit) ≡ scratchBy (now (blob .entry)) kind (now (scratch .entry)) (now (out .entry)) ⌝ }
-    ensures { λ _. ⌜ now (out .exit) ≡ outBy (now (blob .entry)) kind (now (scratch .entry)) (now (out .entry)) ⌝ }
+    ensures { λ r. ⌜ outcome r (now (scratch .exit)) (now (out .exit)) ≡ convertedBy (now (blob .entry)) kind (now (scratch .entry)) (now (out .entry)) ⌝ }
 {
     match kind_of(kind) {
         Chosen::Kind(target) => convert::convert(blob, target, scratch, out),
@@ -31,14 +30,10 @@ fn tell(answer: ConvertAnswer, dims: &mut usize, length: &mut usize, needed: &mu
             *length = view.length;
             0
         }
-        ConvertAnswer::Refused(refusal) => refusal.number as u32,
-        ConvertAnswer::ShortScratch(need) => {
-            *needed = need;
-            17
-        }
-        ConvertAnswer::Short(need) => {
-            *needed = need;
-            15
+        ConvertAnswer::Refused(refusal) => {
+            let detail = refusal.detail;
+            tell_need(detail, needed);
+            refusal.number as u32
         }
     }
 }
@@ -55,12 +50,8 @@ pub extern "C" fn fulandewu_convert(
     length: &mut usize,
     needed: &mut usize,
 ) -> u32
-    ensures { λ r. ⌜ r ≡ convertNumber (convertedBy (now (blob .entry)) kind (now (scratch .entry)) (now (out .entry))) ⌝ }
-    ensures { λ _. ⌜ now (scratch .exit) ≡ scratchBy (now (blob .entry)) kind (now (scratch .entry)) (now (out .entry)) ⌝ }
-    ensures { λ _. ⌜ now (out .exit) ≡ outBy (now (blob .entry)) kind (now (scratch .entry)) (now (out .entry)) ⌝ }
-    ensures { λ _. ⌜ now (dims .exit) ≡ dimsMade (convertedBy (now (blob .entry)) kind (now (scratch .entry)) (now (out .entry))) (now (dims .entry)) ⌝ }
-    ensures { λ _. ⌜ now (length .exit) ≡ lengthMade (convertedBy (now (blob .entry)) kind (now (scratch .entry)) (now (out .entry))) (now (length .entry)) ⌝ }
-    ensures { λ _. ⌜ now (needed .exit) ≡ roomNeeded (convertedBy (now (blob .entry)) kind (now (scratch .entry)) (now (out .entry))) (now (needed .entry)) ⌝ }
+    ensures { λ r. ⌜ convertExport r (now (scratch .exit)) (now (out .exit)) (now (dims .exit)) (now (length .exit)) (now (needed .exit))
+        ≡ convertTold (convertedBy (now (blob .entry)) kind (now (scratch .entry)) (now (out .entry))) (now (dims .entry)) (now (length .entry)) (now (needed .entry)) ⌝ }
 {
     let answer = convert_as(blob, kind, scratch, out);
     tell(answer, dims, length, needed)

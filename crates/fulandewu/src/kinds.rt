@@ -15,7 +15,7 @@ pub enum Chosen {
 fn refuse(number: u8) -> Chosen
     ensures { λ r. ⌜ r ≡ Chosen.Refused (refusal number) ⌝ }
 {
-    Chosen::Refused(Refusal { number })
+    Chosen::Refused(Refusal::plain(number))
 }
 
 pub(crate) fn kind_of(byte: u8) -> Chosen

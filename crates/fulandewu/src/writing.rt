@@ -1,16 +1,17 @@
 // Writing a blob.
 ghost use mathlib.Core.Path.{_≡_};
 ghost use Rattle.vector_types.specs.Answers.{writeNumber};
-ghost use Rattle.fulandewu.specs.Exported.{writtenBy, leftBy, lengthWritten, lengthNeeded};
+ghost use Rattle.vector_types.specs.Write.{outcome};
+ghost use Rattle.fulandewu.specs.Exported.{writtenBy, lengthWritten, lengthNeeded, writeExport, writeTold};
 use crate::kinds::Chosen;
 use crate::kinds::kind_of;
+use crate::numbers::tell_need;
 use vector_types::Dims;
 use vector_types::WriteAnswer;
 
 // Writes a blob of the kind that a byte names.
 fn write_as(kind: u8, dims: usize, body: &[u8], out: &mut [u8]) -> WriteAnswer
-    ensures { λ r. ⌜ r ≡ writtenBy kind dims (now (body .entry)) (now (out .entry)) ⌝ }
-    ensures { λ _. ⌜ now (out .exit) ≡ leftBy kind dims (now (body .entry)) (now (out .entry)) ⌝ }
+    ensures { λ r. ⌜ outcome r (now (out .exit)) ≡ writtenBy kind dims (now (body .entry)) (now (out .entry)) ⌝ }
 {
     match kind_of(kind) {
         Chosen::Kind(named) => vector_types::write(named, Dims(dims), body, out),
@@ -29,10 +30,10 @@ fn tell(answer: WriteAnswer, written: &mut usize, needed: &mut usize) -> u32
             *written = length;
             0
         }
-        WriteAnswer::Refused(refusal) => refusal.number as u32,
-        WriteAnswer::Short(need) => {
-            *needed = need;
-            15
+        WriteAnswer::Refused(refusal) => {
+            let detail = refusal.detail;
+            tell_need(detail, needed);
+            refusal.number as u32
         }
     }
 }
@@ -48,10 +49,8 @@ pub extern "C" fn fulandewu_write(
     written: &mut usize,
     needed: &mut usize,
 ) -> u32
-    ensures { λ r. ⌜ r ≡ writeNumber (writtenBy kind dims (now (body .entry)) (now (out .entry))) ⌝ }
-    ensures { λ _. ⌜ now (out .exit) ≡ leftBy kind dims (now (body .entry)) (now (out .entry)) ⌝ }
-    ensures { λ _. ⌜ now (written .exit) ≡ lengthWritten (writtenBy kind dims (now (body .entry)) (now (out .entry))) (now (written .entry)) ⌝ }
-    ensures { λ _. ⌜ now (needed .exit) ≡ lengthNeeded (writtenBy kind dims (now (body .entry)) (now (out .entry))) (now (needed .entry)) ⌝ }
+    ensures { λ r. ⌜ writeExport r (now (out .exit)) (now (written .exit)) (now (needed .exit))
+        ≡ writeTold (writtenBy kind dims (now (body .entry)) (now (out .entry))) (now (written .entry)) (now (needed .entry)) ⌝ }
 {
     let answer = write_as(kind, dims, body, out);
     tell(answer, written, needed)

@@ -7,6 +7,7 @@ ghost use Rattle.nearer.specs.Nearer.{near, chosen, comparedOf, nearerOf
 ghost use Rattle.nearer.specs.Deciding.{decidedBy};
 use distance::Distance;
 use distance::DistanceAnswer;
+use vector_types::Detail;
 use vector_types::ReadAnswer;
 use vector_types::Refusal;
 use vector_types::View;
@@ -57,7 +58,13 @@ fn choose(x: f64, y: f64) -> NearerAnswer
     if x == x {
         return answer(Candidate::First, x);
     }
-    NearerAnswer::Refused(Refusal { number: 18 }, Among::Neither)
+    NearerAnswer::Refused(
+        Refusal {
+            number: 18,
+            detail: Detail::Nothing,
+        },
+        Among::Neither,
+    )
 }
 
 // The first refusal of two pairs in the order of the rules, 12 and 13 of both before 14; or the nearer.

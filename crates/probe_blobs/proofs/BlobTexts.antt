@@ -17,16 +17,16 @@ use Rattle.lines.specs.declared.hex.Found.the-variants.{Number, Nothing}
 use Rattle.vector_types.specs.Layout.{longest}
 use Rattle.vector_types.specs.Read.{readOf}
 use Rattle.vector_types.specs.Parts.{bodyOf}
-use Rattle.vector_types.specs.Write.{blobOf, writeOf, leftOf}
+use Rattle.vector_types.specs.Write.{blobOf, writeOf, writeOutcome}
 use Rattle.vector_types.specs.declared.VectorType.{VectorType}
 use Rattle.vector_types.specs.declared.View.{View}
 use Rattle.vector_types.specs.declared.ReadAnswer.{ReadAnswer}
 use Rattle.vector_types.specs.declared.ReadAnswer.the-variants.{View as Seen, Refused as Unread}
 use Rattle.vector_types.specs.declared.WriteAnswer.the-variants.{Written}
 use Rattle.convert.specs.Result.{resultOf}
-use Rattle.convert.specs.Convert.{convertedTo, scratched, answerOf, outBy, convertIn, convertOf, outIn, leftOut}
+use Rattle.convert.specs.Convert.{shortScratch, shortOut, convertedTo, scratched, answerOf, bodyOutcome, convertIn, convertOf, outcomeIn, convertOutcome}
 use Rattle.convert.specs.declared.ConvertAnswer.{ConvertAnswer}
-use Rattle.convert.specs.declared.ConvertAnswer.the-variants.{Converted, Refused, ShortScratch, Short}
+use Rattle.convert.specs.declared.ConvertAnswer.the-variants.{Converted, Refused}
 use Rattle.vector_types.proofs.Views.{told}
 use Rattle.vector_types.proofs.Strict.{strict-plain}
 use Rattle.vector_types.proofs.Written.{writable, written-blob}
@@ -48,7 +48,7 @@ seen-within Strict s v e = plain-within s v (strict-plain s v e)
 
 -- the first n bytes of the room are the blob
 pub written-room : (k : VectorType) (d : ℕ) (body made : List ℕ) (n : ℕ) → writeOf k d body (length made) ≡ Written n
-    → (n ≤ longest) × (take n (leftOf k d body made) ≡ blobOf k d body)
+    → (n ≤ longest) × (take n (writeOutcome k d body made .out) ≡ blobOf k d body)
 written-room k d body made n e =
     let (clear, size, left) = written-blob k d body made n e in
     (omega (arith, writable k d body clear .short, size), left)
@@ -57,33 +57,31 @@ written-room k d body made n e =
 abbrev reach : ConvertAnswer → ℕ
 reach (Converted v) = suc (v .length)
 reach (Refused r) = 0
-reach (ShortScratch need) = 0
-reach (Short need) = 0
 
 fitted : (few over : Bool) (need size : ℕ) (t : VectorType) (d : ℕ) (v : View)
-    → cond few (ShortScratch need) (cond over (Short size) (convertedTo t d size)) ≡ Converted v → (over ≡ false) × (size ≡ v .length)
+    → cond few (shortScratch need) (cond over (shortOut size) (convertedTo t d size)) ≡ Converted v → (over ≡ false) × (size ≡ v .length)
 fitted true over need size t d v e = let z = ap reach e in absurd (omega arith)
 fitted false true need size t d v e = let z = ap reach e in absurd (omega arith)
 fitted false false need size t d v e = let z = ap reach e in (refl, omega arith)
 
 -- the first bytes of the room are the new body
-module _ (t : VectorType) (scratch : ℕ) (made : List ℕ) (v : View) where
-  made-by : (k : VectorType) (d : ℕ) (body : List ℕ) → answerOf k d body t scratch (length made) ≡ Converted v
-      → (v .length ≤ length made) × (take (v .length) (outBy k d body t scratch made) ≡ resultOf k t d body)
-  unfolding answerOf outBy
+module _ (t : VectorType) (scratch made : List ℕ) (v : View) where
+  made-by : (k : VectorType) (d : ℕ) (body : List ℕ) → answerOf k d body t (length scratch) (length made) ≡ Converted v
+      → (v .length ≤ length made) × (take (v .length) (bodyOutcome k d body t scratch made .out) ≡ resultOf k t d body)
+  unfolding answerOf bodyOutcome
   made-by k d body e =
       let new = resultOf k t d body in
-      let (fits, size) = fitted (scratched k t && ltb scratch (4 * d)) (ltb (length made) (length new)) (4 * d) (length new) t d v e in
+      let (fits, size) = fitted (scratched k t && ltb (length scratch) (4 * d)) (ltb (length made) (length new)) (4 * d) (length new) t d v e in
       (omega (arith, ltb-false (length made) (length new) fits, size), rw e (take-at new (drop (length new) made) (v .length) size))
 
-  made-in : (r : ReadAnswer) (body : List ℕ) → convertIn r body t scratch (length made) ≡ Converted v
-      → (v .length ≤ length made) × (take (v .length) (outIn r body t scratch made) ≡ newBody t r body)
+  made-in : (r : ReadAnswer) (body : List ℕ) → convertIn r body t (length scratch) (length made) ≡ Converted v
+      → (v .length ≤ length made) × (take (v .length) (outcomeIn r body t scratch made .out) ≡ newBody t r body)
   made-in (Seen w) body e = made-by (w .kind) (w .dims .0) body e
   made-in (Unread r) body e = let z = ap reach e in absurd (omega arith)
 
-  pub converted-room : (s : List ℕ) → convertOf s t scratch (length made) ≡ Converted v
-      → (v .length ≤ length made) × (take (v .length) (leftOut s t scratch made) ≡ newBody t (readOf s) (bodyOf s))
-  unfolding convertOf leftOut
+  pub converted-room : (s : List ℕ) → convertOf s t (length scratch) (length made) ≡ Converted v
+      → (v .length ≤ length made) × (take (v .length) (convertOutcome s t scratch made .out) ≡ newBody t (readOf s) (bodyOf s))
+  unfolding convertOf convertOutcome
   converted-room s e = made-in (readOf s) (bodyOf s) e
 
 -- ---- H is the last field

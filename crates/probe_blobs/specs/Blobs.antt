@@ -25,11 +25,11 @@ use Rattle.vector_types.specs.declared.View.{View}
 use Rattle.vector_types.specs.declared.ReadAnswer.{ReadAnswer}
 use Rattle.vector_types.specs.declared.ReadAnswer.the-variants.{View as Seen, Refused}
 use Rattle.vector_types.specs.declared.WriteAnswer.{WriteAnswer}
-use Rattle.vector_types.specs.declared.WriteAnswer.the-variants.{Written, Refused as Unwritten, Short}
+use Rattle.vector_types.specs.declared.WriteAnswer.the-variants.{Written, Refused as Unwritten}
 use Rattle.convert.specs.Result.{resultOf}
 use Rattle.convert.specs.Convert.{convertOf}
 use Rattle.convert.specs.declared.ConvertAnswer.{ConvertAnswer}
-use Rattle.convert.specs.declared.ConvertAnswer.the-variants.{Converted, Refused as Unconverted, ShortScratch, Short as ShortOut}
+use Rattle.convert.specs.declared.ConvertAnswer.the-variants.{Converted, Refused as Unconverted}
 use Rattle.probe_blobs.specs.Limits.{scratchRoom}
 use Rattle.probe_blobs.specs.declared.Reader.{Reader}
 use Rattle.probe_blobs.specs.declared.Reader.the-variants.{Plain, Strict}
@@ -55,14 +55,11 @@ viewText (Refused r) s = refusalText (r .number)
 unfoldable pub blobText : WriteAnswer → List ℕ → List ℕ
 blobText (Written n) blob = word "W\t" ++ hexOf blob
 blobText (Unwritten r) blob = refusalText (r .number)
-blobText (Short need) blob = refusalText 15
 
 -- a body that a conversion makes
 unfoldable pub newText : ConvertAnswer → List ℕ → List ℕ
 newText (Converted v) body = vectorText (word "C\t") v body
 newText (Unconverted r) body = refusalText (r .number)
-newText (ShortScratch need) body = refusalText 17
-newText (ShortOut need) body = refusalText 15
 
 abbrev pub readerOf : Reader → List ℕ → ReadAnswer
 readerOf Plain s = readOf s

@@ -1,5 +1,9 @@
 -- The rooms for an answer and to work in.
+use mathlib.Core.Path.{_≡_}
+use mathlib.Core.List.{List}
 use Prim.Native.Nat.{ℕ, _+_, _*_}
+use lib.ListN.{length}
+use Rattle.promises.specs.Onto.{onto}
 use Rattle.vector_types.specs.Layout.{longest as longestBlob, mostDims}
 
 -- no answer has more bytes: a mark, a kind and dims, and the longest blob in hexadecimal
@@ -12,3 +16,7 @@ scratchRoom = 4 * mostDims
 
 abbrev pub blobRoom : ℕ
 blobRoom = longestBlob
+
+-- a text is put at the start of a buffer, and its length answered
+abbrev pub Puts : List ℕ → List ℕ → ℕ → List ℕ → Type 0
+Puts text before r after = (r ≡ length text) × (after ≡ onto text before)

@@ -6,7 +6,7 @@ ghost use Rattle.promises.specs.Onto.{onto};
 ghost use Rattle.lines.specs.Parts.{fieldsOf};
 ghost use Rattle.vector_types.specs.Layout.{longest as longestBlob};
 ghost use Rattle.lines.specs.Fields.{two, three};
-ghost use Rattle.probe_blobs.specs.Limits.{answerRoom, scratchRoom, blobRoom};
+ghost use Rattle.probe_blobs.specs.Limits.{Puts, answerRoom, scratchRoom, blobRoom};
 ghost use Rattle.probe_blobs.specs.Blobs.{refusalText, headerText, vectorText, readerOf, shownText, readText, kindOf, madeText, writtenBy, writeText, convertedText, convertedBy, convText};
 use convert::ConvertAnswer;
 use lines::hex::Found;
@@ -33,8 +33,7 @@ enum Kind {
 // Puts R, a tab and the number of a refusal at the start of out, and answers their length.
 fn put_refusal(number: u8, out: &mut [u8]) -> usize
     requires { ⌜ 22 ≤ length (now out) ⌝ }
-    ensures { λ r. ⌜ r ≡ length (refusalText number) ⌝ }
-    ensures { λ _. ⌜ now (out .exit) ≡ onto (refusalText number) (now (out .entry)) ⌝ }
+    ensures { λ r. ⌜ Puts (refusalText number) (now (out .entry)) r (now (out .exit)) ⌝ }
 {
     let head = bytes::copy(b"R\t", out);
     let digits = lines::text::put_decimal(number as u64, &mut out[head..]);
@@ -60,8 +59,7 @@ fn put_vector(mark: &[u8], view: View, bytes: &[u8], out: &mut [u8]) -> usize
     requires { ⌜ view .length ≤ length (now bytes) ⌝ }
     requires { ⌜ view .length ≤ longestBlob ⌝ }
     requires { ⌜ answerRoom ≤ length (now out) ⌝ }
-    ensures { λ r. ⌜ r ≡ length (vectorText (now (mark .entry)) view (take (view .length) (now (bytes .entry)))) ⌝ }
-    ensures { λ _. ⌜ now (out .exit) ≡ onto (vectorText (now (mark .entry)) view (take (view .length) (now (bytes .entry)))) (now (out .entry)) ⌝ }
+    ensures { λ r. ⌜ Puts (vectorText (now (mark .entry)) view (take (view .length) (now (bytes .entry)))) (now (out .entry)) r (now (out .exit)) ⌝ }
 {
     let kind = view.kind;
     let dims = view.dims;
@@ -83,8 +81,7 @@ fn read_by(reader: Reader, blob: &[u8]) -> ReadAnswer
 // Puts what a reader answers of a blob at the start of out.
 fn put_read(reader: Reader, blob: &[u8], out: &mut [u8]) -> usize
     requires { ⌜ answerRoom ≤ length (now out) ⌝ }
-    ensures { λ r. ⌜ r ≡ length (shownText reader (now (blob .entry))) ⌝ }
-    ensures { λ _. ⌜ now (out .exit) ≡ onto (shownText reader (now (blob .entry))) (now (out .entry)) ⌝ }
+    ensures { λ r. ⌜ Puts (shownText reader (now (blob .entry))) (now (out .entry)) r (now (out .exit)) ⌝ }
 {
     match read_by(reader, blob) {
         ReadAnswer::View(view) => put_vector(b"V\t", view, blob, out),
@@ -96,8 +93,7 @@ fn put_read(reader: Reader, blob: &[u8], out: &mut [u8]) -> usize
 pub fn read_line(reader: Reader, field: &[u8], spelled: &mut [u8], out: &mut [u8]) -> usize
     requires { ⌜ length (now field) ≤ 2 * length (now spelled) ⌝ }
     requires { ⌜ answerRoom ≤ length (now out) ⌝ }
-    ensures { λ r. ⌜ r ≡ length (readText reader (now (field .entry))) ⌝ }
-    ensures { λ _. ⌜ now (out .exit) ≡ onto (readText reader (now (field .entry))) (now (out .entry)) ⌝ }
+    ensures { λ r. ⌜ Puts (readText reader (now (field .entry))) (now (out .entry)) r (now (out .exit)) ⌝ }
 {
     let count = lines::hex::bytes(field, spelled);
     if 2 * count != field.len() {
@@ -131,8 +127,7 @@ fn kind_of(field: &[u8]) -> Kind
 fn put_written(kind: VectorType, dims: usize, body: &[u8], made: &mut [u8], out: &mut [u8]) -> usize
     requires { ⌜ length (now made) ≡ blobRoom ⌝ }
     requires { ⌜ answerRoom ≤ length (now out) ⌝ }
-    ensures { λ r. ⌜ r ≡ length (madeText kind dims (now (body .entry))) ⌝ }
-    ensures { λ _. ⌜ now (out .exit) ≡ onto (madeText kind dims (now (body .entry))) (now (out .entry)) ⌝ }
+    ensures { λ r. ⌜ Puts (madeText kind dims (now (body .entry))) (now (out .entry)) r (now (out .exit)) ⌝ }
 {
     match vector_types::write(kind, Dims(dims), body, made) {
         WriteAnswer::Written(length) => {
@@ -141,7 +136,6 @@ fn put_written(kind: VectorType, dims: usize, body: &[u8], made: &mut [u8], out:
             head + digits
         }
         WriteAnswer::Refused(refusal) => put_refusal(refusal.number, out),
-        WriteAnswer::Short(_) => put_refusal(15, out),
     }
 }
 
@@ -157,8 +151,7 @@ fn write_found(
     requires { ⌜ length (now field) ≤ 2 * length (now spelled) ⌝ }
     requires { ⌜ length (now made) ≡ blobRoom ⌝ }
     requires { ⌜ answerRoom ≤ length (now out) ⌝ }
-    ensures { λ r. ⌜ r ≡ length (writtenBy kind number (now (field .entry))) ⌝ }
-    ensures { λ _. ⌜ now (out .exit) ≡ onto (writtenBy kind number (now (field .entry))) (now (out .entry)) ⌝ }
+    ensures { λ r. ⌜ Puts (writtenBy kind number (now (field .entry))) (now (out .entry)) r (now (out .exit)) ⌝ }
 {
     let Kind::Known(named) = kind else {
         return put_other(out);
@@ -178,8 +171,7 @@ pub fn write_line(rest: &[u8], spelled: &mut [u8], made: &mut [u8], out: &mut [u
     requires { ⌜ length (now rest) ≤ 2 * length (now spelled) ⌝ }
     requires { ⌜ length (now made) ≡ blobRoom ⌝ }
     requires { ⌜ answerRoom ≤ length (now out) ⌝ }
-    ensures { λ r. ⌜ r ≡ length (three writeText (fieldsOf (now (rest .entry)))) ⌝ }
-    ensures { λ _. ⌜ now (out .exit) ≡ onto (three writeText (fieldsOf (now (rest .entry)))) (now (out .entry)) ⌝ }
+    ensures { λ r. ⌜ Puts (three writeText (fieldsOf (now (rest .entry)))) (now (out .entry)) r (now (out .exit)) ⌝ }
 {
     let end = lines::text::field_end(rest);
     if end == rest.len() {
@@ -207,14 +199,11 @@ fn put_converted(
     requires { ⌜ length (now scratch) ≡ scratchRoom ⌝ }
     requires { ⌜ length (now made) ≡ blobRoom ⌝ }
     requires { ⌜ answerRoom ≤ length (now out) ⌝ }
-    ensures { λ r. ⌜ r ≡ length (convertedText target (now (blob .entry))) ⌝ }
-    ensures { λ _. ⌜ now (out .exit) ≡ onto (convertedText target (now (blob .entry))) (now (out .entry)) ⌝ }
+    ensures { λ r. ⌜ Puts (convertedText target (now (blob .entry))) (now (out .entry)) r (now (out .exit)) ⌝ }
 {
     match convert::convert(blob, target, scratch, made) {
         ConvertAnswer::Converted(view) => put_vector(b"C\t", view, made, out),
         ConvertAnswer::Refused(refusal) => put_refusal(refusal.number, out),
-        ConvertAnswer::ShortScratch(_) => put_refusal(17, out),
-        ConvertAnswer::Short(_) => put_refusal(15, out),
     }
 }
 
@@ -231,8 +220,7 @@ fn convert_found(
     requires { ⌜ length (now scratch) ≡ scratchRoom ⌝ }
     requires { ⌜ length (now made) ≡ blobRoom ⌝ }
     requires { ⌜ answerRoom ≤ length (now out) ⌝ }
-    ensures { λ r. ⌜ r ≡ length (convertedBy kind (now (field .entry))) ⌝ }
-    ensures { λ _. ⌜ now (out .exit) ≡ onto (convertedBy kind (now (field .entry))) (now (out .entry)) ⌝ }
+    ensures { λ r. ⌜ Puts (convertedBy kind (now (field .entry))) (now (out .entry)) r (now (out .exit)) ⌝ }
 {
     let Kind::Known(target) = kind else {
         return put_other(out);
@@ -256,8 +244,7 @@ pub fn convert_line(
     requires { ⌜ length (now scratch) ≡ scratchRoom ⌝ }
     requires { ⌜ length (now made) ≡ blobRoom ⌝ }
     requires { ⌜ answerRoom ≤ length (now out) ⌝ }
-    ensures { λ r. ⌜ r ≡ length (two convText (fieldsOf (now (rest .entry)))) ⌝ }
-    ensures { λ _. ⌜ now (out .exit) ≡ onto (two convText (fieldsOf (now (rest .entry)))) (now (out .entry)) ⌝ }
+    ensures { λ r. ⌜ Puts (two convText (fieldsOf (now (rest .entry)))) (now (out .entry)) r (now (out .exit)) ⌝ }
 {
     let end = lines::text::field_end(rest);
     if end == rest.len() {

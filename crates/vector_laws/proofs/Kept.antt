@@ -15,17 +15,17 @@ use Rattle.vector_types.specs.Answers.{none, firstOf, seen, written}
 use Rattle.vector_types.specs.Layout.{fits, strays, byteOf}
 use Rattle.vector_types.specs.Read.{readOf}
 use Rattle.vector_types.specs.Parts.{bodyOf}
-use Rattle.vector_types.specs.Write.{blobOf, tailOf, writeRefusals, writeOf, leftOf}
+use Rattle.vector_types.specs.Write.{blobOf, tailOf, writeRefusals, writeOf, writeOutcome}
 use Rattle.vector_types.specs.declared.View.{View}
 use Rattle.vector_types.specs.declared.VectorType.{VectorType}
 use Rattle.vector_types.specs.declared.VectorType.the-variants.{Float32Dense, Float32Sparse}
 use Rattle.vector_types.specs.declared.ReadAnswer.the-variants.{View as Seen}
 use Rattle.vector_types.proofs.Views.{told}
-use Rattle.vector_types.proofs.Written.{writable, unrefused, reads-back, written-blob}
+use Rattle.vector_types.proofs.Written.{clear-whole, writable, unrefused, reads-back, written-blob}
 use Rattle.vector_types.proofs.Rewritten.{rewritable}
 use Rattle.convert.specs.Elements.{element, denseBody}
 use Rattle.convert.specs.Result.{resultOf, made}
-use Rattle.convert.specs.Convert.{convertedTo, answerOf, outBy, convertOf, leftOut}
+use Rattle.convert.specs.Convert.{convertedTo, answerOf, bodyOutcome, convertOf, convertOutcome}
 use Rattle.convert.proofs.Lengths.{length-dense}
 use Rattle.distance_sums.specs.Dense.{Products, denseCosine, l2By, dotBy, jaccardBy}
 use Rattle.distance_sums.specs.Sparse.{entriesOf, sparseProducts, sparseCosine}
@@ -89,16 +89,16 @@ module _ (s : List ℕ) (v : View) (e : readOf s ≡ Seen v) (k : v .kind ≡ Fl
   densely-read = reads-back Float32Dense d (newBody s v) unrefusing
 
   -- with so much room the converter leaves that body at the start of its output, and the writer makes that blob of it
-  pub densely-made : (scratch : ℕ) (out blob : List ℕ) → 4 * d ≤ length out → 4 * d ≤ length blob
-      → (convertOf s Float32Dense scratch (length out) ≡ convertedTo Float32Dense d (4 * d))
-      × (take (4 * d) (leftOut s Float32Dense scratch out) ≡ newBody s v)
+  pub densely-made : (scratch out blob : List ℕ) → 4 * d ≤ length out → 4 * d ≤ length blob
+      → (convertOf s Float32Dense (length scratch) (length out) ≡ convertedTo Float32Dense d (4 * d))
+      × (take (4 * d) (convertOutcome s Float32Dense scratch out .out) ≡ newBody s v)
       × (writeOf Float32Dense d (newBody s v) (length blob) ≡ written (4 * d))
-      × (take (4 * d) (leftOf Float32Dense d (newBody s v) blob) ≡ densely s v)
-  unfolding convertOf answerOf leftOut outBy writeOf blobOf tailOf
+      × (take (4 * d) (writeOutcome Float32Dense d (newBody s v) blob .out) ≡ densely s v)
+  unfolding convertOf answerOf convertOutcome bodyOutcome blobOf tailOf
   densely-made scratch out blob h l =
       let new = newBody s v in
       let room = le-ltb (length out) (4 * d) h in
-      let goes : writeOf Float32Dense d new (length blob) ≡ written (4 * d) = rw (unrefusing, append-nil, length-made, le-ltb (length blob) (4 * d) l) in (
+      let goes : writeOf Float32Dense d new (length blob) ≡ written (4 * d) = sym (clear-whole Float32Dense d new (length blob) unrefusing (4 * d) (rw (append-nil, length-made)) l) in (
         rw (e, k, length-made, room),
         rw (e, k, length-made, room) (take-at new (drop (4 * d) out) (4 * d) length-made),
         goes,

@@ -4,6 +4,7 @@ use mathlib.Core.List.{List}
 use Prim.Native.Nat.{ℕ}
 use denote.Ref.{now}
 use Rattle.promises.specs.Determined.{Determined}
+use Rattle.vector_types.specs.Write.{outcome}
 use Rattle.vector_types.proofs.kinds.type_byte.Reads as type-byte
 use Rattle.vector_types.proofs.kinds.is_same_kind.Reads as is-same-kind
 use Rattle.vector_types.proofs.reading.read.Reads as read
@@ -38,5 +39,5 @@ values-determined κs a r r′ x x′ p q = ap₂ part (p .0 ∙ sym (q .0)) (p 
 pub indices-determined : (κs : _) (a : _) → Determined (indices.Post κs a) (λ r x. part (now r) (r .ptr))
 indices-determined κs a r r′ x x′ p q = ap₂ part (p .0 ∙ sym (q .0)) (p .1 ∙ sym (q .1))
 
-pub write-determined : (κs : _) (a : _) → Determined (write.Post κs a) (λ r x. r) × Determined (write.Post κs a) (λ r x. now (x .1 .1 .1 .0))
-write-determined κs a = (λ r r′ x x′ p q. p .0 ∙ sym (q .0), λ r r′ x x′ p q. p .1 ∙ sym (q .1))
+pub write-determined : (κs : _) (a : _) → Determined (write.Post κs a) (λ r x. outcome r (now (x .1 .1 .1 .0)))
+write-determined κs a r r′ x x′ p q = p ∙ sym q

@@ -6,7 +6,6 @@ pub mod ByKind
 pub mod Determined
 pub mod Ends
 pub mod Given
-pub mod Measured
 pub mod Rewritten
 pub mod RewrittenStrictly
 pub mod Rows

@@ -7,21 +7,22 @@ use native.Mathlib.Omega.{arith}
 use lib.Dec.{ltb, eqb}
 use lib.ListN.{length, take, drop, length-append}
 use lib.Seq.{take-append-seam, take-at}
-use borrow.Author.Tests.{le-ltb, ltb-false, eqb-true, eqb-false, not-false}
+use borrow.Author.Tests.{lt-ltb, le-ltb, ltb-false, eqb-true, eqb-false, not-false}
 use Rattle.elements.specs.Bytes.{bytesOf, u32At}
 use Rattle.elements.proofs.Numbers.{numberAt-left, numberAt-right, numberAt-bytesOf}
-use Rattle.vector_types.specs.Answers.{Given, none, given, firstOf, unless, seen, written, unwritten, short}
+use Rattle.vector_types.specs.Answers.{Given, none, given, firstOf, unless, seen, needing, written, unwritten}
 use Rattle.vector_types.specs.Search.{some}
 use Rattle.vector_types.specs.Layout.{longest, mostDims, ceil, counted, fits, byByte, strays}
 use Rattle.vector_types.specs.Read.{readOf}
 use Rattle.vector_types.specs.Parts.{bodyOf, shownLength}
-use Rattle.vector_types.specs.Write.{filler, trailingBits, trailingBytes, tailOf, blobOf, writeRefusals, writeOf, leftOf}
+use Rattle.vector_types.specs.Write.{filler, trailingBits, trailingBytes, tailOf, blobOf, writeRefusals, writeOf, WriteOutcome, outcome, writeOutcome}
+use Rattle.vector_types.specs.declared.Refusal.{Refusal}
 use Rattle.vector_types.specs.declared.VectorType.{VectorType}
 use Rattle.vector_types.specs.declared.VectorType.the-variants.{Float32Dense, Float64Dense, Float32Sparse, Float1Bit, Float8}
 use Rattle.vector_types.specs.declared.ReadAnswer.{ReadAnswer}
 use Rattle.vector_types.specs.declared.WriteAnswer.{WriteAnswer}
-use Rattle.vector_types.specs.declared.WriteAnswer.the-variants.{Written, Refused as WriteRefused, Short}
-use Rattle.vector_types.proofs.Given.{none-passed}
+use Rattle.vector_types.specs.declared.WriteAnswer.the-variants.{Written, Refused as WriteRefused}
+use Rattle.vector_types.proofs.Given.{none-passed, first-append}
 use Rattle.vector_types.proofs.Ends.{evenly}
 use Rattle.vector_types.proofs.Tails.{length-filler}
 use Rattle.vector_types.proofs.Appended.{ended, count-appended, outside-appended}
@@ -129,27 +130,55 @@ reads-back k d body e =
     let view = read-back k d body (writable k d body e) in
     (view, body-seen (blobOf k d body) k d (length body) view ∙ take-append-seam body (tailOf k d))
 
+-- ---- the answer, where no other test holds: 15 is the last
+module _ (k : VectorType) (d : ℕ) (body : List ℕ) (room : ℕ) where
+  abbrev blob : List ℕ
+  blob = blobOf k d body
+
+  by-room : writeOf k d body room
+      ≡ unless (unless (firstOf (writeRefusals k d body)) given (cond (ltb room (length blob)) (given (needing 15 (length blob))) none)) unwritten (written (length blob))
+  unfolding writeOf
+  by-room = rw first-append
+
+  module _ (clear : firstOf (writeRefusals k d body) ≡ none) (n : ℕ) (long : n ≡ length blob) where
+    pub clear-short : room < n → unwritten (needing 15 n) ≡ writeOf k d body room
+    clear-short h = rw (by-room, clear, ← long, lt-ltb room n h)
+
+    pub clear-whole : n ≤ room → written n ≡ writeOf k d body room
+    clear-whole h = rw (by-room, clear, ← long, le-ltb room n h)
+
+  -- one more than the length written
+  abbrev reach : WriteAnswer → ℕ
+  reach (Written n) = suc n
+  reach (WriteRefused r) = 0
+
+  taken : (g : Given) (fails : Bool) (r : Refusal) (need n : ℕ) → unless (unless g given (cond fails (given r) none)) unwritten (written need) ≡ written n
+      → (g ≡ none) × (fails ≡ false) × (need ≡ n)
+  taken none true r need n e = let z = ap reach e in absurd (omega arith)
+  taken none false r need n e = let z = ap reach e in (refl, refl, omega arith)
+  taken (given g) fails r need n e = let z = ap reach e in absurd (omega arith)
+
+  pub written-clear : (n : ℕ) → writeOf k d body room ≡ written n
+      → (firstOf (writeRefusals k d body) ≡ none) × (length blob ≤ room) × (length blob ≡ n)
+  written-clear n e =
+      let (clear, fits, long) = taken (firstOf (writeRefusals k d body)) (ltb room (length blob)) (needing 15 (length blob)) (length blob) n (rw by-room at e) in
+      (clear, ltb-false room (length blob) fits, long)
+
 -- ---- as the writer's caller has it: the first n bytes of the buffer, where n is the answer
--- one more than the length written
-abbrev reach : WriteAnswer → ℕ
-reach (Written n) = suc n
-reach (WriteRefused r) = 0
-reach (Short need) = 0
-
-taken : (g : Given) (fails : Bool) (need n : ℕ) → unless g unwritten (cond fails (short need) (written need)) ≡ written n
-    → (g ≡ none) × (need ≡ n)
-taken none true need n e = let z = ap reach e in absurd (omega arith)
-taken none false need n e = let z = ap reach e in (refl, omega arith)
-taken (given r) fails need n e = let z = ap reach e in absurd (omega arith)
-
 pub written-blob : (k : VectorType) (d : ℕ) (body out : List ℕ) (n : ℕ) → writeOf k d body (length out) ≡ written n
-    → (firstOf (writeRefusals k d body) ≡ none) × (length (blobOf k d body) ≡ n) × (take n (leftOf k d body out) ≡ blobOf k d body)
-unfolding writeOf leftOf
+    → (firstOf (writeRefusals k d body) ≡ none) × (length (blobOf k d body) ≡ n) × (take n (writeOutcome k d body out .out) ≡ blobOf k d body)
+unfolding writeOutcome
 written-blob k d body out n e =
     let blob = blobOf k d body in
-    let (clear, long) = taken (firstOf (writeRefusals k d body)) (ltb (length out) (length blob)) (length blob) n e in
+    let (clear, _, long) = written-clear k d body (length out) n e in
     (clear, long, rw e (take-at blob (drop (length blob) out) n long))
 
 pub written-reads-back : (k : VectorType) (d : ℕ) (body out : List ℕ) (n : ℕ) → writeOf k d body (length out) ≡ written n
-    → (readOf (take n (leftOf k d body out)) ≡ seen k d (length body)) × (bodyOf (take n (leftOf k d body out)) ≡ body)
+    → (readOf (take n (writeOutcome k d body out .out)) ≡ seen k d (length body)) × (bodyOf (take n (writeOutcome k d body out .out)) ≡ body)
 written-reads-back k d body out n e = let (clear, _, left) = written-blob k d body out n e in rw left (reads-back k d body clear)
+
+-- an outcome, part by part
+pub outcome-parts : (k : VectorType) (d : ℕ) (body out : List ℕ) (r : WriteAnswer) (o : List ℕ) → outcome r o ≡ writeOutcome k d body out
+    → (r ≡ writeOf k d body (length out)) × (o ≡ writeOutcome k d body out .out)
+unfolding writeOutcome
+outcome-parts k d body out r o e = (ap (λ (x : WriteOutcome). x .answer) e, ap (λ (x : WriteOutcome). x .out) e)

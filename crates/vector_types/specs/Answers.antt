@@ -2,19 +2,25 @@
 use Prim.Native.Nat.{ℕ}
 use mathlib.Core.Bool.{Bool, true, false, cond}
 use mathlib.Core.List.{List, [], _∷_}
+use lib.Dec.{ltb}
 use Rattle.vector_types.specs.declared.VectorType.{VectorType}
 use Rattle.vector_types.specs.declared.Dims.{Dims}
+use Rattle.vector_types.specs.declared.Detail.the-variants.{Nothing, Needs}
 use Rattle.vector_types.specs.declared.Refusal.{Refusal}
 use Rattle.vector_types.specs.declared.ReadAnswer.{ReadAnswer}
 use Rattle.vector_types.specs.declared.ReadAnswer.the-variants.{View as Seen, Refused as ReadRefused}
 use Rattle.vector_types.specs.declared.WriteAnswer.{WriteAnswer}
-use Rattle.vector_types.specs.declared.WriteAnswer.the-variants.{Written, Refused as WriteRefused, Short}
+use Rattle.vector_types.specs.declared.WriteAnswer.the-variants.{Written, Refused as WriteRefused}
 
 abbrev pub dims : ℕ → Dims
 dims d = record { 0 = d }
 
+-- a refusal by its number, and one that tells how long a buffer would have to be
 abbrev pub refusal : ℕ → Refusal
-refusal n = record { number = n }
+refusal n = record { number = n; detail = Nothing }
+
+abbrev pub needing : ℕ → ℕ → Refusal
+needing n need = record { number = n; detail = Needs need }
 
 -- a reader's answers: a view of kind, dims and body length, and a refusal
 abbrev pub seen : VectorType → ℕ → ℕ → ReadAnswer
@@ -27,15 +33,12 @@ abbrev pub isSeen : ReadAnswer → Bool
 isSeen (Seen v) = true
 isSeen (ReadRefused r) = false
 
--- a writer's answers: the length of the blob, a refusal, and 15, which carries the need
+-- a writer's answers: the length of the blob, and a refusal
 abbrev pub written : ℕ → WriteAnswer
 written n = Written n
 
 abbrev pub unwritten : Refusal → WriteAnswer
 unwritten r = WriteRefused r
-
-abbrev pub short : ℕ → WriteAnswer
-short need = Short need
 
 -- document 01's number for each answer, 0 where nothing is refused
 abbrev pub readNumber : ReadAnswer → ℕ
@@ -45,7 +48,6 @@ readNumber (ReadRefused r) = r .number
 abbrev pub writeNumber : WriteAnswer → ℕ
 writeNumber (Written n) = 0
 writeNumber (WriteRefused r) = r .number
-writeNumber (Short need) = 15
 
 -- a refusal, and whether it is to be given
 pub record Test : Type 0 where
@@ -54,6 +56,10 @@ pub record Test : Type 0 where
 
 abbrev pub test : ℕ → Bool → Test
 test n b = record { holds = b; gives = refusal n }
+
+-- of a buffer of `room` bytes where `need` are needed
+abbrev pub testRoom : ℕ → ℕ → ℕ → Test
+testRoom n room need = record { holds = ltb room need; gives = needing n need }
 
 -- the first refusal of a list that is to be given, if any is
 pub data Given : Type 0 where

@@ -5,6 +5,7 @@ pub mod Read
 pub mod Strict
 pub mod Parts
 pub mod Write
+pub mod inner
 pub mod Rewritten
 pub mod WrittenExamples
 pub mod Examples

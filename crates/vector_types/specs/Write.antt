@@ -6,14 +6,12 @@ use lib.Dec.{ltb, eqb}
 use lib.ListN.{length}
 use Rattle.promises.specs.Onto.{onto}
 use Rattle.elements.specs.Bytes.{bytesOf}
-use Rattle.vector_types.specs.Answers.{Test, test, firstOf, unless, written, unwritten, short}
+use Rattle.vector_types.specs.Answers.{Test, test, testRoom, firstOf, unless, written, unwritten}
 use Rattle.vector_types.specs.Layout.{longest, mostDims, ceil, counted, fits, strays}
 use Rattle.vector_types.specs.declared.VectorType.{VectorType}
 use Rattle.vector_types.specs.declared.VectorType.the-variants.{Float32Dense, Float64Dense, Float32Sparse, Float1Bit, Float8}
-use Rattle.vector_types.specs.declared.writing.Size.{Size}
-use Rattle.vector_types.specs.declared.writing.Size.the-variants.{Bytes, Refused as Unsized}
 use Rattle.vector_types.specs.declared.WriteAnswer.{WriteAnswer}
-use Rattle.vector_types.specs.declared.WriteAnswer.the-variants.{Written, Refused, Short}
+use Rattle.vector_types.specs.declared.WriteAnswer.the-variants.{Written, Refused}
 
 -- a zero byte where one is asked for
 abbrev pub zeroIf : Bool → List ℕ
@@ -29,10 +27,6 @@ trailingBits d = 8 * (ceil d 8 + length (filler (ceil d 8)) + 1) - d
 
 abbrev pub trailingBytes : ℕ → ℕ
 trailingBytes d = 4 * ceil d 4 - d
-
--- a count and the type byte, after a zero byte where one is asked for
-abbrev pub countOf : Bool → ℕ → ℕ → List ℕ
-countOf filled n b = zeroIf filled ++ (n ∷ b ∷ [])
 
 -- what follows the body of a vector of d elements
 unfoldable pub tailOf : VectorType → ℕ → List ℕ
@@ -58,23 +52,26 @@ writeRefusals k d body =
     ∷ test 16 (counted k && eqb d 0)
     ∷ []
 
--- how long the blob is, or the first of these refusals
-abbrev pub sizeOf : VectorType → ℕ → List ℕ → Size
-sizeOf k d body = unless (firstOf (writeRefusals k d body)) Unsized (Bytes (length (blobOf k d body)))
-
 -- the answer where the buffer has `room` bytes: 15, the last refusal, carries the blob's length
 unfoldable pub writeOf : VectorType → ℕ → List ℕ → ℕ → WriteAnswer
 unfolding writeRefusals blobOf
 writeOf k d body room =
     let need = length (blobOf k d body) in
-    unless (firstOf (writeRefusals k d body)) unwritten (cond (ltb room need) (short need) (written need))
+    unless (firstOf (writeRefusals k d body ++ (testRoom 15 room need ∷ []))) unwritten (written need)
 
 -- the buffer afterwards: the blob over its first bytes if it is written, else as it was
 abbrev pub leftBy : WriteAnswer → List ℕ → List ℕ → List ℕ
 leftBy (Written n) blob out = onto blob out
 leftBy (Refused r) blob out = out
-leftBy (Short need) blob out = out
 
-unfoldable pub leftOf : VectorType → ℕ → List ℕ → List ℕ → List ℕ
+-- the outcome of a call: the answer, and the buffer afterwards
+pub record WriteOutcome : Type 0 where
+  pub answer : WriteAnswer
+  pub out : List ℕ
+
+abbrev pub outcome : WriteAnswer → List ℕ → WriteOutcome
+outcome r out = record { answer = r; out = out }
+
+unfoldable pub writeOutcome : VectorType → ℕ → List ℕ → List ℕ → WriteOutcome
 unfolding writeOf blobOf
-leftOf k d body out = leftBy (writeOf k d body (length out)) (blobOf k d body) out
+writeOutcome k d body out = let r = writeOf k d body (length out) in outcome r (leftBy r (blobOf k d body) out)

@@ -5,12 +5,12 @@ use Prim.Native.Nat.{ℕ}
 use lib.ListN.{length, replicate}
 use Rattle.promises.specs.Onto.{onto}
 use Rattle.elements.specs.Bytes.{numberAt, bytesOf}
-use Rattle.vector_types.specs.Answers.{refusal, written, unwritten, short}
+use Rattle.vector_types.specs.Answers.{refusal, needing, written, unwritten}
 use Rattle.vector_types.specs.Search.{firstFrom}
 use Rattle.vector_types.specs.Layout.{named, byByte, before, fits, rowOf}
 use Rattle.vector_types.specs.Read.{readOf, refusals, shown}
 use Rattle.vector_types.specs.Parts.{bodyOf}
-use Rattle.vector_types.specs.Write.{tailOf, blobOf, writeRefusals, writeOf, leftOf}
+use Rattle.vector_types.specs.Write.{tailOf, blobOf, writeRefusals, writeOf, WriteOutcome, outcome, writeOutcome}
 use Rattle.vector_types.specs.Rewritten.{rewritten}
 use Rattle.vector_types.specs.declared.VectorType.{VectorType}
 use Rattle.vector_types.specs.declared.VectorType.the-variants.{Float32Dense, Float64Dense, Float32Sparse, Float1Bit, Float8}
@@ -32,6 +32,9 @@ refuses k d body r = record { kind = k; dims = d; body = body; answer = r; blob 
 
 abbrev pub refuse : ℕ → WriteAnswer
 refuse n = unwritten (refusal n)
+
+abbrev pub short : ℕ → WriteAnswer
+short need = unwritten (needing 15 need)
 
 -- bodies: 1.0 in both widths, 1.0 at one index and at two, and a Float8 body whose padding is not zero
 abbrev pub one32 : List ℕ
@@ -77,10 +80,9 @@ abbrev pub room : List ℕ
 room = replicate 20 0xee
 
 pub writing-holds :
-    (map (λ (e : Example). writeOf (e .kind) (e .dims) (e .body) 20) writing ≡ map (λ (e : Example). e .answer) writing)
-    × (map (λ (e : Example). leftOf (e .kind) (e .dims) (e .body) room) writing ≡ map (λ (e : Example). onto (e .blob) room) writing)
-unfolding writeOf leftOf writeRefusals fits tailOf blobOf bytesOf numberAt firstFrom
-writing-holds = (refl, refl)
+    map (λ (e : Example). writeOutcome (e .kind) (e .dims) (e .body) room) writing ≡ map (λ (e : Example). outcome (e .answer) (onto (e .blob) room)) writing
+unfolding writeOf writeOutcome writeRefusals fits tailOf blobOf bytesOf numberAt firstFrom
+writing-holds = refl
 
 -- a blob, and what it is after it was read and written again
 pub record Change : Type 0 where

@@ -5,6 +5,8 @@ mod reading;
 mod strictness;
 mod writing;
 
+ghost use mathlib.Core.Path.{_≡_};
+ghost use Rattle.vector_types.specs.Answers.{refusal};
 pub use kinds::is_same_kind;
 pub use kinds::type_byte;
 pub use parts::body;
@@ -39,9 +41,28 @@ pub struct View {
     pub length: usize,
 }
 
-// Why something is refused: the number of the rules.
+// Why something is refused: the number of the rules, and what they have it carry.
 pub struct Refusal {
     pub number: u8,
+    pub detail: Detail,
+}
+
+// Needs: how long a buffer that is too short would have to be.
+pub enum Detail {
+    Nothing,
+    Needs(usize),
+}
+
+impl Refusal {
+    // One that carries nothing.
+    pub fn plain(number: u8) -> Self
+        ensures { λ r. ⌜ r ≡ refusal number ⌝ }
+    {
+        Refusal {
+            number,
+            detail: Detail::Nothing,
+        }
+    }
 }
 
 pub enum ReadAnswer {
@@ -49,11 +70,10 @@ pub enum ReadAnswer {
     Refused(Refusal),
 }
 
-// A blob's length, a refusal, or how long the buffer would have to be: refusal 15.
+// A blob's length, or a refusal.
 pub enum WriteAnswer {
     Written(usize),
     Refused(Refusal),
-    Short(usize),
 }
 
 // The longest blob, and the most elements of a vector.

@@ -23,7 +23,7 @@ use crate::View;
 pub(crate) fn refuse(number: u8) -> ReadAnswer
     ensures { λ r. ⌜ r ≡ refused (refusal number) ⌝ }
 {
-    ReadAnswer::Refused(Refusal { number })
+    ReadAnswer::Refused(Refusal::plain(number))
 }
 
 // Shows a view, unless it has too many dims.

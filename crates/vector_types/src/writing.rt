@@ -5,11 +5,12 @@ ghost use mathlib.Core.Bool.{_&&_};
 ghost use lib.Dec.{eqb};
 ghost use lib.ListN.{length};
 ghost use Rattle.promises.specs.Onto.{onto};
-ghost use Rattle.vector_types.specs.Answers.{refusal};
+ghost use Rattle.vector_types.specs.Answers.{refusal, unwritten};
 ghost use Rattle.vector_types.specs.Layout.{mostDims, counted, fits, strays};
-ghost use Rattle.vector_types.specs.Write.{filler, trailingBits, trailingBytes, countOf, tailOf, blobOf, sizeOf, writeOf, leftOf};
+ghost use Rattle.vector_types.specs.Write.{filler, trailingBits, trailingBytes, tailOf, blobOf, writeOf, outcome, writeOutcome};
+ghost use Rattle.vector_types.specs.inner.Count.{countOf};
 ghost use Rattle.vector_types.specs.declared.VectorType.the-variants.{Float32Sparse};
-ghost use Rattle.vector_types.specs.declared.writing.Size.the-variants.{Refused};
+use crate::Detail;
 use crate::Dims;
 use crate::LONGEST;
 use crate::MOST_DIMS;
@@ -21,16 +22,10 @@ use crate::WriteAnswer;
 use crate::reading::align4;
 use crate::reading::first_outside;
 
-// How long a blob is to be, or why there is none.
-pub enum Size {
-    Bytes(usize),
-    Refused(Refusal),
-}
-
-fn refuse(number: u8) -> Size
-    ensures { λ r. ⌜ r ≡ Refused (refusal number) ⌝ }
+fn refuse(number: u8) -> WriteAnswer
+    ensures { λ r. ⌜ r ≡ unwritten (refusal number) ⌝ }
 {
-    Size::Refused(Refusal { number })
+    WriteAnswer::Refused(Refusal::plain(number))
 }
 
 // Whether a body of so many bytes is what a vector of this kind and dims has.
@@ -114,9 +109,9 @@ fn is_empty(kind: VectorType, dims: Dims) -> bool
     }
 }
 
-// How long the blob is, or the first refusal in the writer's order, a short buffer apart.
-fn measure(kind: VectorType, dims: Dims, body: &[u8]) -> Size
-    ensures { λ r. ⌜ r ≡ sizeOf kind (dims .0) (now (body .entry)) ⌝ }
+// How long the blob is, or the first refusal in the writer's order, for a buffer of `room` bytes.
+fn measure(kind: VectorType, dims: Dims, body: &[u8], room: usize) -> WriteAnswer
+    ensures { λ r. ⌜ r ≡ writeOf kind (dims .0) (now (body .entry)) room ⌝ }
 {
     if MOST_DIMS < dims.0 {
         return refuse(9);
@@ -134,7 +129,13 @@ fn measure(kind: VectorType, dims: Dims, body: &[u8]) -> Size
     if is_empty(kind, dims) {
         return refuse(16);
     }
-    Size::Bytes(length)
+    if room < length {
+        return WriteAnswer::Refused(Refusal {
+            number: 15,
+            detail: Detail::Needs(length),
+        });
+    }
+    WriteAnswer::Written(length)
 }
 
 // Puts a trailing count and the type byte at the start of out, after a zero byte if `filled`.
@@ -199,17 +200,13 @@ fn put_blob(kind: VectorType, dims: Dims, body: &[u8], out: &mut [u8])
 // Puts the blob of a kind, dims and body at the start of out and answers its length; a refusal
 // changes nothing.
 pub fn write(kind: VectorType, dims: Dims, body: &[u8], out: &mut [u8]) -> WriteAnswer
-    ensures { λ r. ⌜ r ≡ writeOf kind (dims .0) (now (body .entry)) (length (now (out .entry))) ⌝ }
-    ensures { λ _. ⌜ now (out .exit) ≡ leftOf kind (dims .0) (now (body .entry)) (now (out .entry)) ⌝ }
+    ensures { λ r. ⌜ outcome r (now (out .exit)) ≡ writeOutcome kind (dims .0) (now (body .entry)) (now (out .entry)) ⌝ }
 {
-    match measure(kind, dims, body) {
-        Size::Bytes(length) => {
-            if out.len() < length {
-                return WriteAnswer::Short(length);
-            }
+    match measure(kind, dims, body, out.len()) {
+        WriteAnswer::Written(size) => {
             put_blob(kind, dims, body, out);
-            WriteAnswer::Written(length)
+            WriteAnswer::Written(size)
         }
-        Size::Refused(refusal) => WriteAnswer::Refused(refusal),
+        WriteAnswer::Refused(refusal) => WriteAnswer::Refused(refusal),
     }
 }

@@ -1,6 +1,6 @@
 -- The answer read decides: a view is converted, a refusal handed on.
 use mathlib.Core.Path.{sym, _∙_}
-use Rattle.convert.specs.Convert.{convertOf, leftScratch, leftOut}
+use Rattle.convert.specs.Convert.{convertOutcome}
 use borrow.Author.Needs.{needs}
 use Rattle.convert.proofs.convert.Statement.{statement}
 use Rattle.convert.proofs.convert.Tie as tie
@@ -9,16 +9,14 @@ convert-view-requires : tie.Need-convert-view-requires
 convert-view-requires c κs = sym (c .before .before .before .before .before .read .ensures) ∙ c .before .before .before .view .given .1
 
 returns : tie.Need-returns
-unfolding convertOf leftScratch leftOut
+unfolding convertOutcome
 returns c =
     let v = c .before .before .before .before .before .before .before .before in
     rw (sym (v .before .before .read .ensures) ∙ v .view .given .1) (c .before .before .before .before .convert-view .ensures)
 
 returns-2 : tie.Need-returns-2
-unfolding convertOf leftScratch leftOut
-returns-2 c =
-    let e = sym (c .before .before .before .read .ensures) ∙ c .before .refusal .given .1 in
-    (rw e, (rw e, rw e))
+unfolding convertOutcome
+returns-2 c = rw (sym (c .before .before .before .read .ensures) ∙ c .before .refusal .given .1)
 
 pub convert-spec : {M : Type 1} → statement M
 convert-spec =

@@ -6,8 +6,9 @@ use lib.ListN.{length, take}
 use Rattle.lines.specs.Text.{word}
 use Rattle.vector_types.specs.Read.{readOf}
 use Rattle.vector_types.specs.Parts.{bodyOf}
-use Rattle.convert.specs.Convert.{convertOf}
+use Rattle.convert.specs.Convert.{convertOf, convertOutcome}
 use Rattle.convert.specs.declared.ConvertAnswer.{ConvertAnswer}
+use Rattle.convert.proofs.Answered.{outcome-parts}
 use Rattle.lines.proofs.Fields.{answered}
 use Rattle.probe_blobs.specs.Blobs.{vectorText, newText, newBody, convertedText}
 use Rattle.probe_blobs.proofs.BlobTexts.{converted-room}
@@ -20,14 +21,16 @@ use Rattle.probe_blobs.proofs.put_converted.Tie as tie
 abbrev body : tie.After-convert → List ℕ
 body c = let a = c .before .before .before .before .before .before .before .args in newBody (a .target) (readOf (a .blob .now)) (bodyOf (a .blob .now))
 
-answer : (c : tie.After-convert) → let a = c .before .before .before .before .before .before .before .args in c .convert .result ≡ convertOf (a .blob .now) (a .target) (length (a .scratch .now)) (length (a .made .now))
-answer c = c .convert .ensures .0
+answer : (c : tie.After-convert) → let a = c .before .before .before .before .before .before .before .args in
+    (c .convert .result ≡ convertOf (a .blob .now) (a .target) (length (a .scratch .now)) (length (a .made .now)))
+    × (c .convert .last .1 .1 .1 .0 ≡ convertOutcome (a .blob .now) (a .target) (a .scratch .now) (a .made .now) .out)
+answer c = let a = c .before .before .before .before .before .before .before .args in outcome-parts (a .blob .now) (a .target) (a .scratch .now) (a .made .now) _ _ _ (c .convert .ensures)
 
 text : (c : tie.After-convert) (r : ConvertAnswer) → c .convert .result ≡ r → let a = c .before .before .before .before .before .before .before .args in newText r (body c) ≡ convertedText (a .target) (a .blob .now)
 text c r e =
     let start = c .before .before .before .before .before .before .before in
     let roomy = ap₂ (λ (m n : ℕ). convertOf (start .args .blob .now) (start .args .target) m n) (start .pre .0) (start .pre .1 .0) in
-    ap (λ (x : ConvertAnswer). newText x (body c)) (sym e ∙ answer c ∙ roomy)
+    ap (λ (x : ConvertAnswer). newText x (body c)) (sym e ∙ answer c .0 ∙ roomy)
 
 -- the first bytes of the room are the new body
 room : (c : tie.After-view) → let v = c .view .given .0 .0 in let t = c .before .before .before .before .before .before in
@@ -35,7 +38,7 @@ room : (c : tie.After-view) → let v = c .view .given .0 .0 in let t = c .befor
 room c =
     let t = c .before .before .before .before .before .before in
     let a = t .before .before .before .before .before .before .before .args in
-    rw (t .convert .ensures .1 .1) (converted-room (a .target) (length (a .scratch .now)) (a .made .now) (c .view .given .0 .0) (a .blob .now) (sym (answer t) ∙ c .view .given .1))
+    rw (answer t .1) (converted-room (a .target) (a .scratch .now) (a .made .now) (c .view .given .0 .0) (a .blob .now) (sym (answer t .0) ∙ c .view .given .1))
 
 put-vector-requires : tie.Need-put-vector-requires
 put-vector-requires c κs =
@@ -58,24 +61,10 @@ returns-2 c =
     let told = c .before .before .before .before .before in
     answered _ _ _ _ _ (text (told .before .before .before .before .before .before) _ (told .refusal .given .1)) (c .before .before .put-refusal .ensures)
 
-returns-3 : tie.Need-returns-3
-unfolding newText
-returns-3 c =
-    let told = c .before .before .before .before in
-    answered _ _ _ _ _ (text (told .before .before .before .before .before .before) _ (told .enum-told .given .1)) (c .before .before .put-refusal2 .ensures)
-
-returns-4 : tie.Need-returns-4
-unfolding newText
-returns-4 c =
-    let told = c .before .before .before .before in
-    answered _ _ _ _ _ (text (told .before .before .before .before .before .before) _ (told .enum-told2 .given .1)) (c .before .before .put-refusal3 .ensures)
-
 pub put-converted-spec : {M : Type 1} → statement M
 put-converted-spec =
     tie.close
     (tie.spec
     (λ c κs. search needs) (λ c. search needs) (λ c. search needs) put-vector-requires (λ c. search needs)
-    (λ c κs. search needs) (λ c. search needs) (λ c κs. search needs) (λ c. search needs) (λ c κs. search needs)
-    (λ c. search needs) (λ c. search needs) (λ c. search needs) returns (λ c. search needs) (λ c. search needs)
-    (λ c. search needs) returns-2 (λ c. search needs) (λ c. search needs) (λ c. search needs) returns-3
-    (λ c. search needs) (λ c. search needs) (λ c. search needs) returns-4)
+    (λ c κs. search needs) (λ c. search needs) (λ c. search needs) (λ c. search needs) returns (λ c. search needs) (λ c. search needs)
+    (λ c. search needs) returns-2)

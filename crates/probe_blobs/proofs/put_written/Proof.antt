@@ -7,8 +7,9 @@ use lib.Seq.{length-take-le}
 use Rattle.lines.specs.Text.{word}
 use Rattle.lines.specs.Hex.{hexOf}
 use Rattle.vector_types.specs.Layout.{longest}
-use Rattle.vector_types.specs.Write.{blobOf, writeOf}
+use Rattle.vector_types.specs.Write.{blobOf, writeOf, writeOutcome}
 use Rattle.vector_types.specs.declared.WriteAnswer.{WriteAnswer}
+use Rattle.vector_types.proofs.Written.{outcome-parts}
 use Rattle.lines.proofs.Fields.{answered, puts-then}
 use Rattle.probe_blobs.specs.Blobs.{blobText, madeText}
 use Rattle.probe_blobs.proofs.BlobTexts.{written-room}
@@ -21,11 +22,13 @@ use Rattle.probe_blobs.proofs.put_written.Tie as tie
 abbrev blob : tie.After-write → List ℕ
 blob c = let a = c .before .before .before .before .before .args in blobOf (a .kind) (a .dims) (a .body .now)
 
-answer : (c : tie.After-write) → let a = c .before .before .before .before .before .args in c .write .result ≡ writeOf (a .kind) (a .dims) (a .body .now) (length (a .made .now))
-answer c = c .write .ensures .0
+answer : (c : tie.After-write) → let a = c .before .before .before .before .before .args in
+    (c .write .result ≡ writeOf (a .kind) (a .dims) (a .body .now) (length (a .made .now)))
+    × (c .write .last .1 .1 .1 .0 ≡ writeOutcome (a .kind) (a .dims) (a .body .now) (a .made .now) .out)
+answer c = let a = c .before .before .before .before .before .args in outcome-parts (a .kind) (a .dims) (a .body .now) (a .made .now) _ _ (c .write .ensures)
 
 made : (c : tie.After-write) (w : WriteAnswer) → c .write .result ≡ w → let a = c .before .before .before .before .before .args in blobText w (blob c) ≡ madeText (a .kind) (a .dims) (a .body .now)
-made c w e = ap (λ (x : WriteAnswer). blobText x (blob c)) (sym e ∙ rw (← c .before .before .before .before .before .pre .0) (answer c))
+made c w e = ap (λ (x : WriteAnswer). blobText x (blob c)) (sym e ∙ rw (← c .before .before .before .before .before .pre .0) (answer c .0))
 
 -- the first n bytes of the room are the blob
 abbrev left : tie.After-length → List ℕ
@@ -36,7 +39,7 @@ room c =
     let w = c .before .before .before .before in
     let start = w .before .before .before .before .before in
     let a = start .args in
-    rw (w .write .ensures .1) (written-room (a .kind) (a .dims) (a .body .now) (a .made .now) _ (sym (answer w) ∙ c .length .given .1))
+    rw (answer w .1) (written-room (a .kind) (a .dims) (a .body .now) (a .made .now) _ (sym (answer w .0) ∙ c .length .given .1))
 
 within : (c : tie.After-length) → length (left c) ≡ c .length .given .0 .0
 within c = let w = c .before .before .before .before in length-take-le _ _ (omega (arith, room c .0, w .write .kept .1 .1 .1 .0, w .before .before .before .before .before .pre .0))
@@ -70,18 +73,11 @@ returns-2 c =
     let told = c .before .before .before .before .before in
     answered _ _ _ _ _ (made (told .before .before .before .before) _ (told .refusal .given .1)) (c .before .before .put-refusal .ensures)
 
-returns-3 : tie.Need-returns-3
-unfolding blobText
-returns-3 c =
-    let told = c .before .before .before .before in
-    answered _ _ _ _ _ (made (told .before .before .before .before) _ (told .enum-told .given .1)) (c .before .before .put-refusal2 .ensures)
-
 pub put-written-spec : {M : Type 1} → statement M
 put-written-spec =
     tie.close
     (tie.spec
     (λ c κs. search needs) (λ c. search needs) (λ c. search needs) (λ c κs. search needs) slice-reshare-prefix-put-bytes
     slice-aggregate-put-bytes (λ c. search needs) (λ c. search needs) (λ c. search needs) put-bytes-requires add-result
-    (λ c. search needs) (λ c κs. search needs) (λ c. search needs) (λ c κs. search needs) (λ c. search needs)
-    (λ c. search needs) returns (λ c. search needs) (λ c. search needs) returns-2 (λ c. search needs) (λ c. search needs)
-    returns-3)
+    (λ c. search needs) (λ c κs. search needs) (λ c. search needs) (λ c. search needs) returns
+    (λ c. search needs) (λ c. search needs) returns-2)

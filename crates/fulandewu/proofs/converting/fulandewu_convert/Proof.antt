@@ -5,9 +5,8 @@ use Rattle.fulandewu.proofs.converting.fulandewu_convert.Tie as tie
 
 returns : tie.Need-returns
 returns c =
-    let made = c .before .before .before .before .before .before .before .before .convert-as .ensures in
-    let told = rw (made .0) at (c .tell .ensures) in
-    (told .0, (made .1 .0, (made .1 .1, (told .1 .0, (told .1 .1 .0, told .1 .1 .1)))))
+    let told = c .tell .ensures in
+    rw (← c .before .before .before .before .before .before .before .before .convert-as .ensures, told .0, told .1 .0, told .1 .1 .0, told .1 .1 .1)
 
 pub fulandewu-convert-spec : {M : Type 1} → statement M
 fulandewu-convert-spec = tie.close (tie.spec (λ c κs. search needs) (λ c κs. search needs) (λ c. search needs) (λ c. search needs) returns)

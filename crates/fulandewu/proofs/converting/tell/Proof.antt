@@ -8,17 +8,7 @@ returns : tie.Need-returns
 returns c = rw (c .before .answer .given .1) (refl, (refl, (refl, refl)))
 
 returns-2 : tie.Need-returns-2
-returns-2 c = rw (c .before .before .answer2 .given .1) (refl, (refl, (refl, refl)))
-
-returns-3 : tie.Need-returns-3
-returns-3 c = rw (c .before .answer3 .given .1) (refl, (refl, (refl, refl)))
-
-returns-4 : tie.Need-returns-4
-returns-4 c = rw (c .before .answer4 .given .1) (refl, (refl, (refl, refl)))
+returns-2 c = rw (c .before .before .before .before .answer2 .given .1) (refl, (refl, (refl, c .before .tell-need .ensures)))
 
 pub tell-spec : {M : Type 1} → statement M
-tell-spec =
-    tie.close
-    (tie.spec
-    (λ c. search needs) (λ c. search needs) (λ c. search needs) (λ c. search needs) (λ c. search needs)
-    returns returns-2 returns-3 returns-4)
+tell-spec = tie.close (tie.spec (λ c. search needs) (λ c. search needs) (λ c κs. search needs) (λ c. search needs) returns returns-2)
