@@ -9,11 +9,11 @@ use lib.ListN.{length}
 use lib.Ieee.{binary32}
 use borrow.Author.Tests.{lt-ltb, le-ltb}
 use Rattle.promises.specs.Onto.{onto}
-use Rattle.vector_types.specs.Layout.{counted}
+use Rattle.vector_types.specs.Layout.{hasTrailingCount}
 use Rattle.vector_types.specs.Read.{readOf}
 use Rattle.vector_types.specs.Parts.{bodyOf}
 use Rattle.vector_types.specs.declared.ReadAnswer.{ReadAnswer}
-use Rattle.vector_types.specs.declared.ReadAnswer.the-variants.{View as Seen, Refused as Unread}
+use Rattle.vector_types.specs.declared.ReadAnswer.the-variants.{Accepted, Refused as Unread}
 use Rattle.vector_types.specs.declared.VectorType.{VectorType}
 use Rattle.vector_types.specs.declared.VectorType.the-variants.{Float32Sparse}
 use Rattle.convert.specs.Dense.{spreadBody}
@@ -54,7 +54,7 @@ plainly k d body t scratch out r o h (answer, left) =
     rw (answer, left, h) (out-left t d new scratch out (ltb (length out) (length new)))
 
 -- a pair that does
-module _ (t : VectorType) (takes : counted t ≡ true) (d : ℕ) (body scratch out : List ℕ) where
+module _ (t : VectorType) (takes : hasTrailingCount t ≡ true) (d : ℕ) (body scratch out : List ℕ) where
   pub scratch-short : length scratch < 4 * d → Left Float32Sparse d body t scratch out (shortScratch (4 * d)) scratch out
   unfolding answerOf bodyOutcome
   scratch-short h = rw (takes, lt-ltb (length scratch) (4 * d) h)
@@ -78,7 +78,7 @@ picked false r s s′ o o′ = refl
 module _ (s : List ℕ) (t : VectorType) (scratch out : List ℕ) where
   answer-in : (w : ReadAnswer) (body : List ℕ) → outcomeIn w body t scratch out .answer ≡ convertIn w body t (length scratch) (length out)
   unfolding bodyOutcome
-  answer-in (Seen v) body = picked (isConverted (answerOf (v .kind) (v .dims .0) body t (length scratch) (length out))) _ _ _ _ _
+  answer-in (Accepted v) body = picked (isConverted (answerOf (v .kind) (v .dims .0) body t (length scratch) (length out))) _ _ _ _ _
   answer-in (Unread r) body = refl
 
   pub outcome-parts : (r : ConvertAnswer) (left o : List ℕ) → outcome r left o ≡ convertOutcome s t scratch out

@@ -1,7 +1,7 @@
 -- Claims about kinds and about pairs of kinds, by cases or computed.
 use mathlib.Core.Path.{_≡_, refl, sym, _∙_}
 use mathlib.Core.Bool.{Bool, true, false, _&&_, _||_, and-eq-true-iff, and-true, false≢true}
-use Rattle.vector_types.specs.Layout.{is, counted}
+use Rattle.vector_types.specs.Layout.{hasByte, hasTrailingCount}
 use Rattle.vector_types.specs.declared.VectorType.{VectorType}
 use Rattle.vector_types.specs.declared.VectorType.the-variants.{Float32Dense, Float64Dense, Float32Sparse, Float1Bit, Float8}
 use Rattle.vector_types.proofs.Bools.{or-both}
@@ -15,24 +15,24 @@ module _ (P : VectorType → Type 0) where
   by-kind a b c d e Float8 = e
 
   -- the kinds that two steps lead to, and of these the ones with a trailing count
-  pub narrow-by : P Float32Sparse → P Float1Bit → P Float8 → (k : VectorType) → (is 9 k || counted k) ≡ true → P k
+  pub narrow-by : P Float32Sparse → P Float1Bit → P Float8 → (k : VectorType) → (hasByte 9 k || hasTrailingCount k) ≡ true → P k
   narrow-by a b c Float32Sparse h = a
   narrow-by a b c Float1Bit h = b
   narrow-by a b c Float8 h = c
   narrow-by a b c Float32Dense h = absurd (false≢true h)
   narrow-by a b c Float64Dense h = absurd (false≢true h)
 
-  pub counted-by : P Float1Bit → P Float8 → (k : VectorType) → counted k ≡ true → P k
+  pub counted-by : P Float1Bit → P Float8 → (k : VectorType) → hasTrailingCount k ≡ true → P k
   counted-by a b Float1Bit h = a
   counted-by a b Float8 h = b
   counted-by a b Float32Dense h = absurd (false≢true h)
   counted-by a b Float64Dense h = absurd (false≢true h)
   counted-by a b Float32Sparse h = absurd (false≢true h)
 
-pub counted-other : (k : VectorType) → counted k ≡ true → is 9 k ≡ false
-counted-other k h = counted-by (λ k. is 9 k ≡ false) refl refl k h
+pub counted-other : (k : VectorType) → hasTrailingCount k ≡ true → hasByte 9 k ≡ false
+counted-other k h = counted-by (λ k. hasByte 9 k ≡ false) refl refl k h
 
-pub sparse-kind : (k : VectorType) → is 9 k ≡ true → k ≡ Float32Sparse
+pub sparse-kind : (k : VectorType) → hasByte 9 k ≡ true → k ≡ Float32Sparse
 sparse-kind Float32Sparse h = refl
 sparse-kind Float32Dense h = absurd (false≢true h)
 sparse-kind Float64Dense h = absurd (false≢true h)

@@ -7,8 +7,8 @@ use lib.IntN.{pos}
 use lib.ListN.{getD}
 use lib.Ieee.{Format, binary32, binary64, fits, mul, ofInt}
 use lib.Ieee.Fits.{add-fits, fits-widens}
-use Rattle.elements.specs.Bytes.{f32At}
-use Rattle.elements.proofs.Floats.{floatAt-fits}
+use Rattle.little_endian.specs.Bytes.{f32At}
+use Rattle.little_endian.proofs.Floats.{floatAt-fits}
 use Rattle.rounding.proofs.NarrowBits.{narrowed-fits}
 use Rattle.vector_types.specs.Layout.{bitAt}
 use Rattle.vector_types.specs.declared.VectorType.{VectorType}

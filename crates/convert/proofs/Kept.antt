@@ -7,8 +7,8 @@ use lib.Dec.{eqb}
 use lib.ListN.{length}
 use lib.Ieee.{Float, binary32, binary64, ne, ofBits, toBits}
 use Rattle.rounding.specs.Narrow.{narrowed}
-use Rattle.elements.specs.Bytes.{numberAt, bytesOf, floatBytes, AreBytes}
-use Rattle.elements.proofs.Numbers.{bytesOf-numberAt}
+use Rattle.little_endian.specs.Bytes.{numberAt, bytesOf, floatBytes, AreBytes}
+use Rattle.little_endian.proofs.Numbers.{bytesOf-numberAt}
 use Rattle.vector_types.specs.Layout.{bitAt}
 use Rattle.vector_types.specs.declared.VectorType.the-variants.{Float32Dense, Float64Dense, Float1Bit, Float8}
 use Rattle.convert.specs.Elements.{unit, element}

@@ -6,8 +6,8 @@ use Prim.Native.Nat.{ℕ, _*_}
 use native.Mathlib.Omega.{arith}
 use lib.ListN.{length}
 use lib.Ieee.{Format}
-use Rattle.elements.specs.Bytes.{width}
-use Rattle.vector_types.specs.Layout.{strays}
+use Rattle.little_endian.specs.Bytes.{width}
+use Rattle.vector_types.specs.Layout.{hasIndexOutside}
 use Rattle.vector_types.specs.declared.VectorType.{VectorType}
 use Rattle.vector_types.specs.declared.VectorType.the-variants.{Float32Dense, Float64Dense, Float32Sparse, Float1Bit, Float8}
 use Rattle.convert.specs.Dense.{count}
@@ -15,7 +15,7 @@ use Rattle.convert.specs.Elements.{element, denseBody}
 use Rattle.convert.proofs.Pieces.{length-floats}
 use Rattle.convert.proofs.Spread.{length-spread}
 
-pub length-dense : (f : Format) (k : VectorType) (d : ℕ) (body : List ℕ) → strays k d body ≡ false
+pub length-dense : (f : Format) (k : VectorType) (d : ℕ) (body : List ℕ) → hasIndexOutside k d body ≡ false
     → length (denseBody f k d body) ≡ width f * d
 unfolding denseBody
 length-dense f Float32Dense d body h = length-floats f (element f Float32Dense d body) d

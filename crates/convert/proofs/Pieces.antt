@@ -8,8 +8,8 @@ use native.Mathlib.Omega.{arith}
 use lib.ListN.{length, getD, List·getD-append, set, drop, replicate, length-append, replicate-append-replicate}
 use lib.Seq.{getD-at, take-at, drop-at, drop-drop}
 use lib.Ieee.{Float, Format, toBits}
-use Rattle.elements.specs.Bytes.{put, width, bytesOf, floatBytes}
-use Rattle.elements.proofs.Numbers.{length-bytesOf}
+use Rattle.little_endian.specs.Bytes.{put, width, bytesOf, floatBytes}
+use Rattle.little_endian.proofs.Numbers.{length-bytesOf}
 use Rattle.promises.specs.Onto.{onto}
 use Rattle.promises.proofs.Onto.{onto-put, length-onto}
 use Rattle.convert.specs.Pieces.{pieces}

@@ -9,9 +9,9 @@ use native.Mathlib.Omega.{arith}
 use lib.ListN.{length, drop, length-append, length-drop}
 use lib.Seq.{length-take-le}
 use lib.Ieee.{binary32, toBits}
-use Rattle.elements.specs.Bytes.{bytesOf}
-use Rattle.elements.proofs.Numbers.{length-bytesOf}
-use Rattle.vector_types.specs.Layout.{fits}
+use Rattle.little_endian.specs.Bytes.{bytesOf}
+use Rattle.little_endian.proofs.Numbers.{length-bytesOf}
+use Rattle.vector_types.specs.Layout.{bodyFits}
 use Rattle.vector_types.specs.declared.VectorType.{VectorType}
 use Rattle.vector_types.specs.declared.VectorType.the-variants.{Float32Dense, Float64Dense, Float32Sparse, Float1Bit, Float8}
 use Rattle.convert.specs.Pieces.{placesOf, each}
@@ -99,7 +99,7 @@ length-each g w p (suc n) h =
     last false = omega arith
 
 -- ---- the values and the indices that a sparse body is made of
-pub length-value : (k : VectorType) (d : ℕ) (body : List ℕ) → fits k d (length body) ≡ true → (i : ℕ) → i < d
+pub length-value : (k : VectorType) (d : ℕ) (body : List ℕ) → bodyFits k d (length body) ≡ true → (i : ℕ) → i < d
     → length (valueBytes k d body i) ≡ 4
 unfolding valueBytes
 length-value Float32Dense d body fit i h =
@@ -112,7 +112,7 @@ length-value Float8 d body fit i h = length-bytesOf 4 (toBits binary32 (element 
 pub length-indices : (p : ℕ → Bool) (n : ℕ) → length (each (bytesOf 4) (placesOf p n)) ≡ 4 * length (placesOf p n)
 length-indices p n = length-each (bytesOf 4) 4 p n (λ i _. length-bytesOf 4 i)
 
-module _ (k : VectorType) (d : ℕ) (body : List ℕ) (fit : fits k d (length body) ≡ true) where
+module _ (k : VectorType) (d : ℕ) (body : List ℕ) (fit : bodyFits k d (length body) ≡ true) where
   pub length-values : (p : ℕ → Bool) (n : ℕ) → n ≤ d → length (each (valueBytes k d body) (placesOf p n)) ≡ 4 * length (placesOf p n)
   length-values p n h = length-each (valueBytes k d body) 4 p n (λ i l. length-value k d body fit i (omega arith))
 

@@ -8,10 +8,10 @@ use native.Mathlib.Omega.{arith}
 use lib.ListN.{length, take, drop, length-append}
 use lib.Seq.{length-take-le, take-at, drop-at, take-add, take-take, take-append-le, drop-append-le, drop-drop}
 use Rattle.promises.specs.Onto.{onto}
-use Rattle.elements.specs.Bytes.{put, bytesOf}
-use Rattle.elements.proofs.Put.{length-put, put-nothing, put-put}
-use Rattle.elements.proofs.Numbers.{length-bytesOf}
-use Rattle.vector_types.specs.Layout.{fits}
+use Rattle.little_endian.specs.Bytes.{put, bytesOf}
+use Rattle.little_endian.proofs.Put.{length-put, put-nothing, put-put}
+use Rattle.little_endian.proofs.Numbers.{length-bytesOf}
+use Rattle.vector_types.specs.Layout.{bodyFits}
 use Rattle.vector_types.specs.declared.VectorType.{VectorType}
 use Rattle.convert.specs.Pieces.{placesOf, each}
 use Rattle.convert.specs.Sparse.{stored, valueBytes, sparseBody}
@@ -67,7 +67,7 @@ module _ (k : VectorType) (d : ℕ) (body : List ℕ) (count : ℕ) (l : List �
   unfolding placesOf each
   laid-none = rw (put-nothing (put l 0 []) (4 * count), put-nothing l 0)
 
-  module _ (fit : fits k d (length body) ≡ true) (all : count ≡ length (placesOf (stored k d body) d)) (room : 8 * count ≤ length l) where
+  module _ (fit : bodyFits k d (length body) ≡ true) (all : count ≡ length (placesOf (stored k d body) d)) (room : 8 * count ≤ length l) where
     laid-next : (i n : ℕ) → i < d → n ≡ length (placesOf (stored k d body) i)
         → cond (stored k d body i) (put (put (laid i) (4 * n) (valueBytes k d body i)) (4 * count + 4 * n) (bytesOf 4 i)) (laid i) ≡ laid (i + 1)
     laid-next i n h e = rw (places-next p i) (by (p i) (omega (arith, places-room p i d h)))
@@ -111,7 +111,7 @@ module _ (k : VectorType) (d : ℕ) (body : List ℕ) (count : ℕ) (l : List �
   unfolding placesOf
   laying-none = record { few = omega arith; counted = refl; long = refl; left = sym laid-none }
 
-  module _ (fit : fits k d (length body) ≡ true) (all : count ≡ length (placesOf (stored k d body) d)) (room : 8 * count ≤ length l) where
+  module _ (fit : bodyFits k d (length body) ≡ true) (all : count ≡ length (placesOf (stored k d body) d)) (room : 8 * count ≤ length l) where
     module _ {out : List ℕ} {n i : ℕ} (h : Laying out n i) where
       -- element i, which is kept or not, and its value's bytes
       module _ (less : i < d) (b : Bool) (kept : b ≡ stored k d body i) where

@@ -11,8 +11,8 @@ use lib.Ieee.{Float, inf, lt, binary32, neg, ofBits}
 use borrow.Rule.Slice.PartMut.{putMid}
 use Rattle.promises.specs.Onto.{onto}
 use Rattle.promises.proofs.Onto.{onto-then}
-use Rattle.elements.specs.Bytes.{put, floatBytes}
-use Rattle.elements.proofs.Numbers.{length-bytesOf}
+use Rattle.little_endian.specs.Bytes.{put, floatBytes}
+use Rattle.little_endian.proofs.Numbers.{length-bytesOf}
 use Rattle.vector_types.specs.Layout.{ceil, bitAt}
 use Rattle.vector_types.specs.declared.VectorType.{VectorType}
 use Rattle.convert.specs.Pieces.{pieces}

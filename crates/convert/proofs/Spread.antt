@@ -10,13 +10,13 @@ use lib.ListN.{length, take, drop, replicate, length-drop, length-replicate}
 use lib.Seq.{length-take-le, take-append-le, drop-append-le, drop-append-seam}
 use lib.Ieee.{Format, binary32, binary64, toBits}
 use borrow.Author.Tests.{leb-false}
-use Rattle.elements.specs.Bytes.{put, width, f32At}
-use Rattle.elements.proofs.Numbers.{length-bytesOf}
-use Rattle.elements.proofs.Put.{length-put}
+use Rattle.little_endian.specs.Bytes.{put, width, f32At}
+use Rattle.little_endian.proofs.Numbers.{length-bytesOf}
+use Rattle.little_endian.proofs.Put.{length-put}
 use Rattle.promises.specs.Onto.{onto}
 use Rattle.promises.proofs.Onto.{onto-within}
-use Rattle.vector_types.specs.Layout.{indexAt, outside}
-use Rattle.vector_types.specs.Search.{some}
+use Rattle.vector_types.specs.Layout.{indexAt, isOutside}
+use Rattle.vector_types.specs.Search.{anyIndex}
 use Rattle.vector_types.proofs.Some.{some-false}
 use Rattle.convert.specs.Dense.{count, entryBytes, spread, spreadBody}
 use Rattle.convert.proofs.Pieces.{Filled, filled, fill-all}
@@ -40,9 +40,9 @@ length-entry : (f : Format) (body : List ℕ) (j : ℕ) → j < count body → l
 length-entry binary32 body j less = length-take-le 4 (drop (4 * j) body) (rw length-drop (omega arith))
 length-entry binary64 body j less = length-bytesOf 8 (toBits binary64 (f32At body (4 * j)))
 
-module _ (f : Format) (d : ℕ) (body : List ℕ) (inside : some (outside body (count body) d) (count body) ≡ false) where
+module _ (f : Format) (d : ℕ) (body : List ℕ) (inside : anyIndex (isOutside body (count body) d) (count body) ≡ false) where
   pub index-below : (j : ℕ) → j < count body → indexAt body (count body) j < d
-  index-below j less = leb-false d (indexAt body (count body) j) (some-false (outside body (count body) d) (count body) inside j less)
+  index-below j less = leb-false d (indexAt body (count body) j) (some-false (isOutside body (count body) d) (count body) inside j less)
 
   entry-room : (j : ℕ) → j < count body → width f * indexAt body (count body) j + width f ≤ width f * d
   entry-room j less = omega (arith, mul-le-mul-left (width f) (index-below j less))

@@ -11,10 +11,10 @@ use lib.ListN.{length, take, drop, length-drop}
 use lib.Seq.{take-all, take-append-le, drop-append-le, drop-at, drop-length}
 use lib.Ieee.{Float, Format, binary32, fits, eq, lt, toBits}
 use Rattle.float_laws.specs.Zero.{plusZero}
-use Rattle.elements.specs.Bytes.{numberAt, bytesOf, width, floatAt, floatBytes, f32At, put}
-use Rattle.elements.proofs.Numbers.{numberAt-drop, numberAt-take, length-bytesOf}
-use Rattle.elements.proofs.Floats.{floatAt-put}
-use Rattle.vector_types.specs.Layout.{is, counted}
+use Rattle.little_endian.specs.Bytes.{numberAt, bytesOf, width, floatAt, floatBytes, f32At, put}
+use Rattle.little_endian.proofs.Numbers.{numberAt-drop, numberAt-take, length-bytesOf}
+use Rattle.little_endian.proofs.Floats.{floatAt-put}
+use Rattle.vector_types.specs.Layout.{hasByte, hasTrailingCount}
 use Rattle.vector_types.specs.declared.VectorType.{VectorType}
 use Rattle.vector_types.specs.declared.VectorType.the-variants.{Float32Dense, Float64Dense, Float32Sparse, Float1Bit, Float8}
 use Rattle.convert.specs.Pieces.{pieces, placesOf, each}
@@ -80,13 +80,13 @@ from Float32Sparse e d = let places = placesOf (λ i. kept (e i)) d in each (λ 
 from Float1Bit e d = packed (λ i. above (e i)) d
 from Float8 e d = quantizedBy (scaleOf e d) e d
 
-one-step : (k t : VectorType) (d : ℕ) (body : List ℕ) → counted k ≡ true → (is 9 t || counted t) ≡ true → made k t d body ≡ from t (element binary32 k d body) d
+one-step : (k t : VectorType) (d : ℕ) (body : List ℕ) → hasTrailingCount k ≡ true → (hasByte 9 t || hasTrailingCount t) ≡ true → made k t d body ≡ from t (element binary32 k d body) d
 unfolding made sparseBody valueBytes bitBody quantizedBody element
 one-step k t d body h n =
     let Claim : VectorType → VectorType → Type 0 = λ k t. made k t d body ≡ from t (element binary32 k d body) d in
     counted-by (λ k. Claim k t) (narrow-by (Claim Float1Bit) refl refl refl t n) (narrow-by (Claim Float8) refl refl refl t n) k h
 
-first-step : (k : VectorType) (d : ℕ) (body : List ℕ) → counted k ≡ true → made k Float32Dense d body ≡ floatsOf binary32 (element binary32 k d body) d
+first-step : (k : VectorType) (d : ℕ) (body : List ℕ) → hasTrailingCount k ≡ true → made k Float32Dense d body ≡ floatsOf binary32 (element binary32 k d body) d
 unfolding made denseBody
 first-step k d body h = counted-by (λ k. made k Float32Dense d body ≡ floatsOf binary32 (element binary32 k d body) d) refl refl k h
 
@@ -104,14 +104,14 @@ module _ (e : ℕ → Float) (d : ℕ) (fit : (i : ℕ) → T (fits binary32 (e 
       let places = places-same (stored Float32Dense d dense) p d (λ i l. ap kept (read-back i l)) in
       rw (places, each-same (valueBytes Float32Dense d dense) (λ i. floatBytes binary32 (e i)) p d (float-bytes-at binary32 e d))
 
-  second-step : (t : VectorType) → (is 9 t || counted t) ≡ true → made Float32Dense t d dense ≡ from t e d
+  second-step : (t : VectorType) → (hasByte 9 t || hasTrailingCount t) ≡ true → made Float32Dense t d dense ≡ from t e d
   unfolding made bitBody quantizedBody element
   second-step =
       let bits = packed-same (positive Float32Dense d dense) (λ i. above (e i)) d (λ i l. ap above (read-back i l)) in
       let quanta = quantized-same (element binary32 Float32Dense d dense) e d read-back in
       narrow-by (λ t. made Float32Dense t d dense ≡ from t e d) sparse-step bits quanta
 
-pub through-made : (k t : VectorType) (d : ℕ) (body : List ℕ) → counted k ≡ true → (is 9 t || counted t) ≡ true
+pub through-made : (k t : VectorType) (d : ℕ) (body : List ℕ) → hasTrailingCount k ≡ true → (hasByte 9 t || hasTrailingCount t) ≡ true
     → made Float32Dense t d (made k Float32Dense d body) ≡ made k t d body
 through-made k t d body h n =
     let second = second-step (element binary32 k d body) d (element-fits binary32 k d body) t n in

@@ -7,12 +7,12 @@ use lib.ListN.{length}
 use lib.Ieee.{binary32}
 use Rattle.promises.specs.Onto.{onto}
 use Rattle.vector_types.specs.Answers.{dims, needing}
-use Rattle.vector_types.specs.Layout.{is, counted}
+use Rattle.vector_types.specs.Layout.{hasByte, hasTrailingCount}
 use Rattle.vector_types.specs.Read.{readOf}
 use Rattle.vector_types.specs.Parts.{bodyOf}
 use Rattle.vector_types.specs.declared.VectorType.{VectorType}
 use Rattle.vector_types.specs.declared.ReadAnswer.{ReadAnswer}
-use Rattle.vector_types.specs.declared.ReadAnswer.the-variants.{View as Seen, Refused as Unread}
+use Rattle.vector_types.specs.declared.ReadAnswer.the-variants.{Accepted, Refused as Unread}
 use Rattle.convert.specs.Dense.{spreadBody}
 use Rattle.convert.specs.Result.{resultOf}
 use Rattle.convert.specs.declared.ConvertAnswer.{ConvertAnswer}
@@ -40,7 +40,7 @@ isConverted (Refused r) = false
 
 -- whether a pair takes scratch, 4 bytes an element: from sparse to 1-bit or Float8
 abbrev pub scratched : VectorType → VectorType → Bool
-scratched k t = is 9 k && counted t
+scratched k t = hasByte 9 k && hasTrailingCount t
 
 -- of a new body: the answer for so much room, and what is left in the output
 abbrev pub answerWith : VectorType → ℕ → List ℕ → ℕ → ConvertAnswer
@@ -75,7 +75,7 @@ bodyOutcome k d body t scratch out =
 
 -- the same of a blob: one that is refused changes nothing
 abbrev pub convertIn : ReadAnswer → List ℕ → VectorType → ℕ → ℕ → ConvertAnswer
-convertIn (Seen v) body t scratch room = answerOf (v .kind) (v .dims .0) body t scratch room
+convertIn (Accepted v) body t scratch room = answerOf (v .kind) (v .dims .0) body t scratch room
 convertIn (Unread r) body t scratch room = Refused r
 
 unfoldable pub convertOf : List ℕ → VectorType → ℕ → ℕ → ConvertAnswer
@@ -83,7 +83,7 @@ unfolding answerOf
 convertOf s t scratch room = convertIn (readOf s) (bodyOf s) t scratch room
 
 abbrev pub outcomeIn : ReadAnswer → List ℕ → VectorType → List ℕ → List ℕ → ConvertOutcome
-outcomeIn (Seen v) body t scratch out = bodyOutcome (v .kind) (v .dims .0) body t scratch out
+outcomeIn (Accepted v) body t scratch out = bodyOutcome (v .kind) (v .dims .0) body t scratch out
 outcomeIn (Unread r) body t scratch out = outcome (Refused r) scratch out
 
 unfoldable pub convertOutcome : List ℕ → VectorType → List ℕ → List ℕ → ConvertOutcome

@@ -3,7 +3,7 @@ use Prim.Native.Nat.{ℕ, zero, suc, _*_, _/_}
 use mathlib.Core.List.{List}
 use lib.ListN.{length, take, drop, replicate}
 use lib.Ieee.{Format, binary32, binary64}
-use Rattle.elements.specs.Bytes.{put, width, floatBytes, f32At}
+use Rattle.little_endian.specs.Bytes.{put, width, floatBytes, f32At}
 use Rattle.vector_types.specs.Layout.{indexAt}
 
 -- how many entries a sparse body has

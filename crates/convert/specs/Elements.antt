@@ -7,7 +7,7 @@ use lib.IntN.{pos}
 use lib.ListN.{getD}
 use lib.Ieee.{Float, fin, Format, binary32, binary64, add, mul, ofInt}
 use Rattle.rounding.specs.Narrow.{narrowed}
-use Rattle.elements.specs.Bytes.{f32At, f64At, floatBytes}
+use Rattle.little_endian.specs.Bytes.{f32At, f64At, floatBytes}
 use Rattle.vector_types.specs.Layout.{ceil, bitAt}
 use Rattle.vector_types.specs.declared.VectorType.{VectorType}
 use Rattle.vector_types.specs.declared.VectorType.the-variants.{Float32Dense, Float64Dense, Float32Sparse, Float1Bit, Float8}

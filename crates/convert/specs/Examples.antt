@@ -6,7 +6,7 @@ use lib.ListN.{replicate}
 use lib.Ieee.{add, sub, mul, div, lt, eq, ofInt, ofBits, toBits}
 use Rattle.rounding.specs.Narrow.{narrowed}
 use Rattle.rounding.specs.Truncate.{truncated}
-use Rattle.elements.specs.Bytes.{numberAt, bytesOf, put}
+use Rattle.little_endian.specs.Bytes.{numberAt, bytesOf, put}
 use Rattle.vector_types.specs.declared.VectorType.{VectorType}
 use Rattle.vector_types.specs.declared.VectorType.the-variants.{Float32Dense, Float64Dense, Float32Sparse, Float1Bit, Float8}
 use Rattle.convert.specs.Pieces.{each}

@@ -8,7 +8,7 @@ use lib.ListN.{replicate}
 use lib.Ieee.{Float, inf, fin, binary32, add, sub, div, lt, eq, ofInt}
 use Rattle.float_laws.specs.Zero.{plusZero}
 use Rattle.rounding.specs.Truncate.{truncated}
-use Rattle.elements.specs.Bytes.{floatBytes}
+use Rattle.little_endian.specs.Bytes.{floatBytes}
 use Rattle.vector_types.specs.Layout.{ceil}
 use Rattle.vector_types.specs.declared.VectorType.{VectorType}
 use Rattle.convert.specs.Pieces.{pieces}

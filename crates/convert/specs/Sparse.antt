@@ -5,7 +5,7 @@ use mathlib.Core.List.{List, _++_}
 use lib.ListN.{take, drop}
 use lib.Ieee.{binary32, eq}
 use Rattle.float_laws.specs.Zero.{plusZero}
-use Rattle.elements.specs.Bytes.{bytesOf, floatBytes}
+use Rattle.little_endian.specs.Bytes.{bytesOf, floatBytes}
 use Rattle.vector_types.specs.declared.VectorType.{VectorType}
 use Rattle.vector_types.specs.declared.VectorType.the-variants.{Float32Dense, Float64Dense, Float32Sparse, Float1Bit, Float8}
 use Rattle.convert.specs.Pieces.{placesOf, each}

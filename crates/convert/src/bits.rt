@@ -5,7 +5,7 @@ ghost use Prim.Native.Nat.{_≤_, _<_};
 ghost use lib.Dec.{ltb};
 ghost use lib.ListN.{length};
 ghost use Rattle.promises.specs.Onto.{onto};
-ghost use Rattle.vector_types.specs.Layout.{mostDims, is, fits, ceil};
+ghost use Rattle.vector_types.specs.Layout.{maxDims, hasByte, bodyFits, ceil};
 ghost use Rattle.convert.specs.Bits.{positive, packedByte, bitBody};
 ghost use Rattle.vector_types.specs.declared.VectorType.the-variants.{Float32Dense, Float64Dense, Float8};
 ghost use Rattle.convert.specs.Quantized.{scaleIn};
@@ -16,31 +16,31 @@ use vector_types::VectorType;
 // Whether there is an element i and it is greater than 0. A pattern is tested as it stands: those of
 // the numbers greater than 0 lie above 0 and up to that of infinity.
 fn positive32(dims: usize, body: &[u8], i: usize) -> bool
-    requires { ⌜ dims ≤ mostDims ⌝ }
-    requires { ⌜ fits Float32Dense dims (length (now body)) ≡ true ⌝ }
+    requires { ⌜ dims ≤ maxDims ⌝ }
+    requires { ⌜ bodyFits Float32Dense dims (length (now body)) ≡ true ⌝ }
     ensures { λ r. ⌜ r ≡ (ltb i dims && positive Float32Dense dims (now (body .entry)) i) ⌝ }
 {
     if dims <= i {
         return false;
     }
-    let bits = elements::u32_at(body, 4 * i);
+    let bits = little_endian::u32_at(body, 4 * i);
     0 < bits && bits <= 0x7f80_0000
 }
 
 fn positive64(dims: usize, body: &[u8], i: usize) -> bool
-    requires { ⌜ dims ≤ mostDims ⌝ }
-    requires { ⌜ fits Float64Dense dims (length (now body)) ≡ true ⌝ }
+    requires { ⌜ dims ≤ maxDims ⌝ }
+    requires { ⌜ bodyFits Float64Dense dims (length (now body)) ≡ true ⌝ }
     ensures { λ r. ⌜ r ≡ (ltb i dims && positive Float64Dense dims (now (body .entry)) i) ⌝ }
 {
     if dims <= i {
         return false;
     }
-    let bits = elements::u64_at(body, 8 * i);
+    let bits = little_endian::u64_at(body, 8 * i);
     0 < bits && bits <= 0x7ff0_0000_0000_0000
 }
 
 fn positive8(scale: Scale, dims: usize, body: &[u8], i: usize) -> bool
-    requires { ⌜ fits Float8 dims (length (now body)) ≡ true ⌝ }
+    requires { ⌜ bodyFits Float8 dims (length (now body)) ≡ true ⌝ }
     requires { ⌜ scale ≡ scaleIn dims (now body) ⌝ }
     ensures { λ r. ⌜ r ≡ (ltb i dims && positive Float8 dims (now (body .entry)) i) ⌝ }
 {
@@ -59,8 +59,8 @@ fn weighed(set: bool, weight: u32) -> u32
 
 // Byte m of the bits, a function for each kind.
 fn packed32(dims: usize, body: &[u8], m: usize) -> u8
-    requires { ⌜ dims ≤ mostDims ⌝ }
-    requires { ⌜ fits Float32Dense dims (length (now body)) ≡ true ⌝ }
+    requires { ⌜ dims ≤ maxDims ⌝ }
+    requires { ⌜ bodyFits Float32Dense dims (length (now body)) ≡ true ⌝ }
     requires { ⌜ m < ceil dims 8 ⌝ }
     ensures { λ r. ⌜ r ≡ packedByte (positive Float32Dense dims (now (body .entry))) dims m 8 ⌝ }
 {
@@ -76,8 +76,8 @@ fn packed32(dims: usize, body: &[u8], m: usize) -> u8
 }
 
 fn packed64(dims: usize, body: &[u8], m: usize) -> u8
-    requires { ⌜ dims ≤ mostDims ⌝ }
-    requires { ⌜ fits Float64Dense dims (length (now body)) ≡ true ⌝ }
+    requires { ⌜ dims ≤ maxDims ⌝ }
+    requires { ⌜ bodyFits Float64Dense dims (length (now body)) ≡ true ⌝ }
     requires { ⌜ m < ceil dims 8 ⌝ }
     ensures { λ r. ⌜ r ≡ packedByte (positive Float64Dense dims (now (body .entry))) dims m 8 ⌝ }
 {
@@ -93,8 +93,8 @@ fn packed64(dims: usize, body: &[u8], m: usize) -> u8
 }
 
 fn packed8(dims: usize, body: &[u8], m: usize) -> u8
-    requires { ⌜ dims ≤ mostDims ⌝ }
-    requires { ⌜ fits Float8 dims (length (now body)) ≡ true ⌝ }
+    requires { ⌜ dims ≤ maxDims ⌝ }
+    requires { ⌜ bodyFits Float8 dims (length (now body)) ≡ true ⌝ }
     requires { ⌜ m < ceil dims 8 ⌝ }
     ensures { λ r. ⌜ r ≡ packedByte (positive Float8 dims (now (body .entry))) dims m 8 ⌝ }
 {
@@ -111,10 +111,10 @@ fn packed8(dims: usize, body: &[u8], m: usize) -> u8
 }
 
 fn packed_byte(kind: VectorType, dims: usize, body: &[u8], m: usize) -> u8
-    requires { ⌜ dims ≤ mostDims ⌝ }
-    requires { ⌜ fits kind dims (length (now body)) ≡ true ⌝ }
-    requires { ⌜ is 9 kind ≡ false ⌝ }
-    requires { ⌜ is 3 kind ≡ false ⌝ }
+    requires { ⌜ dims ≤ maxDims ⌝ }
+    requires { ⌜ bodyFits kind dims (length (now body)) ≡ true ⌝ }
+    requires { ⌜ hasByte 9 kind ≡ false ⌝ }
+    requires { ⌜ hasByte 3 kind ≡ false ⌝ }
     requires { ⌜ m < ceil dims 8 ⌝ }
     ensures { λ r. ⌜ r ≡ packedByte (positive kind dims (now (body .entry))) dims m 8 ⌝ }
 {
@@ -131,11 +131,11 @@ fn packed_byte(kind: VectorType, dims: usize, body: &[u8], m: usize) -> u8
 
 // Puts the bits at the start of out.
 pub(crate) fn put_bits(kind: VectorType, dims: usize, body: &[u8], out: &mut [u8])
-    requires { ⌜ dims ≤ mostDims ⌝ }
-    requires { ⌜ fits kind dims (length (now body)) ≡ true ⌝ }
-    requires { ⌜ is 9 kind ≡ false ⌝ }
+    requires { ⌜ dims ≤ maxDims ⌝ }
+    requires { ⌜ bodyFits kind dims (length (now body)) ≡ true ⌝ }
+    requires { ⌜ hasByte 9 kind ≡ false ⌝ }
     requires { ⌜ ceil dims 8 ≤ length (now out) ⌝ }
-    requires { ⌜ is 3 kind ≡ false ⌝ }
+    requires { ⌜ hasByte 3 kind ≡ false ⌝ }
     ensures { λ _. ⌜ now (out .exit) ≡ onto (bitBody kind dims (now (body .entry))) (now (out .entry)) ⌝ }
 {
     let size = (dims + 7) / 8;

@@ -5,7 +5,7 @@ ghost use Prim.Native.Nat.{_+_, _*_, _%_, _≤_};
 ghost use lib.ListN.{length, replicate};
 ghost use lib.Ieee.{binary32, binary64};
 ghost use Rattle.promises.specs.Onto.{onto};
-ghost use Rattle.vector_types.specs.Layout.{mostDims, ceil, is, fits, strays};
+ghost use Rattle.vector_types.specs.Layout.{maxDims, ceil, hasByte, bodyFits, hasIndexOutside};
 ghost use Rattle.vector_types.specs.declared.VectorType.the-variants.{Float32Dense, Float64Dense, Float32Sparse, Float1Bit, Float8};
 ghost use Rattle.convert.specs.Dense.{spreadBody};
 ghost use Rattle.convert.specs.Elements.{element, floatsOf, denseBody};
@@ -15,37 +15,37 @@ use vector_types::VectorType;
 
 // Puts f64 elements as f32.
 fn put_narrowed(dims: usize, body: &[u8], out: &mut [u8])
-    requires { ⌜ dims ≤ mostDims ⌝ }
+    requires { ⌜ dims ≤ maxDims ⌝ }
     requires { ⌜ length (now body) ≡ 8 * dims ⌝ }
     requires { ⌜ 4 * dims ≤ length (now out) ⌝ }
     ensures { λ _. ⌜ now (out .exit) ≡ onto (floatsOf binary32 (element binary32 Float64Dense dims (now (body .entry))) dims) (now (out .entry)) ⌝ }
 {
     let mut i = 0;
     while i < dims {
-        let bits = rounding::narrow_bits(elements::u64_at(body, 8 * i));
-        elements::put_u32(out, 4 * i, bits);
+        let bits = rounding::narrow_bits(little_endian::u64_at(body, 8 * i));
+        little_endian::put_u32(out, 4 * i, bits);
         i += 1;
     }
 }
 
 // Puts f32 elements as f64.
 fn put_widened(dims: usize, body: &[u8], out: &mut [u8])
-    requires { ⌜ dims ≤ mostDims ⌝ }
+    requires { ⌜ dims ≤ maxDims ⌝ }
     requires { ⌜ length (now body) ≡ 4 * dims ⌝ }
     requires { ⌜ 8 * dims ≤ length (now out) ⌝ }
     ensures { λ _. ⌜ now (out .exit) ≡ onto (floatsOf binary64 (element binary64 Float32Dense dims (now (body .entry))) dims) (now (out .entry)) ⌝ }
 {
     let mut i = 0;
     while i < dims {
-        let bits = rounding::widen_bits(elements::u32_at(body, 4 * i));
-        elements::put_u64(out, 8 * i, bits);
+        let bits = rounding::widen_bits(little_endian::u32_at(body, 4 * i));
+        little_endian::put_u64(out, 8 * i, bits);
         i += 1;
     }
 }
 
 // Puts the elements of a 1-bit body in f32, and in f64.
 fn put_units32(dims: usize, body: &[u8], out: &mut [u8])
-    requires { ⌜ dims ≤ mostDims ⌝ }
+    requires { ⌜ dims ≤ maxDims ⌝ }
     requires { ⌜ length (now body) ≡ ceil dims 8 ⌝ }
     requires { ⌜ 4 * dims ≤ length (now out) ⌝ }
     ensures { λ _. ⌜ now (out .exit) ≡ onto (floatsOf binary32 (element binary32 Float1Bit dims (now (body .entry))) dims) (now (out .entry)) ⌝ }
@@ -53,13 +53,13 @@ fn put_units32(dims: usize, body: &[u8], out: &mut [u8])
     let mut i = 0;
     while i < dims {
         let x = unit32(body, i);
-        elements::put_f32(out, 4 * i, x);
+        little_endian::put_f32(out, 4 * i, x);
         i += 1;
     }
 }
 
 fn put_units64(dims: usize, body: &[u8], out: &mut [u8])
-    requires { ⌜ dims ≤ mostDims ⌝ }
+    requires { ⌜ dims ≤ maxDims ⌝ }
     requires { ⌜ length (now body) ≡ ceil dims 8 ⌝ }
     requires { ⌜ 8 * dims ≤ length (now out) ⌝ }
     ensures { λ _. ⌜ now (out .exit) ≡ onto (floatsOf binary64 (element binary64 Float1Bit dims (now (body .entry))) dims) (now (out .entry)) ⌝ }
@@ -67,14 +67,14 @@ fn put_units64(dims: usize, body: &[u8], out: &mut [u8])
     let mut i = 0;
     while i < dims {
         let x = rounding::widen(unit32(body, i));
-        elements::put_f64(out, 8 * i, x);
+        little_endian::put_f64(out, 8 * i, x);
         i += 1;
     }
 }
 
 // Puts the elements of a Float8 body, worked out in f32, and in f64.
 fn put_scaled32(dims: usize, body: &[u8], out: &mut [u8])
-    requires { ⌜ dims ≤ mostDims ⌝ }
+    requires { ⌜ dims ≤ maxDims ⌝ }
     requires { ⌜ length (now body) ≡ 4 * ceil dims 4 + 8 ⌝ }
     requires { ⌜ 4 * dims ≤ length (now out) ⌝ }
     ensures { λ _. ⌜ now (out .exit) ≡ onto (floatsOf binary32 (element binary32 Float8 dims (now (body .entry))) dims) (now (out .entry)) ⌝ }
@@ -83,13 +83,13 @@ fn put_scaled32(dims: usize, body: &[u8], out: &mut [u8])
     let mut i = 0;
     while i < dims {
         let x = scale.single(body[i]);
-        elements::put_f32(out, 4 * i, x);
+        little_endian::put_f32(out, 4 * i, x);
         i += 1;
     }
 }
 
 fn put_scaled64(dims: usize, body: &[u8], out: &mut [u8])
-    requires { ⌜ dims ≤ mostDims ⌝ }
+    requires { ⌜ dims ≤ maxDims ⌝ }
     requires { ⌜ length (now body) ≡ 4 * ceil dims 4 + 8 ⌝ }
     requires { ⌜ 8 * dims ≤ length (now out) ⌝ }
     ensures { λ _. ⌜ now (out .exit) ≡ onto (floatsOf binary64 (element binary64 Float8 dims (now (body .entry))) dims) (now (out .entry)) ⌝ }
@@ -100,7 +100,7 @@ fn put_scaled64(dims: usize, body: &[u8], out: &mut [u8])
     let mut i = 0;
     while i < dims {
         let x = alpha * body[i] as f64 + shift;
-        elements::put_f64(out, 8 * i, x);
+        little_endian::put_f64(out, 8 * i, x);
         i += 1;
     }
 }
@@ -119,9 +119,9 @@ pub(crate) fn put_zeros(n: usize, out: &mut [u8])
 
 // Spreads a sparse body in f32 over the start of out, and in f64.
 pub(crate) fn spread32(dims: usize, body: &[u8], out: &mut [u8])
-    requires { ⌜ dims ≤ mostDims ⌝ }
+    requires { ⌜ dims ≤ maxDims ⌝ }
     requires { ⌜ length (now body) % 8 ≡ 0 ⌝ }
-    requires { ⌜ strays Float32Sparse dims (now body) ≡ false ⌝ }
+    requires { ⌜ hasIndexOutside Float32Sparse dims (now body) ≡ false ⌝ }
     requires { ⌜ 4 * dims ≤ length (now out) ⌝ }
     ensures { λ _. ⌜ now (out .exit) ≡ onto (spreadBody binary32 dims (now (body .entry))) (now (out .entry)) ⌝ }
 {
@@ -129,17 +129,17 @@ pub(crate) fn spread32(dims: usize, body: &[u8], out: &mut [u8])
     let count = body.len() / 8;
     let mut j = 0;
     while j < count {
-        let index = elements::u32_at(body, 4 * count + 4 * j) as usize;
-        let value = elements::u32_at(body, 4 * j);
-        elements::put_u32(out, 4 * index, value);
+        let index = little_endian::u32_at(body, 4 * count + 4 * j) as usize;
+        let value = little_endian::u32_at(body, 4 * j);
+        little_endian::put_u32(out, 4 * index, value);
         j += 1;
     }
 }
 
 fn spread64(dims: usize, body: &[u8], out: &mut [u8])
-    requires { ⌜ dims ≤ mostDims ⌝ }
+    requires { ⌜ dims ≤ maxDims ⌝ }
     requires { ⌜ length (now body) % 8 ≡ 0 ⌝ }
-    requires { ⌜ strays Float32Sparse dims (now body) ≡ false ⌝ }
+    requires { ⌜ hasIndexOutside Float32Sparse dims (now body) ≡ false ⌝ }
     requires { ⌜ 8 * dims ≤ length (now out) ⌝ }
     ensures { λ _. ⌜ now (out .exit) ≡ onto (spreadBody binary64 dims (now (body .entry))) (now (out .entry)) ⌝ }
 {
@@ -147,20 +147,20 @@ fn spread64(dims: usize, body: &[u8], out: &mut [u8])
     let count = body.len() / 8;
     let mut j = 0;
     while j < count {
-        let index = elements::u32_at(body, 4 * count + 4 * j) as usize;
-        let value = rounding::widen_bits(elements::u32_at(body, 4 * j));
-        elements::put_u64(out, 8 * index, value);
+        let index = little_endian::u32_at(body, 4 * count + 4 * j) as usize;
+        let value = rounding::widen_bits(little_endian::u32_at(body, 4 * j));
+        little_endian::put_u64(out, 8 * index, value);
         j += 1;
     }
 }
 
 // Puts the elements of another kind in f32 at the start of out, and in f64.
 pub(crate) fn put_dense32(kind: VectorType, dims: usize, body: &[u8], out: &mut [u8])
-    requires { ⌜ dims ≤ mostDims ⌝ }
-    requires { ⌜ fits kind dims (length (now body)) ≡ true ⌝ }
-    requires { ⌜ strays kind dims (now body) ≡ false ⌝ }
+    requires { ⌜ dims ≤ maxDims ⌝ }
+    requires { ⌜ bodyFits kind dims (length (now body)) ≡ true ⌝ }
+    requires { ⌜ hasIndexOutside kind dims (now body) ≡ false ⌝ }
     requires { ⌜ 4 * dims ≤ length (now out) ⌝ }
-    requires { ⌜ is 1 kind ≡ false ⌝ }
+    requires { ⌜ hasByte 1 kind ≡ false ⌝ }
     ensures { λ _. ⌜ now (out .exit) ≡ onto (denseBody binary32 kind dims (now (body .entry))) (now (out .entry)) ⌝ }
 {
     match kind {
@@ -174,11 +174,11 @@ pub(crate) fn put_dense32(kind: VectorType, dims: usize, body: &[u8], out: &mut 
 }
 
 pub(crate) fn put_dense64(kind: VectorType, dims: usize, body: &[u8], out: &mut [u8])
-    requires { ⌜ dims ≤ mostDims ⌝ }
-    requires { ⌜ fits kind dims (length (now body)) ≡ true ⌝ }
-    requires { ⌜ strays kind dims (now body) ≡ false ⌝ }
+    requires { ⌜ dims ≤ maxDims ⌝ }
+    requires { ⌜ bodyFits kind dims (length (now body)) ≡ true ⌝ }
+    requires { ⌜ hasIndexOutside kind dims (now body) ≡ false ⌝ }
     requires { ⌜ 8 * dims ≤ length (now out) ⌝ }
-    requires { ⌜ is 2 kind ≡ false ⌝ }
+    requires { ⌜ hasByte 2 kind ≡ false ⌝ }
     ensures { λ _. ⌜ now (out .exit) ≡ onto (denseBody binary64 kind dims (now (body .entry))) (now (out .entry)) ⌝ }
 {
     match kind {

@@ -27,7 +27,7 @@ pub fn convert(blob: &[u8], target: VectorType, scratch: &mut [u8], out: &mut [u
     ensures { λ r. ⌜ outcome r (now (scratch .exit)) (now (out .exit)) ≡ convertOutcome (now (blob .entry)) target (now (scratch .entry)) (now (out .entry)) ⌝ }
 {
     match vector_types::read(blob) {
-        ReadAnswer::View(view) => convert_view(blob, view, target, scratch, out),
+        ReadAnswer::Accepted(view) => convert_view(blob, view, target, scratch, out),
         ReadAnswer::Refused(refusal) => ConvertAnswer::Refused(refusal),
     }
 }

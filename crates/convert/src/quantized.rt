@@ -8,8 +8,8 @@ ghost use lib.Ieee.{inf, binary32, lt, eq};
 ghost use Rattle.float_laws.specs.Zero.{plusZero};
 ghost use Rattle.promises.specs.Onto.{onto};
 ghost use Rattle.rounding.specs.Narrow.{narrowed};
-ghost use Rattle.elements.specs.Bytes.{f64At};
-ghost use Rattle.vector_types.specs.Layout.{mostDims, is, fits, ceil};
+ghost use Rattle.little_endian.specs.Bytes.{f64At};
+ghost use Rattle.vector_types.specs.Layout.{maxDims, hasByte, bodyFits, ceil};
 ghost use Rattle.vector_types.specs.declared.VectorType.the-variants.{Float32Dense, Float64Dense, Float1Bit};
 ghost use Rattle.convert.specs.Pieces.{pieces};
 ghost use Rattle.convert.specs.Elements.{element};
@@ -41,7 +41,7 @@ fn narrow_at(body: &[u8], at: usize) -> f32
     requires { ⌜ at + 8 ≤ length (now body) ⌝ }
     ensures { λ r. ⌜ r ≡ narrowed (f64At (now (body .entry)) at) ⌝ }
 {
-    elements::f32_of(rounding::narrow_bits(elements::u64_at(body, at)))
+    little_endian::f32_of(rounding::narrow_bits(little_endian::u64_at(body, at)))
 }
 
 // The range of no elements.
@@ -64,7 +64,7 @@ fn range32(dims: usize, body: &[u8]) -> Range
     let mut found = no_range();
     let mut i = 0;
     while i < dims {
-        let x = elements::f32_at(body, 4 * i);
+        let x = little_endian::f32_at(body, 4 * i);
         found = wider(found, x);
         i += 1;
     }
@@ -106,9 +106,9 @@ fn range1(dims: usize, body: &[u8]) -> Range
 }
 
 fn range_of(kind: VectorType, dims: usize, body: &[u8]) -> Range
-    requires { ⌜ fits kind dims (length (now body)) ≡ true ⌝ }
-    requires { ⌜ is 9 kind ≡ false ⌝ }
-    requires { ⌜ is 4 kind ≡ false ⌝ }
+    requires { ⌜ bodyFits kind dims (length (now body)) ≡ true ⌝ }
+    requires { ⌜ hasByte 9 kind ≡ false ⌝ }
+    requires { ⌜ hasByte 4 kind ≡ false ⌝ }
     ensures { λ r. ⌜ r .low ≡ least (element binary32 kind dims (now (body .entry))) dims ⌝ }
     ensures { λ r. ⌜ r .high ≡ greatest (element binary32 kind dims (now (body .entry))) dims ⌝ }
 {
@@ -124,9 +124,9 @@ fn range_of(kind: VectorType, dims: usize, body: &[u8]) -> Range
 
 // Alpha and shift; of no elements both are 0.0.
 fn scale_of(kind: VectorType, dims: usize, body: &[u8]) -> Scale
-    requires { ⌜ fits kind dims (length (now body)) ≡ true ⌝ }
-    requires { ⌜ is 9 kind ≡ false ⌝ }
-    requires { ⌜ is 4 kind ≡ false ⌝ }
+    requires { ⌜ bodyFits kind dims (length (now body)) ≡ true ⌝ }
+    requires { ⌜ hasByte 9 kind ≡ false ⌝ }
+    requires { ⌜ hasByte 4 kind ≡ false ⌝ }
     ensures { λ r. ⌜ r ≡ scaleOf (element binary32 kind dims (now (body .entry))) dims ⌝ }
 {
     if dims == 0 {
@@ -160,7 +160,7 @@ fn put_quanta32(dims: usize, body: &[u8], scale: Scale, out: &mut [u8])
 {
     let mut i = 0;
     while i < dims {
-        let x = elements::f32_at(body, 4 * i);
+        let x = little_endian::f32_at(body, 4 * i);
         out[i] = quantize(scale, x);
         i += 1;
     }
@@ -200,9 +200,9 @@ fn put_quanta1(dims: usize, body: &[u8], scale: Scale, out: &mut [u8])
 
 // Where alpha is 0.0 every byte is 0.
 fn put_quanta(kind: VectorType, dims: usize, body: &[u8], scale: Scale, out: &mut [u8])
-    requires { ⌜ fits kind dims (length (now body)) ≡ true ⌝ }
-    requires { ⌜ is 9 kind ≡ false ⌝ }
-    requires { ⌜ is 4 kind ≡ false ⌝ }
+    requires { ⌜ bodyFits kind dims (length (now body)) ≡ true ⌝ }
+    requires { ⌜ hasByte 9 kind ≡ false ⌝ }
+    requires { ⌜ hasByte 4 kind ≡ false ⌝ }
     requires { ⌜ dims ≤ length (now out) ⌝ }
     ensures { λ _. ⌜ now (out .exit) ≡ onto (pieces (λ i. quantum (scale .alpha) (scale .shift) (element binary32 kind dims (now (body .entry)) i) ∷ []) dims) (now (out .entry)) ⌝ }
 {
@@ -222,17 +222,17 @@ fn put_quanta(kind: VectorType, dims: usize, body: &[u8], scale: Scale, out: &mu
 
 // Puts the Float8 body at the start of out: the bytes, zeros up to a multiple of 4, alpha and shift.
 pub(crate) fn put_quantized(kind: VectorType, dims: usize, body: &[u8], out: &mut [u8])
-    requires { ⌜ dims ≤ mostDims ⌝ }
-    requires { ⌜ fits kind dims (length (now body)) ≡ true ⌝ }
-    requires { ⌜ is 9 kind ≡ false ⌝ }
+    requires { ⌜ dims ≤ maxDims ⌝ }
+    requires { ⌜ bodyFits kind dims (length (now body)) ≡ true ⌝ }
+    requires { ⌜ hasByte 9 kind ≡ false ⌝ }
     requires { ⌜ 4 * ceil dims 4 + 8 ≤ length (now out) ⌝ }
-    requires { ⌜ is 4 kind ≡ false ⌝ }
+    requires { ⌜ hasByte 4 kind ≡ false ⌝ }
     ensures { λ _. ⌜ now (out .exit) ≡ onto (quantizedBody kind dims (now (body .entry))) (now (out .entry)) ⌝ }
 {
     let end = (dims + 3) / 4 * 4;
     let scale = scale_of(kind, dims, body);
     put_quanta(kind, dims, body, scale, out);
     put_zeros(end - dims, &mut out[dims..]);
-    elements::put_f32(out, end, scale.alpha);
-    elements::put_f32(out, end + 4, scale.shift);
+    little_endian::put_f32(out, end, scale.alpha);
+    little_endian::put_f32(out, end + 4, scale.shift);
 }

@@ -4,10 +4,10 @@ ghost use mathlib.Core.Bool.{false, true, _&&_, _||_};
 ghost use Prim.Native.Nat.{_*_, _≤_};
 ghost use lib.ListN.{length};
 ghost use Rattle.promises.specs.Onto.{onto};
-ghost use Rattle.vector_types.specs.Layout.{mostDims, byteOf, is, counted, fits, strays};
+ghost use Rattle.vector_types.specs.Layout.{maxDims, byteOf, hasByte, hasTrailingCount, bodyFits, hasIndexOutside};
 ghost use Rattle.vector_types.specs.Read.{readOf};
 ghost use Rattle.vector_types.specs.Parts.{bodyOf};
-ghost use Rattle.vector_types.specs.declared.ReadAnswer.the-variants.{View as Seen};
+ghost use Rattle.vector_types.specs.declared.ReadAnswer.the-variants.{Accepted};
 ghost use Rattle.convert.specs.Result.{made, resultOf};
 ghost use Rattle.convert.specs.Convert.{convertedTo, answerWith, outWith, outcome, bodyOutcome};
 ghost use Rattle.vector_types.specs.declared.VectorType.the-variants.{Float32Sparse};
@@ -28,14 +28,14 @@ use vector_types::is_same_kind;
 use vector_types::type_byte;
 
 fn is_sparse(kind: VectorType) -> bool
-    ensures { λ r. ⌜ r ≡ is 9 kind ⌝ }
+    ensures { λ r. ⌜ r ≡ hasByte 9 kind ⌝ }
 {
     type_byte(kind) == 9
 }
 
 // Whether blobs of a kind carry a trailing count.
 fn is_counted(kind: VectorType) -> bool
-    ensures { λ r. ⌜ r ≡ counted kind ⌝ }
+    ensures { λ r. ⌜ r ≡ hasTrailingCount kind ⌝ }
 {
     let byte = type_byte(kind);
     byte == 3 || byte == 4
@@ -43,10 +43,10 @@ fn is_counted(kind: VectorType) -> bool
 
 // How long the body is that one step makes.
 fn made_length(kind: VectorType, target: VectorType, dims: usize, body: &[u8]) -> usize
-    requires { ⌜ dims ≤ mostDims ⌝ }
-    requires { ⌜ fits kind dims (length (now body)) ≡ true ⌝ }
-    requires { ⌜ strays kind dims (now body) ≡ false ⌝ }
-    requires { ⌜ (is 9 kind && is 9 target) ≡ false ⌝ }
+    requires { ⌜ dims ≤ maxDims ⌝ }
+    requires { ⌜ bodyFits kind dims (length (now body)) ≡ true ⌝ }
+    requires { ⌜ hasIndexOutside kind dims (now body) ≡ false ⌝ }
+    requires { ⌜ (hasByte 9 kind && hasByte 9 target) ≡ false ⌝ }
     ensures { λ r. ⌜ r ≡ length (made kind target dims (now (body .entry))) ⌝ }
 {
     match target {
@@ -68,13 +68,13 @@ fn put_made(
     size: usize,
     out: &mut [u8],
 )
-    requires { ⌜ dims ≤ mostDims ⌝ }
-    requires { ⌜ fits kind dims (length (now body)) ≡ true ⌝ }
-    requires { ⌜ strays kind dims (now body) ≡ false ⌝ }
-    requires { ⌜ (is 9 kind && (is 9 target || counted target)) ≡ false ⌝ }
+    requires { ⌜ dims ≤ maxDims ⌝ }
+    requires { ⌜ bodyFits kind dims (length (now body)) ≡ true ⌝ }
+    requires { ⌜ hasIndexOutside kind dims (now body) ≡ false ⌝ }
+    requires { ⌜ (hasByte 9 kind && (hasByte 9 target || hasTrailingCount target)) ≡ false ⌝ }
     requires { ⌜ size ≡ length (made kind target dims (now body)) ⌝ }
     requires { ⌜ size ≤ length (now out) ⌝ }
-    requires { ⌜ is (byteOf target) kind ≡ false ⌝ }
+    requires { ⌜ hasByte (byteOf target) kind ≡ false ⌝ }
     ensures { λ _. ⌜ now (out .exit) ≡ onto (made kind target dims (now (body .entry))) (now (out .entry)) ⌝ }
 {
     match target {
@@ -88,7 +88,7 @@ fn put_made(
 
 // Whether a pair takes scratch: from sparse, in two steps.
 fn is_scratched(kind: VectorType, target: VectorType) -> bool
-    ensures { λ r. ⌜ r ≡ (is 9 kind && counted target) ⌝ }
+    ensures { λ r. ⌜ r ≡ (hasByte 9 kind && hasTrailingCount target) ⌝ }
 {
     if is_sparse(kind) {
         return is_counted(target);
@@ -114,10 +114,10 @@ fn convert_through(
     scratch: &mut [u8],
     out: &mut [u8],
 ) -> ConvertAnswer
-    requires { ⌜ dims ≤ mostDims ⌝ }
-    requires { ⌜ fits Float32Sparse dims (length (now body)) ≡ true ⌝ }
-    requires { ⌜ strays Float32Sparse dims (now body) ≡ false ⌝ }
-    requires { ⌜ counted target ≡ true ⌝ }
+    requires { ⌜ dims ≤ maxDims ⌝ }
+    requires { ⌜ bodyFits Float32Sparse dims (length (now body)) ≡ true ⌝ }
+    requires { ⌜ hasIndexOutside Float32Sparse dims (now body) ≡ false ⌝ }
+    requires { ⌜ hasTrailingCount target ≡ true ⌝ }
     ensures { λ r. ⌜ outcome r (now (scratch .exit)) (now (out .exit)) ≡ bodyOutcome Float32Sparse dims (now (body .entry)) target (now (scratch .entry)) (now (out .entry)) ⌝ }
 {
     let whole = 4 * dims;
@@ -154,10 +154,10 @@ fn convert_body(
     target: VectorType,
     out: &mut [u8],
 ) -> ConvertAnswer
-    requires { ⌜ dims ≤ mostDims ⌝ }
-    requires { ⌜ fits kind dims (length (now body)) ≡ true ⌝ }
-    requires { ⌜ strays kind dims (now body) ≡ false ⌝ }
-    requires { ⌜ (is 9 kind && counted target) ≡ false ⌝ }
+    requires { ⌜ dims ≤ maxDims ⌝ }
+    requires { ⌜ bodyFits kind dims (length (now body)) ≡ true ⌝ }
+    requires { ⌜ hasIndexOutside kind dims (now body) ≡ false ⌝ }
+    requires { ⌜ (hasByte 9 kind && hasTrailingCount target) ≡ false ⌝ }
     ensures { λ r. ⌜ r ≡ answerWith target dims (resultOf kind target dims (now (body .entry))) (length (now (out .entry))) ⌝ }
     ensures { λ _. ⌜ now (out .exit) ≡ outWith (resultOf kind target dims (now (body .entry))) (now (out .entry)) ⌝ }
 {
@@ -181,11 +181,11 @@ fn convert_made(
     target: VectorType,
     out: &mut [u8],
 ) -> ConvertAnswer
-    requires { ⌜ dims ≤ mostDims ⌝ }
-    requires { ⌜ fits kind dims (length (now body)) ≡ true ⌝ }
-    requires { ⌜ strays kind dims (now body) ≡ false ⌝ }
-    requires { ⌜ (is 9 kind && (is 9 target || counted target)) ≡ false ⌝ }
-    requires { ⌜ is (byteOf target) kind ≡ false ⌝ }
+    requires { ⌜ dims ≤ maxDims ⌝ }
+    requires { ⌜ bodyFits kind dims (length (now body)) ≡ true ⌝ }
+    requires { ⌜ hasIndexOutside kind dims (now body) ≡ false ⌝ }
+    requires { ⌜ (hasByte 9 kind && (hasByte 9 target || hasTrailingCount target)) ≡ false ⌝ }
+    requires { ⌜ hasByte (byteOf target) kind ≡ false ⌝ }
     ensures { λ r. ⌜ r ≡ answerWith target dims (made kind target dims (now (body .entry))) (length (now (out .entry))) ⌝ }
     ensures { λ _. ⌜ now (out .exit) ≡ outWith (made kind target dims (now (body .entry))) (now (out .entry)) ⌝ }
 {
@@ -208,7 +208,7 @@ pub(crate) fn convert_view(
     scratch: &mut [u8],
     out: &mut [u8],
 ) -> ConvertAnswer
-    requires { ⌜ readOf (now blob) ≡ Seen view ⌝ }
+    requires { ⌜ readOf (now blob) ≡ Accepted view ⌝ }
     ensures { λ r. ⌜ outcome r (now (scratch .exit)) (now (out .exit)) ≡ bodyOutcome (view .kind) (view .dims .0) (bodyOf (now (blob .entry))) target (now (scratch .entry)) (now (out .entry)) ⌝ }
 {
     let kind = view.kind;

@@ -3,7 +3,7 @@ ghost use mathlib.Core.Path.{_≡_};
 ghost use Prim.Native.Nat.{_+_, _*_, _≤_};
 ghost use lib.ListN.{length};
 ghost use lib.Ieee.{binary32};
-ghost use Rattle.vector_types.specs.Layout.{mostDims, ceil};
+ghost use Rattle.vector_types.specs.Layout.{maxDims, ceil};
 ghost use Rattle.convert.specs.Elements.{scaled};
 ghost use Rattle.convert.specs.Quantized.{scaleIn};
 
@@ -14,13 +14,13 @@ pub struct Scale {
 
 // Those of a body, which stand after its padded bytes.
 pub(crate) fn scale_at(dims: usize, body: &[u8]) -> Scale
-    requires { ⌜ dims ≤ mostDims ⌝ }
+    requires { ⌜ dims ≤ maxDims ⌝ }
     requires { ⌜ length (now body) ≡ 4 * ceil dims 4 + 8 ⌝ }
     ensures { λ r. ⌜ r ≡ scaleIn dims (now (body .entry)) ⌝ }
 {
     let end = 4 * ((dims + 3) / 4);
-    let alpha = elements::f32_at(body, end);
-    let shift = elements::f32_at(body, end + 4);
+    let alpha = little_endian::f32_at(body, end);
+    let shift = little_endian::f32_at(body, end + 4);
     Scale { alpha, shift }
 }
 

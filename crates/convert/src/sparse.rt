@@ -8,8 +8,8 @@ ghost use lib.ListN.{length};
 ghost use lib.Ieee.{binary32, binary64, ofBits};
 ghost use Rattle.promises.specs.Onto.{onto};
 ghost use Rattle.rounding.specs.Narrow.{narrowed};
-ghost use Rattle.elements.specs.Bytes.{put, bytesOf, floatBytes};
-ghost use Rattle.vector_types.specs.Layout.{mostDims, is, fits};
+ghost use Rattle.little_endian.specs.Bytes.{put, bytesOf, floatBytes};
+ghost use Rattle.vector_types.specs.Layout.{maxDims, hasByte, bodyFits};
 ghost use Rattle.vector_types.specs.declared.VectorType.the-variants.{Float32Dense, Float64Dense, Float1Bit, Float8};
 ghost use Rattle.convert.specs.Pieces.{placesOf};
 ghost use Rattle.convert.specs.Sparse.{stored, sparseBody};
@@ -19,7 +19,7 @@ use vector_types::VectorType;
 
 // One more, if an element is kept.
 fn counted(kept: bool, n: usize) -> usize
-    requires { ⌜ n < mostDims ⌝ }
+    requires { ⌜ n < maxDims ⌝ }
     ensures { λ r. ⌜ r ≡ n + cond kept 1 0 ⌝ }
 {
     if kept { n + 1 } else { n }
@@ -28,14 +28,14 @@ fn counted(kept: bool, n: usize) -> usize
 // How many elements are stored, those that are not 0.0, before any rounding: a loop for each kind. A
 // pattern without its sign is 0 exactly for the two zeros.
 fn count32(dims: usize, body: &[u8]) -> usize
-    requires { ⌜ dims ≤ mostDims ⌝ }
-    requires { ⌜ fits Float32Dense dims (length (now body)) ≡ true ⌝ }
+    requires { ⌜ dims ≤ maxDims ⌝ }
+    requires { ⌜ bodyFits Float32Dense dims (length (now body)) ≡ true ⌝ }
     ensures { λ r. ⌜ r ≡ length (placesOf (stored Float32Dense dims (now (body .entry))) dims) ⌝ }
 {
     let mut n = 0;
     let mut i = 0;
     while i < dims {
-        let bits = elements::u32_at(body, 4 * i);
+        let bits = little_endian::u32_at(body, 4 * i);
         n = counted(bits % 0x8000_0000 != 0, n);
         i += 1;
     }
@@ -43,14 +43,14 @@ fn count32(dims: usize, body: &[u8]) -> usize
 }
 
 fn count64(dims: usize, body: &[u8]) -> usize
-    requires { ⌜ dims ≤ mostDims ⌝ }
-    requires { ⌜ fits Float64Dense dims (length (now body)) ≡ true ⌝ }
+    requires { ⌜ dims ≤ maxDims ⌝ }
+    requires { ⌜ bodyFits Float64Dense dims (length (now body)) ≡ true ⌝ }
     ensures { λ r. ⌜ r ≡ length (placesOf (stored Float64Dense dims (now (body .entry))) dims) ⌝ }
 {
     let mut n = 0;
     let mut i = 0;
     while i < dims {
-        let bits = elements::u64_at(body, 8 * i);
+        let bits = little_endian::u64_at(body, 8 * i);
         n = counted(bits % 0x8000_0000_0000_0000 != 0, n);
         i += 1;
     }
@@ -58,8 +58,8 @@ fn count64(dims: usize, body: &[u8]) -> usize
 }
 
 fn count8(dims: usize, body: &[u8]) -> usize
-    requires { ⌜ dims ≤ mostDims ⌝ }
-    requires { ⌜ fits Float8 dims (length (now body)) ≡ true ⌝ }
+    requires { ⌜ dims ≤ maxDims ⌝ }
+    requires { ⌜ bodyFits Float8 dims (length (now body)) ≡ true ⌝ }
     ensures { λ r. ⌜ r ≡ length (placesOf (stored Float8 dims (now (body .entry))) dims) ⌝ }
 {
     let scale = scale_at(dims, body);
@@ -74,9 +74,9 @@ fn count8(dims: usize, body: &[u8]) -> usize
 }
 
 pub(crate) fn count_stored(kind: VectorType, dims: usize, body: &[u8]) -> usize
-    requires { ⌜ dims ≤ mostDims ⌝ }
-    requires { ⌜ fits kind dims (length (now body)) ≡ true ⌝ }
-    requires { ⌜ is 9 kind ≡ false ⌝ }
+    requires { ⌜ dims ≤ maxDims ⌝ }
+    requires { ⌜ bodyFits kind dims (length (now body)) ≡ true ⌝ }
+    requires { ⌜ hasByte 9 kind ≡ false ⌝ }
     ensures { λ r. ⌜ r ≡ length (placesOf (stored kind dims (now (body .entry))) dims) ⌝ }
 {
     match kind {
@@ -92,7 +92,7 @@ pub(crate) fn count_stored(kind: VectorType, dims: usize, body: &[u8]) -> usize
 // Puts element i, if it is kept, as entry n of count: the four bytes of its value, and its index.
 // Answers how many entries there are then.
 fn put_entry(kept: bool, value: u32, i: usize, count: usize, n: usize, out: &mut [u8]) -> usize
-    requires { ⌜ i < mostDims ⌝ }
+    requires { ⌜ i < maxDims ⌝ }
     requires { ⌜ n + length (cond kept (i ∷ []) []) ≤ count ⌝ }
     requires { ⌜ 8 * count ≤ length (now out) ⌝ }
     ensures { λ r. ⌜ r ≡ n + length (cond kept (i ∷ []) []) ⌝ }
@@ -101,8 +101,8 @@ fn put_entry(kept: bool, value: u32, i: usize, count: usize, n: usize, out: &mut
         (now (out .entry)) ⌝ }
 {
     if kept {
-        elements::put_u32(out, 4 * n, value);
-        elements::put_u32(out, 4 * count + 4 * n, i as u32);
+        little_endian::put_u32(out, 4 * n, value);
+        little_endian::put_u32(out, 4 * count + 4 * n, i as u32);
         return n + 1;
     }
     n
@@ -110,7 +110,7 @@ fn put_entry(kept: bool, value: u32, i: usize, count: usize, n: usize, out: &mut
 
 // The same of an f64 by its pattern: it is narrowed only if it is no zero.
 fn put_double(bits: u64, i: usize, count: usize, n: usize, out: &mut [u8]) -> usize
-    requires { ⌜ i < mostDims ⌝ }
+    requires { ⌜ i < maxDims ⌝ }
     requires { ⌜ n + length (cond (not (eqb (bits % 0x8000_0000_0000_0000) 0)) (i ∷ []) []) ≤ count ⌝ }
     requires { ⌜ 8 * count ≤ length (now out) ⌝ }
     ensures { λ r. ⌜ r ≡ n + length (cond (not (eqb (bits % 0x8000_0000_0000_0000) 0)) (i ∷ []) []) ⌝ }
@@ -127,8 +127,8 @@ fn put_double(bits: u64, i: usize, count: usize, n: usize, out: &mut [u8]) -> us
 // Puts the count elements that are stored at the start of out, their values, then their indices: a loop
 // for each kind.
 fn put_stored32(dims: usize, body: &[u8], count: usize, out: &mut [u8])
-    requires { ⌜ dims ≤ mostDims ⌝ }
-    requires { ⌜ fits Float32Dense dims (length (now body)) ≡ true ⌝ }
+    requires { ⌜ dims ≤ maxDims ⌝ }
+    requires { ⌜ bodyFits Float32Dense dims (length (now body)) ≡ true ⌝ }
     requires { ⌜ count ≡ length (placesOf (stored Float32Dense dims (now body)) dims) ⌝ }
     requires { ⌜ 8 * count ≤ length (now out) ⌝ }
     ensures { λ _. ⌜ now (out .exit) ≡ onto (sparseBody Float32Dense dims (now (body .entry))) (now (out .entry)) ⌝ }
@@ -136,15 +136,15 @@ fn put_stored32(dims: usize, body: &[u8], count: usize, out: &mut [u8])
     let mut n = 0;
     let mut i = 0;
     while i < dims {
-        let bits = elements::u32_at(body, 4 * i);
+        let bits = little_endian::u32_at(body, 4 * i);
         n = put_entry(bits % 0x8000_0000 != 0, bits, i, count, n, out);
         i += 1;
     }
 }
 
 fn put_stored64(dims: usize, body: &[u8], count: usize, out: &mut [u8])
-    requires { ⌜ dims ≤ mostDims ⌝ }
-    requires { ⌜ fits Float64Dense dims (length (now body)) ≡ true ⌝ }
+    requires { ⌜ dims ≤ maxDims ⌝ }
+    requires { ⌜ bodyFits Float64Dense dims (length (now body)) ≡ true ⌝ }
     requires { ⌜ count ≡ length (placesOf (stored Float64Dense dims (now body)) dims) ⌝ }
     requires { ⌜ 8 * count ≤ length (now out) ⌝ }
     ensures { λ _. ⌜ now (out .exit) ≡ onto (sparseBody Float64Dense dims (now (body .entry))) (now (out .entry)) ⌝ }
@@ -152,15 +152,15 @@ fn put_stored64(dims: usize, body: &[u8], count: usize, out: &mut [u8])
     let mut n = 0;
     let mut i = 0;
     while i < dims {
-        let bits = elements::u64_at(body, 8 * i);
+        let bits = little_endian::u64_at(body, 8 * i);
         n = put_double(bits, i, count, n, out);
         i += 1;
     }
 }
 
 fn put_stored1(dims: usize, body: &[u8], count: usize, out: &mut [u8])
-    requires { ⌜ dims ≤ mostDims ⌝ }
-    requires { ⌜ fits Float1Bit dims (length (now body)) ≡ true ⌝ }
+    requires { ⌜ dims ≤ maxDims ⌝ }
+    requires { ⌜ bodyFits Float1Bit dims (length (now body)) ≡ true ⌝ }
     requires { ⌜ count ≡ length (placesOf (stored Float1Bit dims (now body)) dims) ⌝ }
     requires { ⌜ 8 * count ≤ length (now out) ⌝ }
     ensures { λ _. ⌜ now (out .exit) ≡ onto (sparseBody Float1Bit dims (now (body .entry))) (now (out .entry)) ⌝ }
@@ -169,14 +169,14 @@ fn put_stored1(dims: usize, body: &[u8], count: usize, out: &mut [u8])
     let mut i = 0;
     while i < dims {
         let x = unit32(body, i);
-        n = put_entry(true, elements::bits32(x), i, count, n, out);
+        n = put_entry(true, little_endian::bits32(x), i, count, n, out);
         i += 1;
     }
 }
 
 fn put_stored8(dims: usize, body: &[u8], count: usize, out: &mut [u8])
-    requires { ⌜ dims ≤ mostDims ⌝ }
-    requires { ⌜ fits Float8 dims (length (now body)) ≡ true ⌝ }
+    requires { ⌜ dims ≤ maxDims ⌝ }
+    requires { ⌜ bodyFits Float8 dims (length (now body)) ≡ true ⌝ }
     requires { ⌜ count ≡ length (placesOf (stored Float8 dims (now body)) dims) ⌝ }
     requires { ⌜ 8 * count ≤ length (now out) ⌝ }
     ensures { λ _. ⌜ now (out .exit) ≡ onto (sparseBody Float8 dims (now (body .entry))) (now (out .entry)) ⌝ }
@@ -186,15 +186,15 @@ fn put_stored8(dims: usize, body: &[u8], count: usize, out: &mut [u8])
     let mut i = 0;
     while i < dims {
         let x = scale.single(body[i]);
-        n = put_entry(x != 0.0, elements::bits32(x), i, count, n, out);
+        n = put_entry(x != 0.0, little_endian::bits32(x), i, count, n, out);
         i += 1;
     }
 }
 
 pub(crate) fn put_sparse(kind: VectorType, dims: usize, body: &[u8], count: usize, out: &mut [u8])
-    requires { ⌜ dims ≤ mostDims ⌝ }
-    requires { ⌜ fits kind dims (length (now body)) ≡ true ⌝ }
-    requires { ⌜ is 9 kind ≡ false ⌝ }
+    requires { ⌜ dims ≤ maxDims ⌝ }
+    requires { ⌜ bodyFits kind dims (length (now body)) ≡ true ⌝ }
+    requires { ⌜ hasByte 9 kind ≡ false ⌝ }
     requires { ⌜ count ≡ length (placesOf (stored kind dims (now body)) dims) ⌝ }
     requires { ⌜ 8 * count ≤ length (now out) ⌝ }
     ensures { λ _. ⌜ now (out .exit) ≡ onto (sparseBody kind dims (now (body .entry))) (now (out .entry)) ⌝ }

@@ -7,23 +7,23 @@ use Prim.Native.Nat.{ℕ, _<_}
 use native.Mathlib.Omega.{arith}
 use lib.ListN.{getD}
 use lib.Ieee.{Float}
-use Rattle.vector_types.specs.Layout.{is}
+use Rattle.vector_types.specs.Layout.{hasByte}
 use Rattle.vector_types.specs.declared.VectorType.{VectorType}
 use Rattle.vector_types.specs.declared.VectorType.the-variants.{Float32Dense, Float64Dense, Float32Sparse, Float1Bit, Float8}
-use Rattle.distance.specs.Table.{rowOf, columnOf}
+use Rattle.distance.specs.Table.{distanceRow, kindColumn}
 use Rattle.distance_sums.specs.Values.{l2Of}
 use Rattle.distance.specs.Values.{existsFor, valueOf}
 use Rattle.distance.specs.declared.Distance.{Distance}
 use Rattle.distance.specs.declared.Distance.the-variants.{Cos, L2, Dot, Jaccard}
 
 -- ---- the table
-pub row-below : (m : Distance) → rowOf m < 4
+pub row-below : (m : Distance) → distanceRow m < 4
 row-below Cos = omega arith
 row-below L2 = omega arith
 row-below Dot = omega arith
 row-below Jaccard = omega arith
 
-pub column-below : (k : VectorType) → columnOf k < 5
+pub column-below : (k : VectorType) → kindColumn k < 5
 column-below Float32Dense = omega arith
 column-below Float64Dense = omega arith
 column-below Float32Sparse = omega arith
@@ -34,7 +34,7 @@ column-below Float8 = omega arith
 abbrev along : {A : Type 0} → (VectorType → A) → List A
 along f = f Float32Dense ∷ f Float64Dense ∷ f Float32Sparse ∷ f Float1Bit ∷ f Float8 ∷ []
 
-in-column : {A : Type 0} (f : VectorType → A) (e : A) (k : VectorType) → getD (along f) (columnOf k) e ≡ f k
+in-column : {A : Type 0} (f : VectorType → A) (e : A) (k : VectorType) → getD (along f) (kindColumn k) e ≡ f k
 in-column f e Float32Dense = refl
 in-column f e Float64Dense = refl
 in-column f e Float32Sparse = refl
@@ -44,7 +44,7 @@ in-column f e Float8 = refl
 abbrev pub table : List (List Bool)
 table = along (existsFor Cos) ∷ along (existsFor L2) ∷ along (existsFor Dot) ∷ along (existsFor Jaccard) ∷ []
 
-pub cell : (m : Distance) (k : VectorType) → getD (getD table (rowOf m) []) (columnOf k) false ≡ existsFor m k
+pub cell : (m : Distance) (k : VectorType) → getD (getD table (distanceRow m) []) (kindColumn k) false ≡ existsFor m k
 cell Cos k = in-column (existsFor Cos) false k
 cell L2 k = in-column (existsFor L2) false k
 cell Dot k = in-column (existsFor Dot) false k
@@ -74,7 +74,7 @@ absent m k d a b e = by (valueOf m k d a b) (sym (exists-exactly m k d a b) ∙ 
     by (some x) h = absurd (true≢false h)
 
 -- an L2 that exists is not of 1-bit vectors
-pub l2-exists : (k : VectorType) → existsFor L2 k ≡ true → is 3 k ≡ false
+pub l2-exists : (k : VectorType) → existsFor L2 k ≡ true → hasByte 3 k ≡ false
 l2-exists Float32Dense e = refl
 l2-exists Float64Dense e = refl
 l2-exists Float32Sparse e = refl

@@ -5,13 +5,13 @@ use mathlib.Core.List.{List, [], _∷_}
 use mathlib.Core.Option.{Option, none, some}
 use lib.Dec.{eqb}
 use lib.Ieee.{Float}
-use Rattle.vector_types.specs.Answers.{refusal, Test, test, firstOf, unless}
-use Rattle.vector_types.specs.Layout.{byteOf, is}
+use Rattle.vector_types.specs.Answers.{refusal, Test, test, firstGiven, unless}
+use Rattle.vector_types.specs.Layout.{byteOf, hasByte}
 use Rattle.vector_types.specs.Read.{readOf}
 use Rattle.vector_types.specs.Parts.{bodyOf}
 use Rattle.vector_types.specs.declared.View.{View}
 use Rattle.vector_types.specs.declared.ReadAnswer.{ReadAnswer}
-use Rattle.vector_types.specs.declared.ReadAnswer.the-variants.{View as Seen, Refused as Unread}
+use Rattle.vector_types.specs.declared.ReadAnswer.the-variants.{Accepted, Refused as Unread}
 use Rattle.distance.specs.Values.{valueOf}
 use Rattle.distance.specs.declared.Distance.{Distance}
 use Rattle.distance.specs.declared.Which.the-variants.{First, Second, Neither}
@@ -24,31 +24,31 @@ distanceNumber (Measured x) = 0
 distanceNumber (Refused r w) = r .number
 
 -- a refusal of the pair, which names no blob
-abbrev pub refuses : ℕ → DistanceAnswer
-refuses n = Refused (refusal n) Neither
+abbrev pub pairRefused : ℕ → DistanceAnswer
+pairRefused n = Refused (refusal n) Neither
 
 -- a distance that there is not
-abbrev pub answered : Option Float → DistanceAnswer
-answered none = refuses 14
-answered (some x) = Measured x
+abbrev pub distanceAnswer : Option Float → DistanceAnswer
+distanceAnswer none = pairRefused 14
+distanceAnswer (some x) = Measured x
 
 -- what refuses a pair of views, whatever is to be measured
 abbrev pub mismatches : View → View → List Test
 mismatches v w =
     test 12 (not (eqb (v .dims .0) (w .dims .0)))
-    ∷ test 13 (not (is (byteOf (w .kind)) (v .kind)))
+    ∷ test 13 (not (hasByte (byteOf (w .kind)) (v .kind)))
     ∷ []
 
 -- of two views and their bodies
-unfoldable pub pairOf : Distance → View → View → List ℕ → List ℕ → DistanceAnswer
+unfoldable pub distanceOfViews : Distance → View → View → List ℕ → List ℕ → DistanceAnswer
 unfolding valueOf
-pairOf m v w a b = unless (firstOf (mismatches v w)) (λ r. Refused r Neither) (answered (valueOf m (v .kind) (v .dims .0) a b))
+distanceOfViews m v w a b = unless (firstGiven (mismatches v w)) (λ r. Refused r Neither) (distanceAnswer (valueOf m (v .kind) (v .dims .0) a b))
 
 abbrev pub distanceIn : Distance → ReadAnswer → ReadAnswer → List ℕ → List ℕ → DistanceAnswer
 distanceIn m (Unread r) q a b = Refused r First
-distanceIn m (Seen v) (Unread r) a b = Refused r Second
-distanceIn m (Seen v) (Seen w) a b = pairOf m v w a b
+distanceIn m (Accepted v) (Unread r) a b = Refused r Second
+distanceIn m (Accepted v) (Accepted w) a b = distanceOfViews m v w a b
 
 unfoldable pub distanceOf : Distance → List ℕ → List ℕ → DistanceAnswer
-unfolding pairOf
+unfolding distanceOfViews
 distanceOf m s t = distanceIn m (readOf s) (readOf t) (bodyOf s) (bodyOf t)

@@ -4,18 +4,18 @@ use mathlib.Core.List.{List, [], _∷_, _++_, map}
 use Prim.Native.Nat.{ℕ}
 use lib.Ieee.{add, sub, mul, div, neg, eq, lt, ofInt, ofBits, binary64}
 use Rattle.float_laws.specs.Running.{running, total}
-use Rattle.elements.specs.Bytes.{numberAt}
+use Rattle.little_endian.specs.Bytes.{numberAt}
 use Rattle.rounding.specs.Root.{root}
 use Rattle.vector_types.specs.Answers.{refusal}
 use Rattle.vector_types.specs.Search.{firstFrom}
-use Rattle.vector_types.specs.Layout.{named, byByte, before, fits, rowOf}
+use Rattle.vector_types.specs.Layout.{namedKind, byByte, lengthBeforeType, bodyFits, layoutRow}
 use Rattle.vector_types.specs.Read.{readOf, refusals, shown}
 use Rattle.vector_types.specs.Parts.{bodyOf}
 use Rattle.vector_types.specs.Examples.{Example as Reading, reading}
 use Rattle.vector_types.specs.declared.ReadAnswer.{ReadAnswer}
 use Rattle.distance_sums.specs.Merged.{merged}
 use Rattle.distance_sums.specs.Examples.{zero, one, nan}
-use Rattle.distance.specs.Answer.{distanceOf, refuses}
+use Rattle.distance.specs.Answer.{distanceOf, pairRefused}
 use Rattle.distance.specs.declared.Distance.{Distance}
 use Rattle.distance.specs.declared.Distance.the-variants.{Cos, L2, Dot, Jaccard}
 use Rattle.distance.specs.declared.Which.the-variants.{First, Second}
@@ -70,7 +70,7 @@ distances =
     -- those of the program's lines: two empty vectors are alike; sparse ones with no entry have no likeness to measure
     ∷ measures Cos [] [] 0
     ∷ measures Dot (bits 0xaa) (bits 0xab) 0xc018_0000_0000_0000
-    ∷ answers L2 (bits 0xaa) (bits 0xab) (refuses 14)
+    ∷ answers L2 (bits 0xaa) (bits 0xab) (pairRefused 14)
     ∷ answers Cos (0x07 ∷ []) (0x05 ∷ []) (Refused (refusal 3) First)
     ∷ measures Cos noEntry noEntry nan
     -- the empty dot, and L2 of empty vectors
@@ -78,13 +78,13 @@ distances =
     ∷ measures L2 [] [] 0
     -- the second blob is read before the two are compared; dims are compared before kinds
     ∷ answers Cos one (0x05 ∷ []) (Refused (refusal 2) Second)
-    ∷ answers Cos one noEntry (refuses 12)
-    ∷ answers Cos (one ++ zero) noEntry (refuses 13)
+    ∷ answers Cos one noEntry (pairRefused 12)
+    ∷ answers Cos (one ++ zero) noEntry (pairRefused 13)
     ∷ []
 
 abbrev pub table : List Example
 table = map reads reading ++ distances
 
 pub table-holds : map (λ (e : Example). e .defined) table ≡ map (λ (e : Example). e .written) table
-unfolding distanceOf readOf bodyOf named byByte before fits refusals shown firstFrom numberAt rowOf running total root merged add sub mul div neg eq lt ofInt ofBits
+unfolding distanceOf readOf bodyOf namedKind byByte lengthBeforeType bodyFits refusals shown firstFrom numberAt layoutRow running total root merged add sub mul div neg eq lt ofInt ofBits
 table-holds = refl

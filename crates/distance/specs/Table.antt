@@ -5,15 +5,15 @@ use Rattle.vector_types.specs.declared.VectorType.the-variants.{Float32Dense, F
 use Rattle.distance.specs.declared.Distance.{Distance}
 use Rattle.distance.specs.declared.Distance.the-variants.{Cos, L2, Dot, Jaccard}
 
-abbrev pub rowOf : Distance → ℕ
-rowOf Cos = 0
-rowOf L2 = 1
-rowOf Dot = 2
-rowOf Jaccard = 3
+abbrev pub distanceRow : Distance → ℕ
+distanceRow Cos = 0
+distanceRow L2 = 1
+distanceRow Dot = 2
+distanceRow Jaccard = 3
 
-abbrev pub columnOf : VectorType → ℕ
-columnOf Float32Dense = 0
-columnOf Float64Dense = 1
-columnOf Float32Sparse = 2
-columnOf Float1Bit = 3
-columnOf Float8 = 4
+abbrev pub kindColumn : VectorType → ℕ
+kindColumn Float32Dense = 0
+kindColumn Float64Dense = 1
+kindColumn Float32Sparse = 2
+kindColumn Float1Bit = 3
+kindColumn Float8 = 4

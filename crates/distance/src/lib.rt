@@ -6,12 +6,12 @@ ghost use mathlib.Core.Bool.{true};
 ghost use mathlib.Core.Option.{some};
 ghost use Prim.Native.Nat.{_≤_};
 ghost use lib.ListN.{length};
-ghost use Rattle.vector_types.specs.Layout.{mostDims, fits};
+ghost use Rattle.vector_types.specs.Layout.{maxDims, bodyFits};
 ghost use Rattle.vector_types.specs.Read.{readOf};
 ghost use Rattle.vector_types.specs.Parts.{bodyOf};
-ghost use Rattle.vector_types.specs.declared.ReadAnswer.the-variants.{View as Seen};
+ghost use Rattle.vector_types.specs.declared.ReadAnswer.the-variants.{Accepted};
 ghost use Rattle.distance.specs.Values.{valueOf, existsFor};
-ghost use Rattle.distance.specs.Answer.{refuses, pairOf, distanceOf};
+ghost use Rattle.distance.specs.Answer.{pairRefused, distanceOfViews, distanceOf};
 ghost use Rattle.distance.specs.declared.Distance.the-variants.{Cos, L2, Dot, Jaccard};
 use distance_cos::measure_cos;
 use distance_dot::measure_dot;
@@ -45,9 +45,9 @@ pub enum DistanceAnswer {
 
 // The distance of two bodies of one kind and dims.
 fn measure(distance: Distance, kind: VectorType, dims: usize, a: &[u8], b: &[u8]) -> f64
-    requires { ⌜ dims ≤ mostDims ⌝ }
-    requires { ⌜ fits kind dims (length (now a)) ≡ true ⌝ }
-    requires { ⌜ fits kind dims (length (now b)) ≡ true ⌝ }
+    requires { ⌜ dims ≤ maxDims ⌝ }
+    requires { ⌜ bodyFits kind dims (length (now a)) ≡ true ⌝ }
+    requires { ⌜ bodyFits kind dims (length (now b)) ≡ true ⌝ }
     requires { ⌜ existsFor distance kind ≡ true ⌝ }
     ensures { λ r. ⌜ some r ≡ valueOf distance kind dims (now (a .entry)) (now (b .entry)) ⌝ }
 {
@@ -60,7 +60,7 @@ fn measure(distance: Distance, kind: VectorType, dims: usize, a: &[u8], b: &[u8]
 }
 
 fn refuse(number: u8) -> DistanceAnswer
-    ensures { λ r. ⌜ r ≡ refuses number ⌝ }
+    ensures { λ r. ⌜ r ≡ pairRefused number ⌝ }
 {
     DistanceAnswer::Refused(Refusal::plain(number), Which::Neither)
 }
@@ -73,9 +73,9 @@ pub fn measure_views(
     second: &[u8],
     w: View,
 ) -> DistanceAnswer
-    requires { ⌜ readOf (now first) ≡ Seen v ⌝ }
-    requires { ⌜ readOf (now second) ≡ Seen w ⌝ }
-    ensures { λ r. ⌜ r ≡ pairOf distance v w (bodyOf (now (first .entry))) (bodyOf (now (second .entry))) ⌝ }
+    requires { ⌜ readOf (now first) ≡ Accepted v ⌝ }
+    requires { ⌜ readOf (now second) ≡ Accepted w ⌝ }
+    ensures { λ r. ⌜ r ≡ distanceOfViews distance v w (bodyOf (now (first .entry))) (bodyOf (now (second .entry))) ⌝ }
 {
     let dims = v.dims;
     let others = w.dims;
@@ -103,9 +103,9 @@ pub fn vector_distance(distance: Distance, first: &[u8], second: &[u8]) -> Dista
 {
     match vector_types::read(first) {
         ReadAnswer::Refused(refusal) => DistanceAnswer::Refused(refusal, Which::First),
-        ReadAnswer::View(v) => match vector_types::read(second) {
+        ReadAnswer::Accepted(v) => match vector_types::read(second) {
             ReadAnswer::Refused(refusal) => DistanceAnswer::Refused(refusal, Which::Second),
-            ReadAnswer::View(w) => measure_views(distance, first, v, second, w),
+            ReadAnswer::Accepted(w) => measure_views(distance, first, v, second, w),
         },
     }
 }

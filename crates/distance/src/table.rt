@@ -1,7 +1,7 @@
 // Which distance exists for which kind.
 ghost use mathlib.Core.Path.{_≡_};
 ghost use Rattle.distance.specs.Values.{existsFor};
-ghost use Rattle.distance.specs.Table.{rowOf, columnOf};
+ghost use Rattle.distance.specs.Table.{distanceRow, kindColumn};
 use crate::Distance;
 use vector_types::VectorType;
 
@@ -14,7 +14,7 @@ const EXISTS: [[bool; 5]; 4] = [
 ];
 
 fn row(distance: Distance) -> usize
-    ensures { λ r. ⌜ r ≡ rowOf distance ⌝ }
+    ensures { λ r. ⌜ r ≡ distanceRow distance ⌝ }
 {
     match distance {
         Distance::Cos => 0,
@@ -25,7 +25,7 @@ fn row(distance: Distance) -> usize
 }
 
 fn column(kind: VectorType) -> usize
-    ensures { λ r. ⌜ r ≡ columnOf kind ⌝ }
+    ensures { λ r. ⌜ r ≡ kindColumn kind ⌝ }
 {
     match kind {
         VectorType::Float32Dense => 0,

@@ -4,14 +4,14 @@ use mathlib.Core.Bool.{true, false, _&&_, _||_}
 use lib.Ieee.{Float, nan, Format, binary32, sub, mul, div}
 use Rattle.float_laws.specs.Zero.{plusZero}
 use Rattle.rounding.specs.Root.{IsRoot}
-use Rattle.rounding.proofs.RootLaw.{root-only}
+use Rattle.rounding.proofs.RootLaw.{root-unique}
 use Rattle.distance_sums.specs.Dense.{Products, one, isZero, angle, denseCosine}
 use Rattle.distance_sums.specs.Sparse.{sparseCosine}
 
 module _ (f : Format) (s : Products) where
   pub angle-by : (r : Float) → IsRoot f (mul f (s .norm1) (s .norm2)) r → sub f one (div f (s .dot) r) ≡ angle f s
   unfolding angle
-  angle-by r h = rw (root-only f (mul f (s .norm1) (s .norm2)) r h)
+  angle-by r h = rw (root-unique f (mul f (s .norm1) (s .norm2)) r h)
 
   pub dense-zero : (isZero (s .norm1) && isZero (s .norm2)) ≡ true → plusZero ≡ denseCosine f s
   unfolding denseCosine

@@ -5,7 +5,7 @@ ghost use mathlib.Core.Path.{_≡_};
 ghost use mathlib.Core.Bool.{true};
 ghost use Prim.Native.Nat.{_+_, _*_, _≤_};
 ghost use lib.ListN.{length};
-ghost use Rattle.vector_types.specs.Layout.{mostDims, ceil, fits};
+ghost use Rattle.vector_types.specs.Layout.{maxDims, ceil, bodyFits};
 ghost use Rattle.vector_types.specs.declared.VectorType.the-variants.{Float32Dense, Float64Dense, Float1Bit, Float8};
 ghost use Rattle.distance_sums.specs.Sparse.{sparseProducts, sparseCosine};
 ghost use Rattle.distance_sums.specs.Values.{cosineOf};
@@ -23,9 +23,9 @@ use vector_types::VectorType;
 
 // The distance of two bodies of one kind and dims.
 pub fn measure_cos(kind: VectorType, dims: usize, a: &[u8], b: &[u8]) -> f64
-    requires { ⌜ dims ≤ mostDims ⌝ }
-    requires { ⌜ fits kind dims (length (now a)) ≡ true ⌝ }
-    requires { ⌜ fits kind dims (length (now b)) ≡ true ⌝ }
+    requires { ⌜ dims ≤ maxDims ⌝ }
+    requires { ⌜ bodyFits kind dims (length (now a)) ≡ true ⌝ }
+    requires { ⌜ bodyFits kind dims (length (now b)) ≡ true ⌝ }
     ensures { λ r. ⌜ r ≡ cosineOf kind dims (now (a .entry)) (now (b .entry)) ⌝ }
 {
     match kind {
@@ -39,7 +39,7 @@ pub fn measure_cos(kind: VectorType, dims: usize, a: &[u8], b: &[u8]) -> f64
 
 // The count of differing bits.
 fn vector_1bit_distance_cos(dims: usize, a: &[u8], b: &[u8]) -> f64
-    requires { ⌜ dims ≤ mostDims ⌝ }
+    requires { ⌜ dims ≤ maxDims ⌝ }
     requires { ⌜ length (now a) ≡ ceil dims 8 ⌝ }
     requires { ⌜ length (now b) ≡ ceil dims 8 ⌝ }
     ensures { λ r. ⌜ r ≡ cosineOf Float1Bit dims (now (a .entry)) (now (b .entry)) ⌝ }
@@ -49,7 +49,7 @@ fn vector_1bit_distance_cos(dims: usize, a: &[u8], b: &[u8]) -> f64
 }
 
 fn vector_f8_distance_cos(dims: usize, a: &[u8], b: &[u8]) -> f64
-    requires { ⌜ dims ≤ mostDims ⌝ }
+    requires { ⌜ dims ≤ maxDims ⌝ }
     requires { ⌜ length (now a) ≡ 4 * ceil dims 4 + 8 ⌝ }
     requires { ⌜ length (now b) ≡ 4 * ceil dims 4 + 8 ⌝ }
     ensures { λ r. ⌜ r ≡ cosineOf Float8 dims (now (a .entry)) (now (b .entry)) ⌝ }
@@ -65,7 +65,7 @@ fn vector_f8_distance_cos(dims: usize, a: &[u8], b: &[u8]) -> f64
 }
 
 fn vector_f32_distance_cos(dims: usize, a: &[u8], b: &[u8]) -> f64
-    requires { ⌜ dims ≤ mostDims ⌝ }
+    requires { ⌜ dims ≤ maxDims ⌝ }
     requires { ⌜ length (now a) ≡ 4 * dims ⌝ }
     requires { ⌜ length (now b) ≡ 4 * dims ⌝ }
     ensures { λ r. ⌜ r ≡ cosineOf Float32Dense dims (now (a .entry)) (now (b .entry)) ⌝ }
@@ -73,14 +73,17 @@ fn vector_f32_distance_cos(dims: usize, a: &[u8], b: &[u8]) -> f64
     let mut sums = CosSums32::new();
     let mut i = 0;
     while i < dims {
-        sums = sums.step(elements::f32_at(a, 4 * i), elements::f32_at(b, 4 * i));
+        sums = sums.step(
+            little_endian::f32_at(a, 4 * i),
+            little_endian::f32_at(b, 4 * i),
+        );
         i += 1;
     }
     sums.distance()
 }
 
 fn vector_f64_distance_cos(dims: usize, a: &[u8], b: &[u8]) -> f64
-    requires { ⌜ dims ≤ mostDims ⌝ }
+    requires { ⌜ dims ≤ maxDims ⌝ }
     requires { ⌜ length (now a) ≡ 8 * dims ⌝ }
     requires { ⌜ length (now b) ≡ 8 * dims ⌝ }
     ensures { λ r. ⌜ r ≡ cosineOf Float64Dense dims (now (a .entry)) (now (b .entry)) ⌝ }
@@ -88,7 +91,10 @@ fn vector_f64_distance_cos(dims: usize, a: &[u8], b: &[u8]) -> f64
     let mut sums = CosSums64::new();
     let mut i = 0;
     while i < dims {
-        sums = sums.step(elements::f64_at(a, 8 * i), elements::f64_at(b, 8 * i));
+        sums = sums.step(
+            little_endian::f64_at(a, 8 * i),
+            little_endian::f64_at(b, 8 * i),
+        );
         i += 1;
     }
     sums.distance()

@@ -3,7 +3,7 @@ ghost use mathlib.Core.Path.{_≡_};
 ghost use mathlib.Core.Bool.{true};
 ghost use Prim.Native.Nat.{_+_, _*_, _≤_};
 ghost use lib.ListN.{length};
-ghost use Rattle.vector_types.specs.Layout.{mostDims, ceil, fits};
+ghost use Rattle.vector_types.specs.Layout.{maxDims, ceil, bodyFits};
 ghost use Rattle.vector_types.specs.declared.VectorType.the-variants.{Float32Dense, Float64Dense, Float1Bit, Float8};
 ghost use Rattle.distance_sums.specs.Dense.{dotsWith, dotBy};
 ghost use Rattle.distance_sums.specs.Sparse.{sparseDots};
@@ -19,9 +19,9 @@ use vector_types::VectorType;
 
 // The distance of two bodies of one kind and dims.
 pub fn measure_dot(kind: VectorType, dims: usize, a: &[u8], b: &[u8]) -> f64
-    requires { ⌜ dims ≤ mostDims ⌝ }
-    requires { ⌜ fits kind dims (length (now a)) ≡ true ⌝ }
-    requires { ⌜ fits kind dims (length (now b)) ≡ true ⌝ }
+    requires { ⌜ dims ≤ maxDims ⌝ }
+    requires { ⌜ bodyFits kind dims (length (now a)) ≡ true ⌝ }
+    requires { ⌜ bodyFits kind dims (length (now b)) ≡ true ⌝ }
     ensures { λ r. ⌜ r ≡ dotOf kind dims (now (a .entry)) (now (b .entry)) ⌝ }
 {
     match kind {
@@ -35,15 +35,15 @@ pub fn measure_dot(kind: VectorType, dims: usize, a: &[u8], b: &[u8]) -> f64
 
 // Bits stand for 1 and -1, so the dot is dims - 2h, with h the count of differing bits.
 fn bit_dot(dims: u32, count: u32) -> f64
-    requires { ⌜ dims ≤ mostDims ⌝ }
-    requires { ⌜ count ≤ mostDims ⌝ }
+    requires { ⌜ dims ≤ maxDims ⌝ }
+    requires { ⌜ count ≤ maxDims ⌝ }
     ensures { λ r. ⌜ r ≡ bitDot dims count ⌝ }
 {
     -(dims as f64 - 2.0 * count as f64)
 }
 
 fn vector_1bit_distance_dot(dims: usize, a: &[u8], b: &[u8]) -> f64
-    requires { ⌜ dims ≤ mostDims ⌝ }
+    requires { ⌜ dims ≤ maxDims ⌝ }
     requires { ⌜ length (now a) ≡ ceil dims 8 ⌝ }
     requires { ⌜ length (now b) ≡ ceil dims 8 ⌝ }
     ensures { λ r. ⌜ r ≡ dotOf Float1Bit dims (now (a .entry)) (now (b .entry)) ⌝ }
@@ -53,7 +53,7 @@ fn vector_1bit_distance_dot(dims: usize, a: &[u8], b: &[u8]) -> f64
 }
 
 fn vector_f8_distance_dot(dims: usize, a: &[u8], b: &[u8]) -> f64
-    requires { ⌜ dims ≤ mostDims ⌝ }
+    requires { ⌜ dims ≤ maxDims ⌝ }
     requires { ⌜ length (now a) ≡ 4 * ceil dims 4 + 8 ⌝ }
     requires { ⌜ length (now b) ≡ 4 * ceil dims 4 + 8 ⌝ }
     ensures { λ r. ⌜ r ≡ dotOf Float8 dims (now (a .entry)) (now (b .entry)) ⌝ }
@@ -73,7 +73,7 @@ fn dot_step(sum: f64, x: f64, y: f64) -> f64
 }
 
 fn vector_f32_distance_dot(dims: usize, a: &[u8], b: &[u8]) -> f64
-    requires { ⌜ dims ≤ mostDims ⌝ }
+    requires { ⌜ dims ≤ maxDims ⌝ }
     requires { ⌜ length (now a) ≡ 4 * dims ⌝ }
     requires { ⌜ length (now b) ≡ 4 * dims ⌝ }
     ensures { λ r. ⌜ r ≡ dotOf Float32Dense dims (now (a .entry)) (now (b .entry)) ⌝ }
@@ -81,8 +81,8 @@ fn vector_f32_distance_dot(dims: usize, a: &[u8], b: &[u8]) -> f64
     let mut sum: f64 = 0.0;
     let mut i = 0;
     while i < dims {
-        let x = elements::wide_at(a, 4 * i);
-        let y = elements::wide_at(b, 4 * i);
+        let x = little_endian::wide_at(a, 4 * i);
+        let y = little_endian::wide_at(b, 4 * i);
         sum = dot_step(sum, x, y);
         i += 1;
     }
@@ -90,7 +90,7 @@ fn vector_f32_distance_dot(dims: usize, a: &[u8], b: &[u8]) -> f64
 }
 
 fn vector_f64_distance_dot(dims: usize, a: &[u8], b: &[u8]) -> f64
-    requires { ⌜ dims ≤ mostDims ⌝ }
+    requires { ⌜ dims ≤ maxDims ⌝ }
     requires { ⌜ length (now a) ≡ 8 * dims ⌝ }
     requires { ⌜ length (now b) ≡ 8 * dims ⌝ }
     ensures { λ r. ⌜ r ≡ dotOf Float64Dense dims (now (a .entry)) (now (b .entry)) ⌝ }
@@ -98,8 +98,8 @@ fn vector_f64_distance_dot(dims: usize, a: &[u8], b: &[u8]) -> f64
     let mut sum: f64 = 0.0;
     let mut i = 0;
     while i < dims {
-        let x = elements::f64_at(a, 8 * i);
-        let y = elements::f64_at(b, 8 * i);
+        let x = little_endian::f64_at(a, 8 * i);
+        let y = little_endian::f64_at(b, 8 * i);
         sum = dot_step(sum, x, y);
         i += 1;
     }

@@ -5,7 +5,7 @@ ghost use mathlib.Core.Option.{some};
 ghost use Prim.Native.Nat.{_+_, _*_, _≤_};
 ghost use lib.ListN.{length};
 ghost use lib.Ieee.{binary32, binary64};
-ghost use Rattle.vector_types.specs.Layout.{mostDims, ceil, is, fits};
+ghost use Rattle.vector_types.specs.Layout.{maxDims, ceil, hasByte, bodyFits};
 ghost use Rattle.vector_types.specs.declared.VectorType.the-variants.{Float32Dense, Float64Dense, Float8};
 ghost use Rattle.distance_sums.specs.Dense.{squaresWith, l2By};
 ghost use Rattle.distance_sums.specs.Sparse.{squaresRule, sparseSquares};
@@ -17,10 +17,10 @@ use vector_types::VectorType;
 
 // The distance of two bodies of one kind and dims.
 pub fn measure_l2(kind: VectorType, dims: usize, a: &[u8], b: &[u8]) -> f64
-    requires { ⌜ dims ≤ mostDims ⌝ }
-    requires { ⌜ fits kind dims (length (now a)) ≡ true ⌝ }
-    requires { ⌜ fits kind dims (length (now b)) ≡ true ⌝ }
-    requires { ⌜ is 3 kind ≡ false ⌝ }
+    requires { ⌜ dims ≤ maxDims ⌝ }
+    requires { ⌜ bodyFits kind dims (length (now a)) ≡ true ⌝ }
+    requires { ⌜ bodyFits kind dims (length (now b)) ≡ true ⌝ }
+    requires { ⌜ hasByte 3 kind ≡ false ⌝ }
     ensures { λ r. ⌜ some r ≡ l2Of kind dims (now (a .entry)) (now (b .entry)) ⌝ }
 {
     match kind {
@@ -56,7 +56,7 @@ fn root_of(sum: f64) -> f64
 }
 
 fn vector_f8_distance_l2(dims: usize, a: &[u8], b: &[u8]) -> f64
-    requires { ⌜ dims ≤ mostDims ⌝ }
+    requires { ⌜ dims ≤ maxDims ⌝ }
     requires { ⌜ length (now a) ≡ 4 * ceil dims 4 + 8 ⌝ }
     requires { ⌜ length (now b) ≡ 4 * ceil dims 4 + 8 ⌝ }
     ensures { λ r. ⌜ some r ≡ l2Of Float8 dims (now (a .entry)) (now (b .entry)) ⌝ }
@@ -75,7 +75,7 @@ fn vector_f8_distance_l2(dims: usize, a: &[u8], b: &[u8]) -> f64
 }
 
 fn vector_f32_distance_l2(dims: usize, a: &[u8], b: &[u8]) -> f64
-    requires { ⌜ dims ≤ mostDims ⌝ }
+    requires { ⌜ dims ≤ maxDims ⌝ }
     requires { ⌜ length (now a) ≡ 4 * dims ⌝ }
     requires { ⌜ length (now b) ≡ 4 * dims ⌝ }
     ensures { λ r. ⌜ some r ≡ l2Of Float32Dense dims (now (a .entry)) (now (b .entry)) ⌝ }
@@ -83,8 +83,8 @@ fn vector_f32_distance_l2(dims: usize, a: &[u8], b: &[u8]) -> f64
     let mut sum: f32 = 0.0;
     let mut i = 0;
     while i < dims {
-        let x = elements::f32_at(a, 4 * i);
-        let y = elements::f32_at(b, 4 * i);
+        let x = little_endian::f32_at(a, 4 * i);
+        let y = little_endian::f32_at(b, 4 * i);
         sum = l2_step32(sum, x, y);
         i += 1;
     }
@@ -92,7 +92,7 @@ fn vector_f32_distance_l2(dims: usize, a: &[u8], b: &[u8]) -> f64
 }
 
 fn vector_f64_distance_l2(dims: usize, a: &[u8], b: &[u8]) -> f64
-    requires { ⌜ dims ≤ mostDims ⌝ }
+    requires { ⌜ dims ≤ maxDims ⌝ }
     requires { ⌜ length (now a) ≡ 8 * dims ⌝ }
     requires { ⌜ length (now b) ≡ 8 * dims ⌝ }
     ensures { λ r. ⌜ some r ≡ l2Of Float64Dense dims (now (a .entry)) (now (b .entry)) ⌝ }
@@ -100,8 +100,8 @@ fn vector_f64_distance_l2(dims: usize, a: &[u8], b: &[u8]) -> f64
     let mut sum: f64 = 0.0;
     let mut i = 0;
     while i < dims {
-        let x = elements::f64_at(a, 8 * i);
-        let y = elements::f64_at(b, 8 * i);
+        let x = little_endian::f64_at(a, 8 * i);
+        let y = little_endian::f64_at(b, 8 * i);
         sum = l2_step64(sum, x, y);
         i += 1;
     }

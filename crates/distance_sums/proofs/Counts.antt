@@ -10,8 +10,8 @@ use lib.Bits.{differ, bitAnd, bitOr, bitXor, and-step, or-step, xor-step, and-bl
 use lib.Count.{ones, ones-step, ones-cat, ones-le}
 use lib.ListN.{getD}
 use lib.Pow.{pow-add, shr-shr}
-use Rattle.elements.specs.Bytes.{numberAt, AreBytes}
-use Rattle.elements.proofs.Numbers.{numberAt-lt}
+use Rattle.little_endian.specs.Bytes.{numberAt, AreBytes}
+use Rattle.little_endian.proofs.Numbers.{numberAt-lt}
 use Rattle.float_laws.specs.Running.{total}
 use Rattle.vector_types.specs.Layout.{bitAt}
 use Rattle.distance_sums.specs.OneBit.{tally}

@@ -1,7 +1,7 @@
 -- Each public contract determines its answer: stated over the contract's own reading, so it changes with the contract.
 use mathlib.Core.Path.{_∙_, sym}
 use Rattle.promises.specs.Determined.{Determined}
-use Rattle.distance_sums.proofs.Merging.{next-only}
+use Rattle.distance_sums.proofs.Merging.{next-unique}
 use Rattle.distance_sums.proofs.bits.differing.Reads as differing
 use Rattle.distance_sums.proofs.bits.overlapping.Reads as overlapping
 use Rattle.distance_sums.proofs.float8.scale_of.Reads as scale-of
@@ -33,4 +33,4 @@ pub norm-of-determined : (κs : _) (a : _) → Determined (norm-of.Post κs a) (
 norm-of-determined κs a r r′ x x′ p q = p ∙ sym q
 
 pub next-turn-determined : (κs : _) (a : _) → Determined (next-turn.Post κs a) (λ r x. r)
-next-turn-determined κs a r r′ x x′ p q = next-only _ _ _ _ r r′ p q
+next-turn-determined κs a r r′ x x′ p q = next-unique _ _ _ _ r r′ p q

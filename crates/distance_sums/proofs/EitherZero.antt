@@ -124,9 +124,9 @@ module _ {S : Type 0} (r t : Rule S) (v w : Entries) (Reached : S → Type 0)
   merged-agree (suc p) (suc q) s k =
       let i = v .count - suc p in
       let j = w .count - suc q in
-      ap₂ (cond (eqb (v .at i) (w .at j)))
+      ap₂ (cond (eqb (v .index i) (w .index j)))
       (next p q (merged-agree p q) (both s i j k))
-      (ap₂ (cond (ltb (v .at i) (w .at j)))
+      (ap₂ (cond (ltb (v .index i) (w .index j)))
       (next p (suc q) (merged-agree p (suc q)) (left s i k))
       (next (suc p) q (merged-agree (suc p) q) (right s j k)))
 

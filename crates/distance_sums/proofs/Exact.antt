@@ -6,15 +6,15 @@ use mathlib.Core.List.{List}
 use lib.Ieee.{binary64}
 use lib.Ieee.Exact.{HasValue}
 use Rattle.float_laws.proofs.Whole.{of-whole}
-use Rattle.elements.specs.Bytes.{AreBytes}
-use Rattle.vector_types.specs.Layout.{mostDims}
+use Rattle.little_endian.specs.Bytes.{AreBytes}
+use Rattle.vector_types.specs.Layout.{maxDims}
 use Rattle.distance_sums.specs.Float8.{whole, totalsOf}
 use Rattle.distance_sums.specs.declared.float8.Totals.{Totals}
 use Rattle.distance_sums.proofs.Totalled.{totals-at-most}
 
 -- n as a float is n
 abbrev pub IsExact : ℕ → Type 0
-IsExact n = (n ≤ 65025 * mostDims) × HasValue (whole n) false n 1
+IsExact n = (n ≤ 65025 * maxDims) × HasValue (whole n) false n 1
 
 pub record AreExact (t : Totals) (d : ℕ) : Type 0 where
   pub sum1 : IsExact (t .sum1)
@@ -24,10 +24,10 @@ pub record AreExact (t : Totals) (d : ℕ) : Type 0 where
   pub products : IsExact (t .products)
   pub dims : IsExact d
 
-exact : {n d : ℕ} → d ≤ mostDims → n ≤ d * 65025 → IsExact n
+exact : {n d : ℕ} → d ≤ maxDims → n ≤ d * 65025 → IsExact n
 exact {n} D h = (omega arith, of-whole binary64 n (omega arith))
 
-pub totals-exact : (a b : List ℕ) (d : ℕ) → AreBytes a → AreBytes b → d ≤ mostDims → AreExact (totalsOf a b d) d
+pub totals-exact : (a b : List ℕ) (d : ℕ) → AreBytes a → AreBytes b → d ≤ maxDims → AreExact (totalsOf a b d) d
 totals-exact a b d A B D =
     let most = totals-at-most a b A B d in
     record {

@@ -11,23 +11,23 @@ use Rattle.distance_sums.specs.declared.sparse.Turn.{Turn}
 use Rattle.distance_sums.specs.declared.sparse.Turn.the-variants.{Both, Left, Right, Done}
 
 -- ---- what is known then leaves one turn only
-pub next-only : (v w : Entries) (i j : ℕ) (t u : Turn) → Next v w i j t → Next v w i j u → t ≡ u
-next-only v w i j (Both x y) (Both x′ y′) (h, k, l, p, q) (h′, k′, l′, p′, q′) = ap₂ Both (p ∙ sym p′) (q ∙ sym q′)
-next-only v w i j (Both x y) (Left x′) (h, k, l, p, q) (h′, l′, p′) = absurd (elim l′ [ inl e ↦ omega arith | inr e ↦ omega arith ])
-next-only v w i j (Both x y) (Right y′) (h, k, l, p, q) (h′, l′, q′) = absurd (elim l′ [ inl e ↦ omega arith | inr e ↦ omega arith ])
-next-only v w i j (Both x y) Done (h, k, l, p, q) (h′, k′) = absurd (omega arith)
-next-only v w i j (Left x) (Both x′ y′) (h, l, p) (h′, k′, l′, p′, q′) = absurd (elim l [ inl e ↦ omega arith | inr e ↦ omega arith ])
-next-only v w i j (Left x) (Left x′) (h, l, p) (h′, l′, p′) = ap Left (p ∙ sym p′)
-next-only v w i j (Left x) (Right y′) (h, l, p) (h′, l′, q′) = absurd (elim l [ inl e ↦ omega arith | inr e ↦ elim l′ [ inl g ↦ omega arith | inr g ↦ omega arith ] ])
-next-only v w i j (Left x) Done (h, l, p) (h′, k′) = absurd (omega arith)
-next-only v w i j (Right y) (Both x′ y′) (h, l, q) (h′, k′, l′, p′, q′) = absurd (elim l [ inl e ↦ omega arith | inr e ↦ omega arith ])
-next-only v w i j (Right y) (Left x′) (h, l, q) (h′, l′, p′) = absurd (elim l′ [ inl e ↦ omega arith | inr e ↦ elim l [ inl g ↦ omega arith | inr g ↦ omega arith ] ])
-next-only v w i j (Right y) (Right y′) (h, l, q) (h′, l′, q′) = ap Right (q ∙ sym q′)
-next-only v w i j (Right y) Done (h, l, q) (h′, k′) = absurd (omega arith)
-next-only v w i j Done (Both x′ y′) (h, k) (h′, k′, l′, p′, q′) = absurd (omega arith)
-next-only v w i j Done (Left x′) (h, k) (h′, l′, p′) = absurd (omega arith)
-next-only v w i j Done (Right y′) (h, k) (h′, l′, q′) = absurd (omega arith)
-next-only v w i j Done Done (h, k) (h′, k′) = refl
+pub next-unique : (v w : Entries) (i j : ℕ) (t u : Turn) → Next v w i j t → Next v w i j u → t ≡ u
+next-unique v w i j (Both x y) (Both x′ y′) (h, k, l, p, q) (h′, k′, l′, p′, q′) = ap₂ Both (p ∙ sym p′) (q ∙ sym q′)
+next-unique v w i j (Both x y) (Left x′) (h, k, l, p, q) (h′, l′, p′) = absurd (elim l′ [ inl e ↦ omega arith | inr e ↦ omega arith ])
+next-unique v w i j (Both x y) (Right y′) (h, k, l, p, q) (h′, l′, q′) = absurd (elim l′ [ inl e ↦ omega arith | inr e ↦ omega arith ])
+next-unique v w i j (Both x y) Done (h, k, l, p, q) (h′, k′) = absurd (omega arith)
+next-unique v w i j (Left x) (Both x′ y′) (h, l, p) (h′, k′, l′, p′, q′) = absurd (elim l [ inl e ↦ omega arith | inr e ↦ omega arith ])
+next-unique v w i j (Left x) (Left x′) (h, l, p) (h′, l′, p′) = ap Left (p ∙ sym p′)
+next-unique v w i j (Left x) (Right y′) (h, l, p) (h′, l′, q′) = absurd (elim l [ inl e ↦ omega arith | inr e ↦ elim l′ [ inl g ↦ omega arith | inr g ↦ omega arith ] ])
+next-unique v w i j (Left x) Done (h, l, p) (h′, k′) = absurd (omega arith)
+next-unique v w i j (Right y) (Both x′ y′) (h, l, q) (h′, k′, l′, p′, q′) = absurd (elim l [ inl e ↦ omega arith | inr e ↦ omega arith ])
+next-unique v w i j (Right y) (Left x′) (h, l, q) (h′, l′, p′) = absurd (elim l′ [ inl e ↦ omega arith | inr e ↦ elim l [ inl g ↦ omega arith | inr g ↦ omega arith ] ])
+next-unique v w i j (Right y) (Right y′) (h, l, q) (h′, l′, q′) = ap Right (q ∙ sym q′)
+next-unique v w i j (Right y) Done (h, l, q) (h′, k′) = absurd (omega arith)
+next-unique v w i j Done (Both x′ y′) (h, k) (h′, k′, l′, p′, q′) = absurd (omega arith)
+next-unique v w i j Done (Left x′) (h, k) (h′, l′, p′) = absurd (omega arith)
+next-unique v w i j Done (Right y′) (h, k) (h′, l′, q′) = absurd (omega arith)
+next-unique v w i j Done Done (h, k) (h′, k′) = refl
 
 -- with i of n entries behind, one and those after it are to come; counted from the end, the next is entry i
 ahead : (n i : ℕ) → i < n → n - i ≡ suc (n - (i + 1))
@@ -38,11 +38,11 @@ back n i h = omega arith
 
 -- ---- what is left to merge is the same before a turn and after it
 module _ {S : Type 0} (r : Rule S) (v w : Entries) (s : S) (i j : ℕ) where
-  take-both : i < v .count → j < w .count → v .at i ≡ w .at j
+  take-both : i < v .count → j < w .count → v .index i ≡ w .index j
       → merged r v w s (v .count - i) (w .count - j) ≡ merged r v w (r .both s (v .value i) (w .value j)) (v .count - (i + 1)) (w .count - (j + 1))
   unfolding merged
   take-both h k e =
-      simp (ahead (v .count) i h, ahead (w .count) j k, back (v .count) i h, back (w .count) j k, eq-eqb (v .at i) (w .at j) e)
+      simp (ahead (v .count) i h, ahead (w .count) j k, back (v .count) i h, back (w .count) j k, eq-eqb (v .index i) (w .index j) e)
 
   alone-left : (p : ℕ) → merged r v w s (suc p) 0 ≡ merged r v w (r .left s (v .value (v .count - suc p))) p 0
   unfolding merged
@@ -52,23 +52,23 @@ module _ {S : Type 0} (r : Rule S) (v w : Entries) (s : S) (i j : ℕ) where
   unfolding merged
   alone-right q = refl
 
-  take-left : (q : ℕ) → w .count - j ≡ q → i < v .count → (w .count ≤ j) ⊎ (v .at i < w .at j)
+  take-left : (q : ℕ) → w .count - j ≡ q → i < v .count → (w .count ≤ j) ⊎ (v .index i < w .index j)
       → merged r v w s (v .count - i) (w .count - j) ≡ merged r v w (r .left s (v .value i)) (v .count - (i + 1)) (w .count - j)
   unfolding merged
   take-left zero e h l = simp (ahead (v .count) i h, e, alone-left (v .count - (i + 1)), back (v .count) i h)
   take-left (suc q) e h (inl k) = absurd (omega arith)
   take-left (suc q) e h (inr l) =
       let j' : w .count - suc q ≡ j = omega arith in
-      simp (ahead (v .count) i h, e, back (v .count) i h, j', ne-eqb (v .at i) (w .at j) (λ z. omega arith), lt-ltb (v .at i) (w .at j) l)
+      simp (ahead (v .count) i h, e, back (v .count) i h, j', ne-eqb (v .index i) (w .index j) (λ z. omega arith), lt-ltb (v .index i) (w .index j) l)
 
-  take-right : (p : ℕ) → v .count - i ≡ p → j < w .count → (v .count ≤ i) ⊎ (w .at j < v .at i)
+  take-right : (p : ℕ) → v .count - i ≡ p → j < w .count → (v .count ≤ i) ⊎ (w .index j < v .index i)
       → merged r v w s (v .count - i) (w .count - j) ≡ merged r v w (r .right s (w .value j)) (v .count - i) (w .count - (j + 1))
   unfolding merged
   take-right zero e h l = simp (ahead (w .count) j h, e, alone-right (w .count - (j + 1)), back (w .count) j h)
   take-right (suc q) e h (inl k) = absurd (omega arith)
   take-right (suc q) e h (inr l) =
       let i' : v .count - suc q ≡ i = omega arith in
-      simp (ahead (w .count) j h, e, back (w .count) j h, i', ne-eqb (v .at i) (w .at j) (λ z. omega arith), le-ltb (v .at i) (w .at j) (omega arith))
+      simp (ahead (w .count) j h, e, back (w .count) j h, i', ne-eqb (v .index i) (w .index j) (λ z. omega arith), le-ltb (v .index i) (w .index j) (omega arith))
 
 -- the loops' invariant: with i entries of v and j of w behind, the state s goes on to the merge of all from the start
 pub record Merging {S : Type 0} (r : Rule S) (v w : Entries) (start s : S) (i j : ℕ) : Type 0 where

@@ -6,7 +6,7 @@ use native.Mathlib.Numerals.{add-one}
 use native.Mathlib.Omega.{arith}
 use mathlib.Core.List.{List}
 use Rattle.float_laws.specs.Running.{total}
-use Rattle.elements.specs.Bytes.{AreBytes}
+use Rattle.little_endian.specs.Bytes.{AreBytes}
 use Rattle.distance_sums.specs.Float8.{byteAt, totalsOf}
 use Rattle.distance_sums.specs.declared.float8.Totals.{Totals}
 

@@ -5,7 +5,7 @@ use mathlib.Core.Option.{Option, some}
 use Prim.Native.Nat.{ℕ}
 use lib.Ieee.{Float, add, sub, mul, div, neg, eq, lt, ofInt, ofBits, binary64}
 use Rattle.float_laws.specs.Running.{running, total}
-use Rattle.elements.specs.Bytes.{numberAt}
+use Rattle.little_endian.specs.Bytes.{numberAt}
 use Rattle.rounding.specs.Root.{root}
 use Rattle.vector_types.specs.declared.VectorType.the-variants.{Float32Dense, Float32Sparse, Float1Bit}
 use Rattle.distance_sums.specs.Extremes.{lesser, greater}

@@ -4,10 +4,10 @@ use mathlib.Core.Bool.{cond}
 use lib.Dec.{eqb, ltb}
 use lib.Ieee.{Float}
 
--- entry i stands at the index `at i` and has `value i`, for i below the count
+-- entry i stands at the index `index i` and has `value i`, for i below the count
 pub record Entries : Type 0 where
   pub count : ℕ
-  pub at : ℕ → ℕ
+  pub index : ℕ → ℕ
   pub value : ℕ → Float
 
 -- what is added to the state at an index that both vectors have, that only the first has, and that only the second has
@@ -27,7 +27,7 @@ merged r v w s (suc p) (suc q) =
     let both = merged r v w (r .both s (v .value i) (w .value j)) p q in
     let left = merged r v w (r .left s (v .value i)) p (suc q) in
     let right = merged r v w (r .right s (w .value j)) (suc p) q in
-    cond (eqb (v .at i) (w .at j)) both (cond (ltb (v .at i) (w .at j)) left right)
+    cond (eqb (v .index i) (w .index j)) both (cond (ltb (v .index i) (w .index j)) left right)
 
 -- all entries
 abbrev pub merge : {S : Type 0} → Rule S → Entries → Entries → S → S

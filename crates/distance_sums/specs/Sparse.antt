@@ -4,7 +4,7 @@ use mathlib.Core.Bool.{cond, _||_}
 use mathlib.Core.List.{List}
 use lib.Ieee.{Float, nan, Format, binary32, add}
 use Rattle.float_laws.specs.Zero.{plusZero}
-use Rattle.elements.specs.Bytes.{f32At}
+use Rattle.little_endian.specs.Bytes.{f32At}
 use Rattle.vector_types.specs.Layout.{indexAt}
 use Rattle.convert.specs.Dense.{count}
 use Rattle.distance_sums.specs.Extremes.{lesser, greater}
@@ -13,7 +13,7 @@ use Rattle.distance_sums.specs.Merged.{Entries, Rule, merge, merged}
 
 -- a body is its values, then as many indices
 abbrev pub entriesOf : List ℕ → Entries
-entriesOf body = record { count = count body; at = indexAt body (count body); value = λ i. f32At body (4 * i) }
+entriesOf body = record { count = count body; index = indexAt body (count body); value = λ i. f32At body (4 * i) }
 
 -- the norms go on where one vector has no element; the product does not
 abbrev pub productsRule : Format → Rule Products

@@ -8,7 +8,7 @@ use Rattle.distance_sums.specs.declared.sparse.Turn.the-variants.{Both, 
 
 -- entry i of v and entry j of w are the next, where there are so many
 abbrev pub Next : Entries → Entries → ℕ → ℕ → Turn → Type 0
-Next v w i j (Both x y) = (i < v .count) × (j < w .count) × (v .at i ≡ w .at j) × (x ≡ v .value i) × (y ≡ w .value j)
-Next v w i j (Left x) = (i < v .count) × ((w .count ≤ j) ⊎ (v .at i < w .at j)) × (x ≡ v .value i)
-Next v w i j (Right y) = (j < w .count) × ((v .count ≤ i) ⊎ (w .at j < v .at i)) × (y ≡ w .value j)
+Next v w i j (Both x y) = (i < v .count) × (j < w .count) × (v .index i ≡ w .index j) × (x ≡ v .value i) × (y ≡ w .value j)
+Next v w i j (Left x) = (i < v .count) × ((w .count ≤ j) ⊎ (v .index i < w .index j)) × (x ≡ v .value i)
+Next v w i j (Right y) = (j < w .count) × ((v .count ≤ i) ⊎ (w .index j < v .index i)) × (y ≡ w .value j)
 Next v w i j Done = (v .count ≤ i) × (w .count ≤ j)

@@ -21,8 +21,8 @@ pub fn differing(a: &[u8], b: &[u8]) -> u32
     let mut count: u32 = 0;
     let mut k = 0;
     while k < words {
-        let x = elements::u64_at(a, 8 * k);
-        let y = elements::u64_at(b, 8 * k);
+        let x = little_endian::u64_at(a, 8 * k);
+        let y = little_endian::u64_at(b, 8 * k);
         count += u64::count_ones(x ^ y);
         k += 1;
     }
@@ -45,8 +45,8 @@ pub fn overlapping(a: &[u8], b: &[u8]) -> Overlap
     let mut either: u32 = 0;
     let mut k = 0;
     while k < words {
-        let x = elements::u64_at(a, 8 * k);
-        let y = elements::u64_at(b, 8 * k);
+        let x = little_endian::u64_at(a, 8 * k);
+        let y = little_endian::u64_at(b, 8 * k);
         both += u64::count_ones(x & y);
         either += u64::count_ones(x | y);
         k += 1;

@@ -4,7 +4,7 @@ ghost use Prim.Native.Nat.{_+_, _*_, _≤_};
 ghost use lib.IntN.{pos};
 ghost use lib.ListN.{length};
 ghost use lib.Ieee.{binary64, add, mul, ofInt};
-ghost use Rattle.vector_types.specs.Layout.{mostDims, ceil};
+ghost use Rattle.vector_types.specs.Layout.{maxDims, ceil};
 ghost use Rattle.distance_sums.specs.Float8.{scaleOf, totalsOf, scaledDot, scaledNorm};
 
 // Alpha and shift, widened.
@@ -23,13 +23,13 @@ pub struct Totals {
 }
 
 pub fn scale_of(dims: usize, body: &[u8]) -> Scale
-    requires { ⌜ dims ≤ mostDims ⌝ }
+    requires { ⌜ dims ≤ maxDims ⌝ }
     requires { ⌜ length (now body) ≡ 4 * ceil dims 4 + 8 ⌝ }
     ensures { λ r. ⌜ r ≡ scaleOf dims (now (body .entry)) ⌝ }
 {
     let end = 4 * ((dims + 3) / 4);
-    let alpha = elements::wide_at(body, end);
-    let shift = elements::wide_at(body, end + 4);
+    let alpha = little_endian::wide_at(body, end);
+    let shift = little_endian::wide_at(body, end + 4);
     Scale { alpha, shift }
 }
 
@@ -57,7 +57,7 @@ impl Totals {
 }
 
 pub fn totals_of(dims: usize, a: &[u8], b: &[u8]) -> Totals
-    requires { ⌜ dims ≤ mostDims ⌝ }
+    requires { ⌜ dims ≤ maxDims ⌝ }
     requires { ⌜ dims ≤ length (now a) ⌝ }
     requires { ⌜ dims ≤ length (now b) ⌝ }
     ensures { λ r. ⌜ r ≡ totalsOf (now (a .entry)) (now (b .entry)) dims ⌝ }

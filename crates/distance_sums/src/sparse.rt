@@ -22,18 +22,21 @@ pub fn next_turn(a: &[u8], left: usize, i: usize, b: &[u8], right: usize, j: usi
         if right <= j {
             return Turn::Done;
         }
-        return Turn::Right(elements::f32_at(b, 4 * j));
+        return Turn::Right(little_endian::f32_at(b, 4 * j));
     }
     if right <= j {
-        return Turn::Left(elements::f32_at(a, 4 * i));
+        return Turn::Left(little_endian::f32_at(a, 4 * i));
     }
-    let x = elements::u32_at(a, 4 * left + 4 * i);
-    let y = elements::u32_at(b, 4 * right + 4 * j);
+    let x = little_endian::u32_at(a, 4 * left + 4 * i);
+    let y = little_endian::u32_at(b, 4 * right + 4 * j);
     if x == y {
-        return Turn::Both(elements::f32_at(a, 4 * i), elements::f32_at(b, 4 * j));
+        return Turn::Both(
+            little_endian::f32_at(a, 4 * i),
+            little_endian::f32_at(b, 4 * j),
+        );
     }
     if x < y {
-        return Turn::Left(elements::f32_at(a, 4 * i));
+        return Turn::Left(little_endian::f32_at(a, 4 * i));
     }
-    Turn::Right(elements::f32_at(b, 4 * j))
+    Turn::Right(little_endian::f32_at(b, 4 * j))
 }

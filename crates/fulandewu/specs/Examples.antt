@@ -5,11 +5,11 @@ use Prim.Native.Nat.{ℕ}
 use lib.ListN.{replicate}
 use lib.Ieee.{Float, add, sub, mul, div, neg, eq, lt, le, isNan, ofInt, ofBits, toBits, binary64}
 use Rattle.float_laws.specs.Running.{running, total}
-use Rattle.elements.specs.Bytes.{numberAt, bytesOf}
+use Rattle.little_endian.specs.Bytes.{numberAt, bytesOf}
 use Rattle.rounding.specs.Root.{root}
 use Rattle.vector_types.specs.Answers.{readNumber}
 use Rattle.vector_types.specs.Search.{firstFrom}
-use Rattle.vector_types.specs.Layout.{named, byByte, before, fits, rowOf}
+use Rattle.vector_types.specs.Layout.{namedKind, byByte, lengthBeforeType, bodyFits, layoutRow}
 use Rattle.vector_types.specs.Read.{readOf, strictOf, refusals, strictRefusals, shown}
 use Rattle.vector_types.specs.Parts.{bodyOf}
 use Rattle.vector_types.specs.Write.{writeOf, writeOutcome, writeRefusals, tailOf, blobOf}
@@ -124,5 +124,5 @@ table =
     ∷ []
 
 pub table-holds : map (λ (e : Example). e .defined) table ≡ map (λ (e : Example). e .written) table
-unfolding readOf strictOf bodyOf named byByte before fits refusals strictRefusals shown firstFrom numberAt rowOf writtenBy writeOf writeOutcome writeRefusals tailOf blobOf bytesOf convertedBy convertOf convertOutcome distanceOf nearerOf running total root add sub mul div neg eq lt le isNan ofInt ofBits toBits
+unfolding readOf strictOf bodyOf namedKind byByte lengthBeforeType bodyFits refusals strictRefusals shown firstFrom numberAt layoutRow writtenBy writeOf writeOutcome writeRefusals tailOf blobOf bytesOf convertedBy convertOf convertOutcome distanceOf nearerOf running total root add sub mul div neg eq lt le isNan ofInt ofBits toBits
 table-holds = refl

@@ -11,7 +11,7 @@ use Rattle.vector_types.specs.Write.{WriteOutcome, outcome, writeOutcome}
 use Rattle.vector_types.specs.declared.Detail.{Detail}
 use Rattle.vector_types.specs.declared.Detail.the-variants.{Nothing, Needs}
 use Rattle.vector_types.specs.declared.ReadAnswer.{ReadAnswer}
-use Rattle.vector_types.specs.declared.ReadAnswer.the-variants.{View as Seen, Refused as Unread}
+use Rattle.vector_types.specs.declared.ReadAnswer.the-variants.{Accepted, Refused as Unread}
 use Rattle.vector_types.specs.declared.WriteAnswer.{WriteAnswer}
 use Rattle.vector_types.specs.declared.WriteAnswer.the-variants.{Written, Refused as Unwritten}
 use Rattle.convert.specs.Convert.{convertNumber, ConvertOutcome, outcome as leaving, convertOutcome}
@@ -33,15 +33,15 @@ use Rattle.fulandewu.specs.declared.kinds.Chosen.the-variants.{Kind, Ref
 
 -- of reading: the type byte, dims and body length of a view
 abbrev pub kindShown : ReadAnswer → ℕ → ℕ
-kindShown (Seen v) before = byteOf (v .kind)
+kindShown (Accepted v) before = byteOf (v .kind)
 kindShown (Unread r) before = before
 
 abbrev pub dimsShown : ReadAnswer → ℕ → ℕ
-dimsShown (Seen v) before = v .dims .0
+dimsShown (Accepted v) before = v .dims .0
 dimsShown (Unread r) before = before
 
 abbrev pub lengthShown : ReadAnswer → ℕ → ℕ
-lengthShown (Seen v) before = v .length
+lengthShown (Accepted v) before = v .length
 lengthShown (Unread r) before = before
 
 -- of a refusal: how long a buffer that is too short would have to be

@@ -13,7 +13,7 @@ fn tell(answer: ReadAnswer, kind: &mut u8, dims: &mut usize, length: &mut usize)
     ensures { λ _. ⌜ now (length .exit) ≡ lengthShown answer (now (length .entry)) ⌝ }
 {
     match answer {
-        ReadAnswer::View(view) => {
+        ReadAnswer::Accepted(view) => {
             let named = view.kind;
             *kind = vector_types::type_byte(named);
             *dims = view.dims.0;

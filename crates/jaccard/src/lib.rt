@@ -6,7 +6,7 @@ ghost use mathlib.Core.Bool.{true};
 ghost use Prim.Native.Nat.{_+_, _*_, _≤_};
 ghost use lib.ListN.{length};
 ghost use lib.Ieee.{binary32};
-ghost use Rattle.vector_types.specs.Layout.{mostDims, ceil, fits};
+ghost use Rattle.vector_types.specs.Layout.{maxDims, ceil, bodyFits};
 ghost use Rattle.vector_types.specs.declared.VectorType.the-variants.{Float32Dense, Float64Dense, Float1Bit, Float8};
 ghost use Rattle.distance_sums.specs.Dense.{jaccardBy};
 ghost use Rattle.distance_sums.specs.Sparse.{sparseShares};
@@ -24,9 +24,9 @@ use vector_types::VectorType;
 
 // The distance of two bodies of one kind and dims.
 pub fn measure_jaccard(kind: VectorType, dims: usize, a: &[u8], b: &[u8]) -> f64
-    requires { ⌜ dims ≤ mostDims ⌝ }
-    requires { ⌜ fits kind dims (length (now a)) ≡ true ⌝ }
-    requires { ⌜ fits kind dims (length (now b)) ≡ true ⌝ }
+    requires { ⌜ dims ≤ maxDims ⌝ }
+    requires { ⌜ bodyFits kind dims (length (now a)) ≡ true ⌝ }
+    requires { ⌜ bodyFits kind dims (length (now b)) ≡ true ⌝ }
     ensures { λ r. ⌜ r ≡ jaccardOf kind dims (now (a .entry)) (now (b .entry)) ⌝ }
 {
     match kind {
@@ -49,7 +49,7 @@ fn bit_jaccard(o: Overlap) -> f64
 }
 
 fn vector_1bit_distance_jaccard(dims: usize, a: &[u8], b: &[u8]) -> f64
-    requires { ⌜ dims ≤ mostDims ⌝ }
+    requires { ⌜ dims ≤ maxDims ⌝ }
     requires { ⌜ length (now a) ≡ ceil dims 8 ⌝ }
     requires { ⌜ length (now b) ≡ ceil dims 8 ⌝ }
     ensures { λ r. ⌜ r ≡ jaccardOf Float1Bit dims (now (a .entry)) (now (b .entry)) ⌝ }
@@ -59,7 +59,7 @@ fn vector_1bit_distance_jaccard(dims: usize, a: &[u8], b: &[u8]) -> f64
 }
 
 fn vector_f8_distance_jaccard(dims: usize, a: &[u8], b: &[u8]) -> f64
-    requires { ⌜ dims ≤ mostDims ⌝ }
+    requires { ⌜ dims ≤ maxDims ⌝ }
     requires { ⌜ length (now a) ≡ 4 * ceil dims 4 + 8 ⌝ }
     requires { ⌜ length (now b) ≡ 4 * ceil dims 4 + 8 ⌝ }
     ensures { λ r. ⌜ r ≡ jaccardOf Float8 dims (now (a .entry)) (now (b .entry)) ⌝ }
@@ -76,7 +76,7 @@ fn vector_f8_distance_jaccard(dims: usize, a: &[u8], b: &[u8]) -> f64
 }
 
 fn vector_f32_distance_jaccard(dims: usize, a: &[u8], b: &[u8]) -> f64
-    requires { ⌜ dims ≤ mostDims ⌝ }
+    requires { ⌜ dims ≤ maxDims ⌝ }
     requires { ⌜ length (now a) ≡ 4 * dims ⌝ }
     requires { ⌜ length (now b) ≡ 4 * dims ⌝ }
     ensures { λ r. ⌜ r ≡ jaccardOf Float32Dense dims (now (a .entry)) (now (b .entry)) ⌝ }
@@ -84,14 +84,17 @@ fn vector_f32_distance_jaccard(dims: usize, a: &[u8], b: &[u8]) -> f64
     let mut sums = JaccardSums32::new();
     let mut i = 0;
     while i < dims {
-        sums = sums.step_bits(elements::u32_at(a, 4 * i), elements::u32_at(b, 4 * i));
+        sums = sums.step_bits(
+            little_endian::u32_at(a, 4 * i),
+            little_endian::u32_at(b, 4 * i),
+        );
         i += 1;
     }
     sums.distance()
 }
 
 fn vector_f64_distance_jaccard(dims: usize, a: &[u8], b: &[u8]) -> f64
-    requires { ⌜ dims ≤ mostDims ⌝ }
+    requires { ⌜ dims ≤ maxDims ⌝ }
     requires { ⌜ length (now a) ≡ 8 * dims ⌝ }
     requires { ⌜ length (now b) ≡ 8 * dims ⌝ }
     ensures { λ r. ⌜ r ≡ jaccardOf Float64Dense dims (now (a .entry)) (now (b .entry)) ⌝ }
@@ -99,7 +102,10 @@ fn vector_f64_distance_jaccard(dims: usize, a: &[u8], b: &[u8]) -> f64
     let mut sums = JaccardSums64::new();
     let mut i = 0;
     while i < dims {
-        sums = sums.step_bits(elements::u64_at(a, 8 * i), elements::u64_at(b, 8 * i));
+        sums = sums.step_bits(
+            little_endian::u64_at(a, 8 * i),
+            little_endian::u64_at(b, 8 * i),
+        );
         i += 1;
     }
     sums.distance()

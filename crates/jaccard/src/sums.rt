@@ -100,7 +100,7 @@ impl JaccardSums32 {
     pub(crate) fn step_bits(self, p: u32, q: u32) -> Self
         ensures { λ r. ⌜ shares32 r ≡ sharesWith lesser greater binary32 (shares32 self) (ofBits binary32 p) (ofBits binary32 q) ⌝ }
     {
-        let y = elements::f32_of(q);
+        let y = little_endian::f32_of(q);
         if p % 0x8000_0000 <= 0x7f80_0000 {
             let x = f32::from_bits(p);
             self.with_number(x, y)
@@ -187,7 +187,7 @@ impl JaccardSums64 {
     pub(crate) fn step_bits(self, p: u64, q: u64) -> Self
         ensures { λ r. ⌜ shares64 r ≡ sharesWith lesser greater binary64 (shares64 self) (ofBits binary64 p) (ofBits binary64 q) ⌝ }
     {
-        let y = elements::f64_of(q);
+        let y = little_endian::f64_of(q);
         if p % 0x8000_0000_0000_0000 <= 0x7ff0_0000_0000_0000 {
             let x = f64::from_bits(p);
             self.with_number(x, y)

@@ -16,7 +16,7 @@ use Rattle.promises.proofs.Onto.{onto-then, tail-lent}
 use Rattle.lines.specs.Text.{tab, same}
 use Rattle.lines.specs.Hex.{digitOf, hexBytes}
 use Rattle.lines.specs.Parts.{partsOf, fieldsOf}
-use Rattle.lines.specs.Fields.{other, one, two, three, four, spelled}
+use Rattle.lines.specs.Fields.{other, one, two, three, four, fromHex}
 use Rattle.lines.proofs.Pairs.{blob-none}
 use Rattle.lines.proofs.Same.{tested}
 use Rattle.lines.proofs.Parting.{index-le, parts-at, parts-last, parts-some}
@@ -104,37 +104,37 @@ either false = refl
 
 -- ---- a field of which n bytes are spelled
 module _ (answer : List ℕ → List ℕ) (field : List ℕ) where
-  pub spelled-part : (n : ℕ) → n ≡ length (hexBytes field) → (2 * n ≡ length field → ⊥) → other ≡ spelled answer field
-  unfolding spelled
+  pub spelled-part : (n : ℕ) → n ≡ length (hexBytes field) → (2 * n ≡ length field → ⊥) → other ≡ fromHex answer field
+  unfolding fromHex
   spelled-part n e less = rw (ne-eqb (2 * length (hexBytes field)) (length field) (λ all. less (rw e all)))
 
-  pub spelled-whole : (n : ℕ) → n ≡ length (hexBytes field) → 2 * n ≡ length field → answer (hexBytes field) ≡ spelled answer field
-  unfolding spelled
+  pub spelled-whole : (n : ℕ) → n ≡ length (hexBytes field) → 2 * n ≡ length field → answer (hexBytes field) ≡ fromHex answer field
+  unfolding fromHex
   spelled-whole n e all = rw (eq-eqb (2 * length (hexBytes field)) (length field) (rw e at all))
 
-  pub spelled-all : (n : ℕ) (l o : List ℕ) → Puts (hexBytes field) l o n → 2 * n ≡ length field → answer (take n o) ≡ spelled answer field
+  pub spelled-all : (n : ℕ) (l o : List ℕ) → Puts (hexBytes field) l o n → 2 * n ≡ length field → answer (take n o) ≡ fromHex answer field
   spelled-all n l o p all = ap answer (put-there (hexBytes field) l o n p) ∙ spelled-whole n (p .0) all
 
-  pub spelled-other : answer (hexBytes field) ≡ other → spelled answer field ≡ other
-  unfolding spelled
+  pub spelled-other : answer (hexBytes field) ≡ other → fromHex answer field ≡ other
+  unfolding fromHex
   spelled-other e = rw e (either (eqb (2 * length (hexBytes field)) (length field)))
 
   -- a tab is no digit
-  pub spelled-tab : indexOf tab field < length field → spelled answer field ≡ other
+  pub spelled-tab : indexOf tab field < length field → fromHex answer field ≡ other
   unfolding digitOf
   spelled-tab less =
       let few = blob-none tab field (lit≤ tt) less in
       sym (spelled-part (length (hexBytes field)) refl (λ all. omega (arith, few, all)))
 
 -- what was written is x, and x is the answer
-pub answered : (x y l o : List ℕ) (r : ℕ) → x ≡ y → (r ≡ length x) × (o ≡ onto x l) → (r ≡ length y) × (o ≡ onto y l)
-answered x y l o r e p = (p .0 ∙ ap length e, p .1 ∙ ap (λ (w : List ℕ). onto w l) e)
+pub same-text : (x y l o : List ℕ) (r : ℕ) → x ≡ y → (r ≡ length x) × (o ≡ onto x l) → (r ≡ length y) × (o ≡ onto y l)
+same-text x y l o r e p = (p .0 ∙ ap length e, p .1 ∙ ap (λ (w : List ℕ). onto w l) e)
 
 -- words asked for in turn: what the first that is w stands for
-abbrev pub named : {A : Type 0} → List (List ℕ × A) → A → List ℕ → A
-named [] none w = none
-named (p ∷ ps) none w = cond (same w (p .0)) (p .1) (named ps none w)
+abbrev pub firstNamed : {A : Type 0} → List (List ℕ × A) → A → List ℕ → A
+firstNamed [] none w = none
+firstNamed (p ∷ ps) none w = cond (same w (p .0)) (p .1) (firstNamed ps none w)
 
 -- a test of the code whether two texts are equal, as a case of such a choice
-pub told : {A : Type 0} {r : Bool} {a b : List ℕ} (t : Bool) → (r ≡ true → a ≡ b) × (a ≡ b → r ≡ true) → r ≡ t → (x y : A) → cond (same a b) x y ≡ cond t x y
-told {r = r} {a = a} {b = b} t h e x y = rw (tested r a b h, e)
+pub word-tested : {A : Type 0} {r : Bool} {a b : List ℕ} (t : Bool) → (r ≡ true → a ≡ b) × (a ≡ b → r ≡ true) → r ≡ t → (x y : A) → cond (same a b) x y ≡ cond t x y
+word-tested {r = r} {a = a} {b = b} t h e x y = rw (tested r a b h, e)

@@ -12,12 +12,12 @@ use lib.ListN.{length, getD, drop, length-drop, drop-of-length-le}
 use lib.Seq.{drop-cons}
 use Rattle.bytes.specs.Bytes.{indexOf, indexAfter}
 use Rattle.io.specs.Digits.{glyph}
-use Rattle.lines.specs.Hex.{digitOf, pairOf, hexBytes, hexOf}
+use Rattle.lines.specs.Hex.{digitOf, hexPair, hexBytes, hexOf}
 
 -- pairs of digits that are read
 module _ (s : List ℕ) (i : ℕ) where
   abbrev pairAt : ℕ
-  pairAt = pairOf (getD s (2 * i) 0) (getD s (2 * i + 1) 0)
+  pairAt = hexPair (getD s (2 * i) 0) (getD s (2 * i + 1) 0)
 
   two : 2 * i + 1 < length s → drop (2 * i) s ≡ getD s (2 * i) 0 ∷ (getD s (2 * i + 1) 0 ∷ drop (2 * (i + 1)) s)
   two more =
@@ -61,9 +61,9 @@ pub length-hexBytes : (s : List ℕ) → 2 * length (hexBytes s) ≤ length s
 unfolding hexBytes
 length-hexBytes [] = omega arith
 length-hexBytes (a ∷ []) = omega arith
-length-hexBytes (a ∷ (b ∷ s)) = go (ltb (pairOf a b) 256) (length-hexBytes s)
+length-hexBytes (a ∷ (b ∷ s)) = go (ltb (hexPair a b) 256) (length-hexBytes s)
   where
-    go : (t : Bool) → 2 * length (hexBytes s) ≤ length s → 2 * length (cond t (pairOf a b ∷ hexBytes s) []) ≤ suc (suc (length s))
+    go : (t : Bool) → 2 * length (hexBytes s) ≤ length s → 2 * length (cond t (hexPair a b ∷ hexBytes s) []) ≤ suc (suc (length s))
     go true h = omega arith
     go false h = omega arith
 
@@ -76,10 +76,10 @@ hexBytes-bytes : (s : List ℕ) (k : ℕ) → getD (hexBytes s) k 0 < 256
 unfolding hexBytes
 hexBytes-bytes [] k = lit< tt
 hexBytes-bytes (a ∷ []) k = lit< tt
-hexBytes-bytes (a ∷ (b ∷ s)) k = bytes-step (ltb (pairOf a b) 256) (pairOf a b) (hexBytes s) refl (hexBytes-bytes s) k
+hexBytes-bytes (a ∷ (b ∷ s)) k = bytes-step (ltb (hexPair a b) 256) (hexPair a b) (hexBytes s) refl (hexBytes-bytes s) k
 
-pair-digits : (x y : ℕ) → pairOf x y < 256 → (digitOf x < 16) × (digitOf y < 16)
-unfolding pairOf
+pair-digits : (x y : ℕ) → hexPair x y < 256 → (digitOf x < 16) × (digitOf y < 16)
+unfolding hexPair
 pair-digits x y h = go (ltb (digitOf x) 16) (ltb (digitOf y) 16) refl refl h
   where
     go : (t u : Bool) → ltb (digitOf x) 16 ≡ t → ltb (digitOf y) 16 ≡ u → cond (t && u) (digitOf x * 16 + digitOf y) 256 < 256 → (digitOf x < 16) × (digitOf y < 16)
@@ -87,12 +87,12 @@ pair-digits x y h = go (ltb (digitOf x) 16) (ltb (digitOf y) 16) refl refl h
     go true false e f p = absurd (omega arith)
     go false u e f p = absurd (omega arith)
 
-blob-step : (t : Bool) (b x y : ℕ) (s : List ℕ) → ltb (pairOf x y) 256 ≡ t → 16 ≤ digitOf b → (indexOf b s < length s → 2 * length (hexBytes s) < length s)
-    → indexOf b (x ∷ (y ∷ s)) < suc (suc (length s)) → 2 * length (cond t (pairOf x y ∷ hexBytes s) []) < suc (suc (length s))
+blob-step : (t : Bool) (b x y : ℕ) (s : List ℕ) → ltb (hexPair x y) 256 ≡ t → 16 ≤ digitOf b → (indexOf b s < length s → 2 * length (hexBytes s) < length s)
+    → indexOf b (x ∷ (y ∷ s)) < suc (suc (length s)) → 2 * length (cond t (hexPair x y ∷ hexBytes s) []) < suc (suc (length s))
 unfolding indexOf indexAfter
 blob-step false b x y s e big ih h = omega arith
 blob-step true b x y s e big ih h =
-    let (dx, dy) = pair-digits x y (ltb-true (pairOf x y) 256 e) in
+    let (dx, dy) = pair-digits x y (ltb-true (hexPair x y) 256 e) in
     let fx = ne-eqb x b (λ p. omega (arith, ap digitOf p)) in
     let fy = ne-eqb y b (λ p. omega (arith, ap digitOf p)) in
     let less : indexOf b s < length s = omega (arith, rw (fx, fy) at h) in
@@ -103,7 +103,7 @@ pub blob-none : (b : ℕ) (s : List ℕ) → 16 ≤ digitOf b → indexOf b s < 
 unfolding hexBytes
 blob-none b [] big h = absurd (omega arith)
 blob-none b (x ∷ []) big h = omega arith
-blob-none b (x ∷ (y ∷ s)) big h = blob-step (ltb (pairOf x y) 256) b x y s refl big (blob-none b s big) h
+blob-none b (x ∷ (y ∷ s)) big h = blob-step (ltb (hexPair x y) 256) b x y s refl big (blob-none b s big) h
 
 digit-glyph : (d : ℕ) → d < 16 → digitOf (glyph d) ≡ d
 unfolding digitOf
@@ -116,8 +116,8 @@ digit-glyph d h = elim (decLt d 10) [ yes less ↦ number less | no more ↦ let
     letter more =
         rw (le-ltb d 10 more, le-leb 48 (87 + d) (omega arith), lt-leb (87 + d) 57 (omega arith), le-leb 97 (87 + d) (omega arith), le-leb (87 + d) 102 (omega arith)) (omega arith)
 
-pair-glyphs : (b : ℕ) → b < 256 → pairOf (glyph (b / 16)) (glyph (b % 16)) ≡ b
-unfolding pairOf
+pair-glyphs : (b : ℕ) → b < 256 → hexPair (glyph (b / 16)) (glyph (b % 16)) ≡ b
+unfolding hexPair
 pair-glyphs b h =
     let high : b / 16 < 16 = omega arith in
     let low : b % 16 < 16 = omega arith in

@@ -32,5 +32,5 @@ four answer [] = other
 four answer (f ∷ fs) = three (answer f) fs
 
 -- the answer to the bytes that a field spells; X unless all of it does
-unfoldable pub spelled : (List ℕ → List ℕ) → List ℕ → List ℕ
-spelled answer field = cond (eqb (2 * length (hexBytes field)) (length field)) (answer (hexBytes field)) other
+unfoldable pub fromHex : (List ℕ → List ℕ) → List ℕ → List ℕ
+fromHex answer field = cond (eqb (2 * length (hexBytes field)) (length field)) (answer (hexBytes field)) other

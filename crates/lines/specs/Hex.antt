@@ -30,15 +30,15 @@ unfoldable pub patternOf : ℕ → List ℕ → Found
 patternOf width s = cond (eqb (length s) width) (numberFrom 16 0 s) Nothing
 
 -- the byte that the digits a and b are; 256 where they are not both digits
-unfoldable pub pairOf : ℕ → ℕ → ℕ
-pairOf a b = cond (ltb (digitOf a) 16 && ltb (digitOf b) 16) (digitOf a * 16 + digitOf b) 256
+unfoldable pub hexPair : ℕ → ℕ → ℕ
+hexPair a b = cond (ltb (digitOf a) 16 && ltb (digitOf b) 16) (digitOf a * 16 + digitOf b) 256
 
 -- the bytes that s spells in two digits each, up to the first two that are not both digits, or a lone last one;
 -- s is a blob in hexadecimal exactly if 2 * length (hexBytes s) ≡ length s
 unfoldable pub hexBytes : List ℕ → List ℕ
 hexBytes [] = []
 hexBytes (a ∷ []) = []
-hexBytes (a ∷ (b ∷ s)) = cond (ltb (pairOf a b) 256) (pairOf a b ∷ hexBytes s) []
+hexBytes (a ∷ (b ∷ s)) = cond (ltb (hexPair a b) 256) (hexPair a b ∷ hexBytes s) []
 
 -- bytes in two digits each
 unfoldable pub hexOf : List ℕ → List ℕ

@@ -3,7 +3,7 @@ ghost use mathlib.Core.Path.{_≡_};
 ghost use Prim.Native.Nat.{_*_, _/_, _≤_, _<_, _^_};
 ghost use lib.ListN.{length};
 ghost use Rattle.io.specs.Digits.{digits, glyph as Digits·glyph};
-ghost use Rattle.lines.specs.Hex.{digitOf, numberFrom, patternOf, pairOf, hexBytes, hexOf};
+ghost use Rattle.lines.specs.Hex.{digitOf, numberFrom, patternOf, hexPair, hexBytes, hexOf};
 ghost use Rattle.promises.specs.Onto.{onto};
 
 // A number that a text may be.
@@ -76,7 +76,7 @@ pub fn put_hex(width: usize, n: u64, out: &mut [u8]) -> usize
 
 // The byte that two digits are, or 256 where they are not both digits.
 fn pair(a: u8, b: u8) -> u64
-    ensures { λ r. ⌜ r ≡ pairOf a b ⌝ }
+    ensures { λ r. ⌜ r ≡ hexPair a b ⌝ }
 {
     let high = digit(a);
     let low = digit(b);

@@ -7,11 +7,11 @@ use Prim.Native.Nat.{ℕ}
 use lib.Dec.{eqb}
 use lib.Ieee.{Float, le, eq, isNan}
 use Rattle.float_laws.proofs.Order.{nan-le, le-nan, eq-self, nan-self}
-use Rattle.vector_types.specs.Answers.{refusal, Test, test, firstOf, unless}
-use Rattle.vector_types.specs.Layout.{byteOf, is}
+use Rattle.vector_types.specs.Answers.{refusal, Test, test, firstGiven, unless}
+use Rattle.vector_types.specs.Layout.{byteOf, hasByte}
 use Rattle.vector_types.specs.declared.View.{View}
 use Rattle.distance.specs.Values.{valueOf}
-use Rattle.distance.specs.Answer.{answered, pairOf}
+use Rattle.distance.specs.Answer.{distanceAnswer, distanceOfViews}
 use Rattle.distance.specs.declared.Distance.{Distance}
 use Rattle.distance.specs.declared.DistanceAnswer.{DistanceAnswer}
 use Rattle.distance.specs.declared.DistanceAnswer.the-variants.{Refused as Unmeasured}
@@ -26,10 +26,10 @@ abbrev tests : Bool → Bool → List Test
 tests dims kinds = test 12 dims ∷ test 13 kinds ∷ []
 
 abbrev pair : Bool → Bool → Option Float → DistanceAnswer
-pair dims kinds x = unless (firstOf (tests dims kinds)) (λ r. Unmeasured r Neither) (answered x)
+pair dims kinds x = unless (firstGiven (tests dims kinds)) (λ r. Unmeasured r Neither) (distanceAnswer x)
 
 by-tests : (d k e l : Bool) (x y : Option Float)
-    → unless (firstOf (tests d k ++ tests e l)) refusedNamingNone (decided x y) ≡ decidedBy (pair d k x) (pair e l y)
+    → unless (firstGiven (tests d k ++ tests e l)) refusedNamingNone (decided x y) ≡ decidedBy (pair d k x) (pair e l y)
 by-tests true k e l x y = refl
 by-tests false true e l x y = refl
 by-tests false false true l none y = refl
@@ -41,11 +41,11 @@ by-tests false false false false none (some y) = refl
 by-tests false false false false (some x) none = refl
 by-tests false false false false (some x) (some y) = refl
 
-pub compared-by : (m : Distance) (v w u : View) (p a b : List ℕ) → comparedOf m v w u p a b ≡ decidedBy (pairOf m v w p a) (pairOf m v u p b)
-unfolding comparedOf pairOf
+pub compared-by : (m : Distance) (v w u : View) (p a b : List ℕ) → comparedOf m v w u p a b ≡ decidedBy (distanceOfViews m v w p a) (distanceOfViews m v u p b)
+unfolding comparedOf distanceOfViews
 compared-by m v w u p a b =
-    by-tests (not (eqb (v .dims .0) (w .dims .0))) (not (is (byteOf (w .kind)) (v .kind)))
-    (not (eqb (v .dims .0) (u .dims .0))) (not (is (byteOf (u .kind)) (v .kind)))
+    by-tests (not (eqb (v .dims .0) (w .dims .0))) (not (hasByte (byteOf (w .kind)) (v .kind)))
+    (not (eqb (v .dims .0) (u .dims .0))) (not (hasByte (byteOf (u .kind)) (v .kind)))
     (valueOf m (v .kind) (v .dims .0) p a) (valueOf m (v .kind) (v .dims .0) p b)
 
 -- ---- two distances: by the comparisons

@@ -4,10 +4,10 @@ use mathlib.Core.List.{List, [], _∷_, _++_, map}
 use Prim.Native.Nat.{ℕ}
 use lib.Ieee.{add, sub, mul, div, neg, eq, lt, le, isNan, ofInt, ofBits, binary64}
 use Rattle.float_laws.specs.Running.{running, total}
-use Rattle.elements.specs.Bytes.{numberAt}
+use Rattle.little_endian.specs.Bytes.{numberAt}
 use Rattle.vector_types.specs.Answers.{refusal}
 use Rattle.vector_types.specs.Search.{firstFrom}
-use Rattle.vector_types.specs.Layout.{named, byByte, before, fits, rowOf}
+use Rattle.vector_types.specs.Layout.{namedKind, byByte, lengthBeforeType, bodyFits, layoutRow}
 use Rattle.vector_types.specs.Read.{readOf, refusals, shown}
 use Rattle.vector_types.specs.Parts.{bodyOf}
 use Rattle.distance_sums.specs.Merged.{merged}
@@ -75,5 +75,5 @@ table =
     ∷ []
 
 pub table-holds : map (λ (e : Example). e .defined) table ≡ map (λ (e : Example). e .written) table
-unfolding nearerOf readOf bodyOf named byByte before fits refusals shown firstFrom numberAt rowOf running total merged add sub mul div neg eq lt le isNan ofInt ofBits
+unfolding nearerOf readOf bodyOf namedKind byByte lengthBeforeType bodyFits refusals shown firstFrom numberAt layoutRow running total merged add sub mul div neg eq lt le isNan ofInt ofBits
 table-holds = refl

@@ -4,13 +4,13 @@ use mathlib.Core.Bool.{cond, _&&_, _||_}
 use mathlib.Core.List.{List, [], _++_}
 use mathlib.Core.Option.{Option, none, some}
 use lib.Ieee.{Float, le, isNan}
-use Rattle.vector_types.specs.Answers.{refusal, firstOf, unless}
+use Rattle.vector_types.specs.Answers.{refusal, firstGiven, unless}
 use Rattle.vector_types.specs.Read.{readOf}
 use Rattle.vector_types.specs.Parts.{bodyOf}
 use Rattle.vector_types.specs.declared.Refusal.{Refusal}
 use Rattle.vector_types.specs.declared.View.{View}
 use Rattle.vector_types.specs.declared.ReadAnswer.{ReadAnswer}
-use Rattle.vector_types.specs.declared.ReadAnswer.the-variants.{View as Seen, Refused as Unread}
+use Rattle.vector_types.specs.declared.ReadAnswer.the-variants.{Accepted, Refused as Unread}
 use Rattle.distance.specs.Values.{valueOf}
 use Rattle.distance.specs.Answer.{mismatches}
 use Rattle.distance.specs.declared.Distance.{Distance}
@@ -49,15 +49,15 @@ decided (some x) (some y) = chosen x y
 unfoldable pub comparedOf : Distance → View → View → View → List ℕ → List ℕ → List ℕ → NearerAnswer
 unfolding chosen valueOf
 comparedOf m v w u p a b =
-    unless (firstOf (mismatches v w ++ mismatches v u)) refusedNamingNone
+    unless (firstGiven (mismatches v w ++ mismatches v u)) refusedNamingNone
     (decided (valueOf m (v .kind) (v .dims .0) p a) (valueOf m (v .kind) (v .dims .0) p b))
 
 -- of what reading each answers
 abbrev pub nearerIn : Distance → ReadAnswer → ReadAnswer → ReadAnswer → List ℕ → List ℕ → List ℕ → NearerAnswer
 nearerIn m (Unread r) q s p a b = Refused r Probe
-nearerIn m (Seen v) (Unread r) s p a b = Refused r TheFirst
-nearerIn m (Seen v) (Seen w) (Unread r) p a b = Refused r TheSecond
-nearerIn m (Seen v) (Seen w) (Seen u) p a b = comparedOf m v w u p a b
+nearerIn m (Accepted v) (Unread r) s p a b = Refused r TheFirst
+nearerIn m (Accepted v) (Accepted w) (Unread r) p a b = Refused r TheSecond
+nearerIn m (Accepted v) (Accepted w) (Accepted u) p a b = comparedOf m v w u p a b
 
 unfoldable pub nearerOf : Distance → List ℕ → List ℕ → List ℕ → NearerAnswer
 unfolding comparedOf

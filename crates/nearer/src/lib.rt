@@ -2,7 +2,7 @@
 ghost use mathlib.Core.Path.{_≡_};
 ghost use Rattle.vector_types.specs.Read.{readOf};
 ghost use Rattle.vector_types.specs.Parts.{bodyOf};
-ghost use Rattle.vector_types.specs.declared.ReadAnswer.the-variants.{View as Seen};
+ghost use Rattle.vector_types.specs.declared.ReadAnswer.the-variants.{Accepted};
 ghost use Rattle.nearer.specs.Nearer.{near, chosen, comparedOf, nearerOf, partOf, placeOf};
 ghost use Rattle.nearer.specs.Deciding.{decidedBy};
 use distance::Distance;
@@ -98,9 +98,9 @@ fn compare(
     second: &[u8],
     u: View,
 ) -> NearerAnswer
-    requires { ⌜ readOf (now probe) ≡ Seen v ⌝ }
-    requires { ⌜ readOf (now first) ≡ Seen w ⌝ }
-    requires { ⌜ readOf (now second) ≡ Seen u ⌝ }
+    requires { ⌜ readOf (now probe) ≡ Accepted v ⌝ }
+    requires { ⌜ readOf (now first) ≡ Accepted w ⌝ }
+    requires { ⌜ readOf (now second) ≡ Accepted u ⌝ }
     ensures { λ r. ⌜ r ≡ comparedOf distance v w u (bodyOf (now (probe .entry))) (bodyOf (now (first .entry))) (bodyOf (now (second .entry))) ⌝ }
 {
     let p = distance::measure_views(distance, probe, v, first, w);
@@ -114,11 +114,11 @@ pub fn nearer(distance: Distance, probe: &[u8], first: &[u8], second: &[u8]) -> 
 {
     match vector_types::read(probe) {
         ReadAnswer::Refused(refusal) => NearerAnswer::Refused(refusal, Among::Probe),
-        ReadAnswer::View(v) => match vector_types::read(first) {
+        ReadAnswer::Accepted(v) => match vector_types::read(first) {
             ReadAnswer::Refused(refusal) => NearerAnswer::Refused(refusal, Among::First),
-            ReadAnswer::View(w) => match vector_types::read(second) {
+            ReadAnswer::Accepted(w) => match vector_types::read(second) {
                 ReadAnswer::Refused(refusal) => NearerAnswer::Refused(refusal, Among::Second),
-                ReadAnswer::View(u) => compare(distance, probe, v, first, w, second, u),
+                ReadAnswer::Accepted(u) => compare(distance, probe, v, first, w, second, u),
             },
         },
     }

@@ -14,20 +14,20 @@ use Rattle.lines.specs.Decimal.{numeralOf}
 use Rattle.lines.specs.Parts.{fieldsOf}
 use Rattle.lines.specs.declared.hex.Found.{Found}
 use Rattle.lines.specs.declared.hex.Found.the-variants.{Number, Nothing}
-use Rattle.vector_types.specs.Layout.{longest}
+use Rattle.vector_types.specs.Layout.{maxBlobLength}
 use Rattle.vector_types.specs.Read.{readOf}
 use Rattle.vector_types.specs.Parts.{bodyOf}
 use Rattle.vector_types.specs.Write.{blobOf, writeOf, writeOutcome}
 use Rattle.vector_types.specs.declared.VectorType.{VectorType}
 use Rattle.vector_types.specs.declared.View.{View}
 use Rattle.vector_types.specs.declared.ReadAnswer.{ReadAnswer}
-use Rattle.vector_types.specs.declared.ReadAnswer.the-variants.{View as Seen, Refused as Unread}
+use Rattle.vector_types.specs.declared.ReadAnswer.the-variants.{Accepted, Refused as Unread}
 use Rattle.vector_types.specs.declared.WriteAnswer.the-variants.{Written}
 use Rattle.convert.specs.Result.{resultOf}
 use Rattle.convert.specs.Convert.{shortScratch, shortOut, convertedTo, scratched, answerOf, bodyOutcome, convertIn, convertOf, outcomeIn, convertOutcome}
 use Rattle.convert.specs.declared.ConvertAnswer.{ConvertAnswer}
 use Rattle.convert.specs.declared.ConvertAnswer.the-variants.{Converted, Refused}
-use Rattle.vector_types.proofs.Views.{told}
+use Rattle.vector_types.proofs.Views.{view-facts}
 use Rattle.vector_types.proofs.Strict.{strict-plain}
 use Rattle.vector_types.proofs.Written.{writable, written-blob}
 use Rattle.lines.specs.Fields.{one, two, other}
@@ -39,16 +39,16 @@ use Rattle.probe_blobs.specs.declared.Kind.{Kind}
 use Rattle.probe_blobs.specs.declared.Kind.the-variants.{Known, Unknown}
 
 -- ---- what is shown and what is written
-plain-within : (s : List ℕ) (v : View) → readOf s ≡ Seen v → (v .length ≤ length s) × (v .length ≤ longest)
-plain-within s v e = let t = told s v e in (t .within, omega (arith, t .within, t .short))
+plain-within : (s : List ℕ) (v : View) → readOf s ≡ Accepted v → (v .length ≤ length s) × (v .length ≤ maxBlobLength)
+plain-within s v e = let t = view-facts s v e in (t .within, omega (arith, t .within, t .short))
 
-pub seen-within : (reader : Reader) (s : List ℕ) (v : View) → readerOf reader s ≡ Seen v → (v .length ≤ length s) × (v .length ≤ longest)
+pub seen-within : (reader : Reader) (s : List ℕ) (v : View) → readerOf reader s ≡ Accepted v → (v .length ≤ length s) × (v .length ≤ maxBlobLength)
 seen-within Plain s v e = plain-within s v e
 seen-within Strict s v e = plain-within s v (strict-plain s v e)
 
 -- the first n bytes of the room are the blob
 pub written-room : (k : VectorType) (d : ℕ) (body made : List ℕ) (n : ℕ) → writeOf k d body (length made) ≡ Written n
-    → (n ≤ longest) × (take n (writeOutcome k d body made .out) ≡ blobOf k d body)
+    → (n ≤ maxBlobLength) × (take n (writeOutcome k d body made .out) ≡ blobOf k d body)
 written-room k d body made n e =
     let (clear, size, left) = written-blob k d body made n e in
     (omega (arith, writable k d body clear .short, size), left)
@@ -76,7 +76,7 @@ module _ (t : VectorType) (scratch made : List ℕ) (v : View) where
 
   made-in : (r : ReadAnswer) (body : List ℕ) → convertIn r body t (length scratch) (length made) ≡ Converted v
       → (v .length ≤ length made) × (take (v .length) (outcomeIn r body t scratch made .out) ≡ newBody t r body)
-  made-in (Seen w) body e = made-by (w .kind) (w .dims .0) body e
+  made-in (Accepted w) body e = made-by (w .kind) (w .dims .0) body e
   made-in (Unread r) body e = let z = ap reach e in absurd (omega arith)
 
   pub converted-room : (s : List ℕ) → convertOf s t (length scratch) (length made) ≡ Converted v

@@ -10,12 +10,12 @@ use mathlib.Core.List.{List, [], _++_}
 use lib.ListN.{take}
 use Rattle.lines.specs.Text.{word, same}
 use Rattle.lines.specs.Hex.{hexOf}
-use Rattle.lines.specs.Fields.{other, spelled}
+use Rattle.lines.specs.Fields.{other, fromHex}
 use Rattle.lines.specs.Printed.{headOf}
 use Rattle.lines.specs.Decimal.{decimalOf, numeralOf}
 use Rattle.lines.specs.declared.hex.Found.{Found}
 use Rattle.lines.specs.declared.hex.Found.the-variants.{Number, Nothing}
-use Rattle.vector_types.specs.Layout.{longest, byteOf}
+use Rattle.vector_types.specs.Layout.{maxBlobLength, byteOf}
 use Rattle.vector_types.specs.Read.{readOf, strictOf}
 use Rattle.vector_types.specs.Write.{blobOf, writeOf}
 use Rattle.vector_types.specs.Parts.{bodyOf}
@@ -23,7 +23,7 @@ use Rattle.vector_types.specs.declared.VectorType.{VectorType}
 use Rattle.vector_types.specs.declared.VectorType.the-variants.{Float32Dense, Float64Dense, Float32Sparse, Float1Bit, Float8}
 use Rattle.vector_types.specs.declared.View.{View}
 use Rattle.vector_types.specs.declared.ReadAnswer.{ReadAnswer}
-use Rattle.vector_types.specs.declared.ReadAnswer.the-variants.{View as Seen, Refused}
+use Rattle.vector_types.specs.declared.ReadAnswer.the-variants.{Accepted, Refused}
 use Rattle.vector_types.specs.declared.WriteAnswer.{WriteAnswer}
 use Rattle.vector_types.specs.declared.WriteAnswer.the-variants.{Written, Refused as Unwritten}
 use Rattle.convert.specs.Result.{resultOf}
@@ -48,7 +48,7 @@ vectorText mark v body = headerText mark (v .kind) (v .dims .0) ++ hexOf body
 
 -- a view of the blob s
 unfoldable pub viewText : ReadAnswer → List ℕ → List ℕ
-viewText (Seen v) s = vectorText (word "V\t") v (take (v .length) s)
+viewText (Accepted v) s = vectorText (word "V\t") v (take (v .length) s)
 viewText (Refused r) s = refusalText (r .number)
 
 -- a blob that is written
@@ -70,8 +70,8 @@ abbrev pub shownText : Reader → List ℕ → List ℕ
 shownText reader s = viewText (readerOf reader s) s
 
 unfoldable pub readText : Reader → List ℕ → List ℕ
-unfolding viewText spelled
-readText reader field = spelled (shownText reader) field
+unfolding viewText fromHex
+readText reader field = fromHex (shownText reader) field
 
 -- the kind that K names
 unfoldable pub kindOf : List ℕ → Kind
@@ -85,32 +85,32 @@ kindOf field =
 
 -- what is written of a kind, dims and body, in room for the longest blob
 abbrev pub madeText : VectorType → ℕ → List ℕ → List ℕ
-madeText k d body = blobText (writeOf k d body longest) (blobOf k d body)
+madeText k d body = blobText (writeOf k d body maxBlobLength) (blobOf k d body)
 
 -- the same of K and N, where they are a kind and a number, and H
 abbrev pub writtenBy : Kind → Found → List ℕ → List ℕ
-writtenBy (Known k) (Number d) field = spelled (madeText k d) field
+writtenBy (Known k) (Number d) field = fromHex (madeText k d) field
 writtenBy (Known k) Nothing field = other
 writtenBy Unknown n field = other
 
 unfoldable pub writeText : List ℕ → List ℕ → List ℕ → List ℕ
-unfolding blobText spelled kindOf
+unfolding blobText fromHex kindOf
 writeText kind number field = writtenBy (kindOf kind) (numeralOf 10 number) field
 
 -- the body of the kind t for a blob that was read
 abbrev pub newBody : VectorType → ReadAnswer → List ℕ → List ℕ
-newBody t (Seen v) body = resultOf (v .kind) t (v .dims .0) body
+newBody t (Accepted v) body = resultOf (v .kind) t (v .dims .0) body
 newBody t (Refused r) body = []
 
 -- the blob s converted to the kind t, in room for the most elements and for the longest blob
 abbrev pub convertedText : VectorType → List ℕ → List ℕ
-convertedText t s = newText (convertOf s t scratchRoom longest) (newBody t (readOf s) (bodyOf s))
+convertedText t s = newText (convertOf s t scratchRoom maxBlobLength) (newBody t (readOf s) (bodyOf s))
 
 -- the same of K, where it is a kind, and H
 abbrev pub convertedBy : Kind → List ℕ → List ℕ
-convertedBy (Known t) field = spelled (convertedText t) field
+convertedBy (Known t) field = fromHex (convertedText t) field
 convertedBy Unknown field = other
 
 unfoldable pub convText : List ℕ → List ℕ → List ℕ
-unfolding newText spelled kindOf
+unfolding newText fromHex kindOf
 convText kind field = convertedBy (kindOf kind) field

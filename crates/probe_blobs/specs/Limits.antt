@@ -4,7 +4,7 @@ use mathlib.Core.List.{List}
 use Prim.Native.Nat.{ℕ, _+_, _*_}
 use lib.ListN.{length}
 use Rattle.promises.specs.Onto.{onto}
-use Rattle.vector_types.specs.Layout.{longest as longestBlob, mostDims}
+use Rattle.vector_types.specs.Layout.{maxBlobLength as longestBlob, maxDims}
 
 -- no answer has more bytes: a mark, a kind and dims, and the longest blob in hexadecimal
 abbrev pub answerRoom : ℕ
@@ -12,7 +12,7 @@ answerRoom = 44 + 2 * longestBlob
 
 -- room for the elements that a conversion goes through, and for the longest blob
 abbrev pub scratchRoom : ℕ
-scratchRoom = 4 * mostDims
+scratchRoom = 4 * maxDims
 
 abbrev pub blobRoom : ℕ
 blobRoom = longestBlob

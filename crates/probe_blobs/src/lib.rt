@@ -4,7 +4,7 @@ ghost use Prim.Native.Nat.{_*_, _≤_};
 ghost use lib.ListN.{length, take};
 ghost use Rattle.promises.specs.Onto.{onto};
 ghost use Rattle.lines.specs.Parts.{fieldsOf};
-ghost use Rattle.vector_types.specs.Layout.{longest as longestBlob};
+ghost use Rattle.vector_types.specs.Layout.{maxBlobLength as longestBlob};
 ghost use Rattle.lines.specs.Fields.{two, three};
 ghost use Rattle.probe_blobs.specs.Limits.{Puts, answerRoom, scratchRoom, blobRoom};
 ghost use Rattle.probe_blobs.specs.Blobs.{refusalText, headerText, vectorText, readerOf, shownText, readText, kindOf, madeText, writtenBy, writeText, convertedText, convertedBy, convText};
@@ -84,7 +84,7 @@ fn put_read(reader: Reader, blob: &[u8], out: &mut [u8]) -> usize
     ensures { λ r. ⌜ Puts (shownText reader (now (blob .entry))) (now (out .entry)) r (now (out .exit)) ⌝ }
 {
     match read_by(reader, blob) {
-        ReadAnswer::View(view) => put_vector(b"V\t", view, blob, out),
+        ReadAnswer::Accepted(view) => put_vector(b"V\t", view, blob, out),
         ReadAnswer::Refused(refusal) => put_refusal(refusal.number, out),
     }
 }

@@ -11,15 +11,15 @@ use Rattle.lines.specs.Parts.{fieldsOf}
 use Rattle.lines.specs.Fields.{one, two, other}
 use Rattle.lines.proofs.Digits.{pattern-none}
 use Rattle.lines.proofs.Fields.{after, one-field, two-fields, either}
-use Rattle.probe_floats.specs.Floats.{rowOf, computedOf, ofWidth}
+use Rattle.probe_floats.specs.Floats.{workOf, computedOf, ofWidth}
 use Rattle.probe_floats.specs.declared.Work.{Work}
 use Rattle.probe_floats.specs.declared.Work.the-variants.{Root32, Root64, Narrow, Widen, Trunc}
 
 -- the widths are those that hexadecimal reads and writes
 pub record Wide (w : Work) : Type 0 where
-  pub takes : rowOf w .takes ≤ 16
-  pub some : 1 ≤ rowOf w .gives
-  pub gives : rowOf w .gives ≤ 16
+  pub takes : workOf w .takes ≤ 16
+  pub some : 1 ≤ workOf w .gives
+  pub gives : workOf w .gives ≤ 16
 
 pub wide : (w : Work) → Wide w
 wide Root32 = record { takes = lit≤ tt; some = lit≤ tt; gives = lit≤ tt }
@@ -31,7 +31,7 @@ wide Trunc = record { takes = lit≤ tt; some = lit≤ tt; gives = lit≤ tt }
 -- F is the last field
 tab-other : (w : Work) (s : List ℕ) → indexOf tab s < length s → computedOf w s ≡ other
 unfolding computedOf digitOf
-tab-other w s less = rw (pattern-none (rowOf w .takes) tab s (lit≤ tt) less)
+tab-other w s less = rw (pattern-none (workOf w .takes) tab s (lit≤ tt) less)
 
 pub last-computed : (w : Work) (s : List ℕ) → one (computedOf w) (fieldsOf s) ≡ computedOf w s
 last-computed w s = one-field (computedOf w) s (tab-other w s)

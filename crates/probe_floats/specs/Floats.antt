@@ -19,31 +19,31 @@ use Rattle.probe_floats.specs.declared.Work.{Work}
 use Rattle.probe_floats.specs.declared.Work.the-variants.{Root32, Root64, Narrow, Widen, Trunc}
 
 -- how many digits F has, how many the result has, and the result
-pub record Row : Type 0 where
+pub record FloatWork : Type 0 where
   pub takes : ℕ
   pub gives : ℕ
   pub result : ℕ → ℕ
 
-abbrev pub row : ℕ → ℕ → (ℕ → ℕ) → Row
-row t g r = record { takes = t; gives = g; result = r }
+abbrev pub floatWork : ℕ → ℕ → (ℕ → ℕ) → FloatWork
+floatWork t g r = record { takes = t; gives = g; result = r }
 
-abbrev pub rowOf : Work → Row
-rowOf Root32 = row 8 8 (λ n. toBits binary32 (root binary32 (ofBits binary32 n)))
-rowOf Root64 = row 16 16 (λ n. toBits binary64 (root binary64 (ofBits binary64 n)))
-rowOf Narrow = row 16 8 (λ n. toBits binary32 (narrowed (ofBits binary64 n)))
-rowOf Widen = row 8 16 (λ n. toBits binary64 (ofBits binary32 n))
-rowOf Trunc = row 8 2 (λ n. truncated (ofBits binary32 n))
+abbrev pub workOf : Work → FloatWork
+workOf Root32 = floatWork 8 8 (λ n. toBits binary32 (root binary32 (ofBits binary32 n)))
+workOf Root64 = floatWork 16 16 (λ n. toBits binary64 (root binary64 (ofBits binary64 n)))
+workOf Narrow = floatWork 16 8 (λ n. toBits binary32 (narrowed (ofBits binary64 n)))
+workOf Widen = floatWork 8 16 (λ n. toBits binary64 (ofBits binary32 n))
+workOf Trunc = floatWork 8 2 (λ n. truncated (ofBits binary32 n))
 
 abbrev pub floatOf : ℕ → ℕ → List ℕ
 floatOf width n = word "F\t" ++ digits 16 width n
 
 -- the answer of a row to what was found for F
-abbrev pub byFound : Row → Found → List ℕ
+abbrev pub byFound : FloatWork → Found → List ℕ
 byFound r (Number n) = floatOf (r .gives) (r .result n)
 byFound r Nothing = other
 
 unfoldable pub computedOf : Work → List ℕ → List ℕ
-computedOf work field = byFound (rowOf work) (patternOf (rowOf work .takes) field)
+computedOf work field = byFound (workOf work) (patternOf (workOf work .takes) field)
 
 unfoldable pub ofWidth : List ℕ → List ℕ → List ℕ
 unfolding computedOf

@@ -5,7 +5,7 @@ ghost use lib.ListN.{length};
 ghost use Rattle.promises.specs.Onto.{onto};
 ghost use Rattle.lines.specs.Parts.{fieldsOf};
 ghost use Rattle.lines.specs.Fields.{two};
-ghost use Rattle.probe_floats.specs.Floats.{rowOf, floatOf, computedOf, ofWidth};
+ghost use Rattle.probe_floats.specs.Floats.{workOf, floatOf, computedOf, ofWidth};
 use lines::hex::Found;
 use lines::text::put_other;
 
@@ -25,7 +25,7 @@ struct Digits {
 }
 
 fn widths(work: Work) -> Digits
-    ensures { λ r. ⌜ (r .takes ≡ rowOf work .takes) × (r .gives ≡ rowOf work .gives) ⌝ }
+    ensures { λ r. ⌜ (r .takes ≡ workOf work .takes) × (r .gives ≡ workOf work .gives) ⌝ }
 {
     match work {
         Work::Root32 => Digits { takes: 8, gives: 8 },
@@ -47,29 +47,29 @@ fn widths(work: Work) -> Digits
 
 // The result for the pattern n.
 fn result(work: Work, n: u64) -> u64
-    requires { ⌜ n < 16 ^ (rowOf work .takes) ⌝ }
-    ensures { λ r. ⌜ r ≡ rowOf work .result n ⌝ }
-    ensures { λ r. ⌜ r < 16 ^ (rowOf work .gives) ⌝ }
+    requires { ⌜ n < 16 ^ (workOf work .takes) ⌝ }
+    ensures { λ r. ⌜ r ≡ workOf work .result n ⌝ }
+    ensures { λ r. ⌜ r < 16 ^ (workOf work .gives) ⌝ }
 {
     match work {
         Work::Root32 => {
-            let x = elements::f32_of(n as u32);
-            elements::bits32(rounding::root32(x)) as u64
+            let x = little_endian::f32_of(n as u32);
+            little_endian::bits32(rounding::root32(x)) as u64
         }
         Work::Root64 => {
-            let x = elements::f64_of(n);
-            elements::bits64(rounding::root64(x))
+            let x = little_endian::f64_of(n);
+            little_endian::bits64(rounding::root64(x))
         }
         Work::Narrow => {
-            let x = elements::f64_of(n);
-            elements::bits32(rounding::narrow(x)) as u64
+            let x = little_endian::f64_of(n);
+            little_endian::bits32(rounding::narrow(x)) as u64
         }
         Work::Widen => {
-            let x = elements::f32_of(n as u32);
-            elements::bits64(rounding::widen(x))
+            let x = little_endian::f32_of(n as u32);
+            little_endian::bits64(rounding::widen(x))
         }
         Work::Trunc => {
-            let x = elements::f32_of(n as u32);
+            let x = little_endian::f32_of(n as u32);
             rounding::truncate(x) as u64
         }
     }

@@ -10,13 +10,13 @@ use Rattle.lines.specs.Parts.{fieldsOf}
 use Rattle.lines.specs.Fields.{one, two, three, four, other}
 use Rattle.lines.proofs.Fields.{after}
 use Rattle.lines.proofs.Parting.{parts-at, parts-last}
-use Rattle.probe_lines.specs.Line.{verbOf, answerTo, answerBy, answerOf}
+use Rattle.probe_lines.specs.Line.{verbOf, answerTo, answerBy, vecprobeReply}
 use Rattle.probe_lines.specs.declared.Verb.{Verb}
 use Rattle.probe_lines.specs.declared.Verb.the-variants.{Root, Float, Read, Write, Convert, Near, Other}
 
 -- a line that is its first field alone, and one that has more
-pub answer-short : (line : List ℕ) → indexOf tab line ≡ length line → answerOf line ≡ other
-unfolding answerOf answerBy answerTo four three two one
+pub answer-short : (line : List ℕ) → indexOf tab line ≡ length line → vecprobeReply line ≡ other
+unfolding vecprobeReply answerBy answerTo four three two one
 answer-short line all = rw (parts-last tab line all) (go (verbOf line))
   where
     go : (v : Verb) → answerTo v [] ≡ other
@@ -29,6 +29,6 @@ answer-short line all = rw (parts-last tab line all) (go (verbOf line))
     go Other = refl
 
 pub answer-fields : (line : List ℕ) (end : ℕ) → end ≡ indexOf tab line → end < length line
-    → answerTo (verbOf (take end line)) (fieldsOf (after end line)) ≡ answerOf line
-unfolding answerOf answerBy
+    → answerTo (verbOf (take end line)) (fieldsOf (after end line)) ≡ vecprobeReply line
+unfolding vecprobeReply answerBy
 answer-fields line end e less = rw (tail-lent, parts-at tab line end e less)

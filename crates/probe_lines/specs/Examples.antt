@@ -11,16 +11,16 @@ use Rattle.vector_types.specs.Search.{firstFrom}
 use Rattle.vector_types.specs.Read.{readOf, strictOf}
 use Rattle.vector_types.specs.Write.{writeOf}
 use Rattle.vector_types.specs.Parts.{bodyOf}
-use Rattle.elements.specs.Bytes.{bytesOf, numberAt, put}
+use Rattle.little_endian.specs.Bytes.{bytesOf, numberAt, put}
 use Rattle.convert.specs.Dense.{spread}
 use Rattle.convert.specs.Convert.{convertOf}
 use Rattle.distance_sums.specs.Merged.{merged}
 use Rattle.nearer.specs.Nearer.{nearerOf}
 use Rattle.lines.specs.Text.{word, same}
-use Rattle.lines.specs.Hex.{digitOf, numberFrom, patternOf, pairOf, hexBytes, hexOf}
+use Rattle.lines.specs.Hex.{digitOf, numberFrom, patternOf, hexPair, hexBytes, hexOf}
 use Rattle.lines.specs.Decimal.{decimalOf, numeralOf}
 use Rattle.lines.specs.Parts.{partsOf}
-use Rattle.probe_lines.specs.Line.{answerOf}
+use Rattle.probe_lines.specs.Line.{vecprobeReply}
 
 pub record Example : Type 0 where
   pub line : String
@@ -97,10 +97,10 @@ nearest =
 
 abbrev pub Holds : List Example → Type 0
 Holds [] = Unit
-Holds (e ∷ es) = (answerOf (word (e .line)) ≡ word (e .answer)) × Holds es
+Holds (e ∷ es) = (vecprobeReply (word (e .line)) ≡ word (e .answer)) × Holds es
 
 pub examples-hold : Holds floats × Holds blobs × Holds conversions × Holds nearest
-unfolding partsOf same answerOf decimalOf numeralOf patternOf numberFrom digitOf pairOf hexBytes hexOf
+unfolding partsOf same vecprobeReply decimalOf numeralOf patternOf numberFrom digitOf hexPair hexBytes hexOf
     root narrowed truncated toBits readOf strictOf writeOf firstFrom bodyOf
     convertOf spread bytesOf numberAt put nearerOf running total merged ofBits ofInt add sub mul div neg eq lt le isNan
 examples-hold = (

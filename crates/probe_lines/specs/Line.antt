@@ -47,6 +47,6 @@ unfolding verbOf answerTo
 answerBy [] = other
 answerBy (first ∷ fields) = answerTo (verbOf first) fields
 
-unfoldable pub answerOf : List ℕ → List ℕ
+unfoldable pub vecprobeReply : List ℕ → List ℕ
 unfolding answerBy
-answerOf line = answerBy (fieldsOf line)
+vecprobeReply line = answerBy (fieldsOf line)

@@ -6,7 +6,7 @@ ghost use Rattle.promises.specs.Onto.{onto};
 ghost use Rattle.lines.specs.Parts.{fieldsOf};
 ghost use Rattle.probe_blobs.specs.Limits.{scratchRoom, blobRoom};
 ghost use Rattle.probe_lines.specs.Limits.{limit};
-ghost use Rattle.probe_lines.specs.Line.{answerOf, answerTo, verbOf};
+ghost use Rattle.probe_lines.specs.Line.{vecprobeReply, answerTo, verbOf};
 use lines::text::put_other;
 use probe_blobs::Reader;
 use probe_floats::Work;
@@ -62,9 +62,9 @@ pub const LIMIT: usize = 1100000;
 // through, and for the longest blob.
 pub const SPELLED: usize = LIMIT / 2;
 
-pub const SCRATCH: usize = 4 * vector_types::MOST_DIMS;
+pub const SCRATCH: usize = 4 * vector_types::MAX_DIMS;
 
-pub const BLOB: usize = vector_types::LONGEST;
+pub const BLOB: usize = vector_types::MAX_BLOB_LENGTH;
 
 // Puts the answer to a line, of which the verb is found and this is the rest, at the start of out.
 fn answer_to(
@@ -105,8 +105,8 @@ pub fn answer(
     requires { ⌜ length (now scratch) ≡ scratchRoom ⌝ }
     requires { ⌜ length (now made) ≡ blobRoom ⌝ }
     requires { ⌜ limit ≤ length (now out) ⌝ }
-    ensures { λ r. ⌜ r ≡ length (answerOf (now (line .entry))) ⌝ }
-    ensures { λ _. ⌜ now (out .exit) ≡ onto (answerOf (now (line .entry))) (now (out .entry)) ⌝ }
+    ensures { λ r. ⌜ r ≡ length (vecprobeReply (now (line .entry))) ⌝ }
+    ensures { λ _. ⌜ now (out .exit) ≡ onto (vecprobeReply (now (line .entry))) (now (out .entry)) ⌝ }
 {
     let end = lines::text::field_end(line);
     if end == line.len() {

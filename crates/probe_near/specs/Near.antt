@@ -7,7 +7,7 @@ use Prim.Native.Nat.{ℕ}
 use mathlib.Core.List.{List}
 use lib.ListN.{take, drop}
 use Rattle.lines.specs.Text.{word}
-use Rattle.lines.specs.Fields.{other, spelled}
+use Rattle.lines.specs.Fields.{other, fromHex}
 use Rattle.distance.specs.declared.Distance.{Distance}
 use Rattle.nearer.specs.Nearer.{nearerOf}
 use Rattle.nearer.specs.declared.Candidate.{Candidate}
@@ -40,13 +40,13 @@ partsText m i j s = let both = take j s in nearerText (nearerOf m (take i both) 
 
 -- the answer to the probe p and the blobs that A and B spell
 abbrev pub candidatesText : Distance → List ℕ → List ℕ → List ℕ → List ℕ
-candidatesText m p first second = spelled (λ a. spelled (λ b. nearerText (nearerOf m p a b)) second) first
+candidatesText m p first second = fromHex (λ a. fromHex (λ b. nearerText (nearerOf m p a b)) second) first
 
 -- the same of the blob that P spells, where D names a distance
 abbrev pub nearBy : Asked → List ℕ → List ℕ → List ℕ → List ℕ
-nearBy (Known m) probe first second = spelled (λ p. candidatesText m p first second) probe
+nearBy (Known m) probe first second = fromHex (λ p. candidatesText m p first second) probe
 nearBy Unknown probe first second = other
 
 unfoldable pub nearText : List ℕ → List ℕ → List ℕ → List ℕ → List ℕ
-unfolding askedOf nearerText spelled
+unfolding askedOf nearerText fromHex
 nearText field probe first second = nearBy (askedOf field) probe first second

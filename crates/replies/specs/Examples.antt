@@ -9,7 +9,7 @@ use Rattle.lines.specs.Decimal.{decimalOf}
 use Rattle.lines.specs.Parts.{partsOf, lastUnlessEmpty}
 use Rattle.lines.specs.Printed.{replyOf, repliesFrom}
 use Rattle.probe_lines.specs.Line as Vecprobe·line
-use Rattle.replies.specs.Program.{answerOf}
+use Rattle.replies.specs.Program.{programReply}
 use Rattle.replies.specs.Printed.{printed}
 use Rattle.replies.specs.declared.Program.{Program}
 use Rattle.replies.specs.declared.Program.the-variants.{Vecprobe}
@@ -18,5 +18,5 @@ abbrev pub Prints : Program → String → String → Type 0
 Prints program input output = printed program (word input) ≡ word output
 
 pub example-holds : Prints Vecprobe "trunc\t40400000\n\ntrunc\t40400000" "1\tF\t03\n2\tX\n3\tF\t03\n"
-unfolding repliesFrom replyOf lastUnlessEmpty partsOf same answerOf Vecprobe·line.answerOf decimalOf patternOf numberFrom digitOf truncated ofBits ofInt lt
+unfolding repliesFrom replyOf lastUnlessEmpty partsOf same programReply Vecprobe·line.answerOf decimalOf patternOf numberFrom digitOf truncated ofBits ofInt lt
 example-holds = refl

@@ -13,9 +13,9 @@ abbrev pub limitOf : Program → ℕ
 limitOf Vecdist = Vecdist·limits.limit
 limitOf Vecprobe = limit
 
-unfoldable pub answerOf : Program → List ℕ → List ℕ
-answerOf Vecdist line = Vecdist·line.answerOf line
-answerOf Vecprobe line = Vecprobe·line.answerOf line
+unfoldable pub programReply : Program → List ℕ → List ℕ
+programReply Vecdist line = Vecdist·line.answerOf line
+programReply Vecprobe line = Vecprobe·line.answerOf line
 
 -- the longest reply: twenty digits, a tab, the answer and a newline
 abbrev pub longest : ℕ

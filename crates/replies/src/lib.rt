@@ -11,7 +11,7 @@ ghost use lib.ListN.{length};
 ghost use Rattle.promises.specs.Onto.{onto};
 ghost use Rattle.probe_lines.specs.Limits.{limit};
 ghost use Rattle.replies.specs.Rooms.{Rooms};
-ghost use Rattle.replies.specs.Program.{limitOf, answerOf};
+ghost use Rattle.replies.specs.Program.{limitOf, programReply};
 
 // Which program is run.
 pub enum Program {
@@ -45,8 +45,8 @@ pub fn answer(
 ) -> usize
     requires { ⌜ Rooms (now line) (now spelled) (now scratch) (now made) ⌝ }
     requires { ⌜ limit ≤ length (now out) ⌝ }
-    ensures { λ r. ⌜ r ≡ length (answerOf program (now (line .entry))) ⌝ }
-    ensures { λ _. ⌜ now (out .exit) ≡ onto (answerOf program (now (line .entry))) (now (out .entry)) ⌝ }
+    ensures { λ r. ⌜ r ≡ length (programReply program (now (line .entry))) ⌝ }
+    ensures { λ _. ⌜ now (out .exit) ≡ onto (programReply program (now (line .entry))) (now (out .entry)) ⌝ }
 {
     match program {
         Program::Vecdist => vecdist_lines::answer(line, spelled, out),

@@ -9,7 +9,7 @@ ghost use Rattle.lines.specs.Stream.{keptWith, pieceOf};
 ghost use Rattle.lines.specs.Served.{heldAnswer, heldReply, saidOf, servedOf, lastSaid};
 ghost use Rattle.probe_lines.specs.Limits.{limit};
 ghost use Rattle.replies.specs.Rooms.{Rooms};
-ghost use Rattle.replies.specs.Program.{longest, answerOf};
+ghost use Rattle.replies.specs.Program.{longest, programReply};
 use crate::Program;
 use crate::answer;
 use lines::stream::Held;
@@ -29,8 +29,8 @@ fn answer_held(
     requires { ⌜ held .count ≤ length (now kept) ⌝ }
     requires { ⌜ Rooms (now kept) (now spelled) (now scratch) (now made) ⌝ }
     requires { ⌜ limit ≤ length (now out) ⌝ }
-    ensures { λ r. ⌜ r ≡ length (heldAnswer (answerOf program) (now (kept .entry)) held) ⌝ }
-    ensures { λ _. ⌜ now (out .exit) ≡ onto (heldAnswer (answerOf program) (now (kept .entry)) held) (now (out .entry)) ⌝ }
+    ensures { λ r. ⌜ r ≡ length (heldAnswer (programReply program) (now (kept .entry)) held) ⌝ }
+    ensures { λ _. ⌜ now (out .exit) ≡ onto (heldAnswer (programReply program) (now (kept .entry)) held) (now (out .entry)) ⌝ }
 {
     if held.long {
         return put_other(out);
@@ -52,8 +52,8 @@ fn put_line(
     requires { ⌜ held .count ≤ length (now kept) ⌝ }
     requires { ⌜ Rooms (now kept) (now spelled) (now scratch) (now made) ⌝ }
     requires { ⌜ limit < length (now out) ⌝ }
-    ensures { λ r. ⌜ r ≡ length (heldAnswer (answerOf program) (now (kept .entry)) held ++ (newline ∷ [])) ⌝ }
-    ensures { λ _. ⌜ now (out .exit) ≡ onto (heldAnswer (answerOf program) (now (kept .entry)) held ++ (newline ∷ [])) (now (out .entry)) ⌝ }
+    ensures { λ r. ⌜ r ≡ length (heldAnswer (programReply program) (now (kept .entry)) held ++ (newline ∷ [])) ⌝ }
+    ensures { λ _. ⌜ now (out .exit) ≡ onto (heldAnswer (programReply program) (now (kept .entry)) held ++ (newline ∷ [])) (now (out .entry)) ⌝ }
 {
     let room = out.len() - 1;
     let said = answer_held(
@@ -83,8 +83,8 @@ fn reply(
     requires { ⌜ Rooms (now kept) (now spelled) (now scratch) (now made) ⌝ }
     requires { ⌜ held .before + 1 < 2 ^ 64 ⌝ }
     requires { ⌜ longest ≤ length (now out) ⌝ }
-    ensures { λ r. ⌜ r ≡ length (heldReply (answerOf program) (now (kept .entry)) held) ⌝ }
-    ensures { λ _. ⌜ now (out .exit) ≡ onto (heldReply (answerOf program) (now (kept .entry)) held) (now (out .entry)) ⌝ }
+    ensures { λ r. ⌜ r ≡ length (heldReply (programReply program) (now (kept .entry)) held) ⌝ }
+    ensures { λ _. ⌜ now (out .exit) ≡ onto (heldReply (programReply program) (now (kept .entry)) held) (now (out .entry)) ⌝ }
 {
     let number = held.before + 1;
     let head = lines::text::put_head(number, out);
@@ -118,9 +118,9 @@ pub fn serve(
     requires { ⌜ Rooms (now kept) (now spelled) (now scratch) (now made) ⌝ }
     requires { ⌜ held .before + 1 < 2 ^ 64 ⌝ }
     requires { ⌜ longest ≤ length (now out) ⌝ }
-    ensures { λ r. ⌜ r ≡ servedOf (answerOf program) (now (kept .entry)) (drop at (now (chunk .entry))) at held ⌝ }
+    ensures { λ r. ⌜ r ≡ servedOf (programReply program) (now (kept .entry)) (drop at (now (chunk .entry))) at held ⌝ }
     ensures { λ _. ⌜ now (kept .exit) ≡ keptWith (now (kept .entry)) (held .count) (pieceOf (drop at (now (chunk .entry)))) ⌝ }
-    ensures { λ _. ⌜ now (out .exit) ≡ onto (saidOf (answerOf program) (now (kept .entry)) (drop at (now (chunk .entry))) at held) (now (out .entry)) ⌝ }
+    ensures { λ _. ⌜ now (out .exit) ≡ onto (saidOf (programReply program) (now (kept .entry)) (drop at (now (chunk .entry))) at held) (now (out .entry)) ⌝ }
 {
     let taken = lines::stream::take(chunk, at, kept, held);
     let next = taken.at;
@@ -155,8 +155,8 @@ pub fn finish(
     requires { ⌜ Rooms (now kept) (now spelled) (now scratch) (now made) ⌝ }
     requires { ⌜ held .before + 1 < 2 ^ 64 ⌝ }
     requires { ⌜ longest ≤ length (now out) ⌝ }
-    ensures { λ r. ⌜ r ≡ length (lastSaid (answerOf program) (now (kept .entry)) held) ⌝ }
-    ensures { λ _. ⌜ now (out .exit) ≡ onto (lastSaid (answerOf program) (now (kept .entry)) held) (now (out .entry)) ⌝ }
+    ensures { λ r. ⌜ r ≡ length (lastSaid (programReply program) (now (kept .entry)) held) ⌝ }
+    ensures { λ _. ⌜ now (out .exit) ≡ onto (lastSaid (programReply program) (now (kept .entry)) held) (now (out .entry)) ⌝ }
 {
     if held.count == 0 {
         return 0;

@@ -2,8 +2,8 @@
 use mathlib.Core.Path.{sym, _∙_}
 use lib.Ieee.{binary32, binary64}
 use Rattle.promises.specs.Determined.{Determined}
-use Rattle.rounding.proofs.RootLaw.{root-only}
-use Rattle.rounding.proofs.NarrowLaw.{narrowed-only}
+use Rattle.rounding.proofs.RootLaw.{root-unique}
+use Rattle.rounding.proofs.NarrowLaw.{narrowed-unique}
 use Rattle.rounding.proofs.widen.Reads as widen
 use Rattle.rounding.proofs.widen_bits.Reads as widen-bits
 use Rattle.rounding.proofs.truncate.Reads as truncate
@@ -22,13 +22,13 @@ pub truncate-determined : (κs : _) (a : _) → Determined (truncate.Post κs a)
 truncate-determined κs a r r′ x x′ p q = p ∙ sym q
 
 pub narrow-determined : (κs : _) (a : _) → Determined (narrow.Post κs a) (λ r x. r)
-narrow-determined κs a r r′ x x′ p q = narrowed-only (a .0) r p ∙ sym (narrowed-only (a .0) r′ q)
+narrow-determined κs a r r′ x x′ p q = narrowed-unique (a .0) r p ∙ sym (narrowed-unique (a .0) r′ q)
 
 pub narrow-bits-determined : (κs : _) (a : _) → Determined (narrow-bits.Post κs a) (λ r x. r)
 narrow-bits-determined κs a r r′ x x′ p q = p ∙ sym q
 
 pub root32-determined : (κs : _) (a : _) → Determined (root32.Post κs a) (λ r x. r)
-root32-determined κs a r r′ x x′ p q = root-only binary32 (a .0) r p ∙ sym (root-only binary32 (a .0) r′ q)
+root32-determined κs a r r′ x x′ p q = root-unique binary32 (a .0) r p ∙ sym (root-unique binary32 (a .0) r′ q)
 
 pub root64-determined : (κs : _) (a : _) → Determined (root64.Post κs a) (λ r x. r)
-root64-determined κs a r r′ x x′ p q = root-only binary64 (a .0) r p ∙ sym (root-only binary64 (a .0) r′ q)
+root64-determined κs a r r′ x x′ p q = root-unique binary64 (a .0) r p ∙ sym (root-unique binary64 (a .0) r′ q)

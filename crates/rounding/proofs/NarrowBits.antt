@@ -14,7 +14,7 @@ use Rattle.float_laws.proofs.Nan.{nan-encoded, nan-pattern}
 use Rattle.rounding.specs.Narrow.{IsNarrowed, narrowed}
 use Rattle.rounding.specs.Parts.{Narrowing}
 use Rattle.rounding.proofs.Patterns.{signed, toBits-signed}
-use Rattle.rounding.proofs.NarrowLaw.{narrowed-is, narrowed-only}
+use Rattle.rounding.proofs.NarrowLaw.{narrowed-is, narrowed-unique}
 
 -- ---- the f32 of a value is a value of the format, and NaN only for NaN
 pub narrowed-fits : (x : Float) → T (fits binary32 (narrowed x))
@@ -26,7 +26,7 @@ narrowed-fits (fin s m e) = round-fits binary32 s (m * up e) (down e)
 narrowed-number : (x : Float) → T (not (isNan x)) → T (not (isNan (narrowed x)))
 unfolding isNan
 narrowed-number nan n = absurd n
-narrowed-number (inf s) n = rw (sym (narrowed-only (inf s) (inf s) refl)) tt
+narrowed-number (inf s) n = rw (sym (narrowed-unique (inf s) (inf s) refl)) tt
 narrowed-number (fin s m e) n = go (narrowed (fin s m e)) (narrowed-is (fin s m e))
   where
     go : (y : Float) → IsNarrowed (fin s m e) y → T (not (isNan y))
@@ -47,7 +47,7 @@ module _ (x : Float) (r : ℕ) (is : r ≡ toBits binary32 (narrowed x)) where
 
 -- ---- from pattern to pattern
 pub nan-bits : (b : ℕ) → ones binary64 * hid binary64 < b % top binary64 → 0x7fc0_0000 ≡ toBits binary32 (narrowed (ofBits binary64 b))
-nan-bits b h = let e = nan-pattern binary64 b h in rw (e, sym (narrowed-only nan nan refl)) (nan-encoded binary32 nan nan-differs)
+nan-bits b h = let e = nan-pattern binary64 b h in rw (e, sym (narrowed-unique nan nan refl)) (nan-encoded binary32 nan nan-differs)
 
 pub number-bits : (b r : ℕ) → b < 2 * top binary64 → Narrowing (b % top binary64) r → b / top binary64 * top binary32 + r ≡ toBits binary32 (narrowed (ofBits binary64 b))
 number-bits b r l N = go (decLt b (top binary64))
@@ -56,7 +56,7 @@ number-bits b r l N = go (decLt b (top binary64))
     answer s q a whole rest join sign =
         rw (whole, sign)
         (sym (toBits-signed binary32 s r (N .fine))
-        ∙ ap (toBits binary32) (narrowed-only (ofBits binary64 b) (signed binary32 s r) (rw (← join) (subst (λ (x : ℕ). IsNarrowed (signed binary64 s x) (signed binary32 s r)) rest (N .is s)))))
+        ∙ ap (toBits binary32) (narrowed-unique (ofBits binary64 b) (signed binary32 s r) (rw (← join) (subst (λ (x : ℕ). IsNarrowed (signed binary64 s x) (signed binary32 s r)) rest (N .is s)))))
 
     go : Dec (b < top binary64) → b / top binary64 * top binary32 + r ≡ toBits binary32 (narrowed (ofBits binary64 b))
     go (yes h) = answer false 0 b (omega arith) (omega arith) (zero-add b) refl

@@ -21,7 +21,7 @@ use Rattle.rounding.specs.Parts.{Narrowing}
 use Rattle.rounding.proofs.Closest.{closest-le, closest-zero, closest-more, closest-halved}
 use Rattle.rounding.proofs.Powers.{powers}
 use Rattle.rounding.proofs.Patterns.{Full, digits-lt, signed, infinity, finite, count-is}
-use Rattle.rounding.proofs.Nearest.{only, nearest-scale}
+use Rattle.rounding.proofs.Nearest.{nearest-unique, nearest-scale}
 use Rattle.rounding.proofs.Round.{round-nearest, place-fine, place-over}
 use Rattle.float_laws.proofs.Nan.{zero-by-zero}
 
@@ -32,12 +32,12 @@ narrowed-is nan = refl
 narrowed-is (inf s) = refl
 narrowed-is (fin s m e) = round-nearest binary32 s (m * up e) (down e) (down-pos e)
 
-pub narrowed-only : (x y : Float) → IsNarrowed x y → y ≡ narrowed x
+pub narrowed-unique : (x y : Float) → IsNarrowed x y → y ≡ narrowed x
 unfolding narrowed
-narrowed-only nan y h = h
-narrowed-only (inf s) y h = h
-narrowed-only (fin s m e) y h =
-    only binary32 s _ (λ M. M * down e) (λ a b l. mul-lt-mul-of-pos-right l (down-pos e)) h (round-nearest binary32 s (m * up e) (down e) (down-pos e))
+narrowed-unique nan y h = h
+narrowed-unique (inf s) y h = h
+narrowed-unique (fin s m e) y h =
+    nearest-unique binary32 s _ (λ M. M * down e) (λ a b l. mul-lt-mul-of-pos-right l (down-pos e)) h (round-nearest binary32 s (m * up e) (down e) (down-pos e))
 
 pub nan-narrowed : (x : Float) → ne x x ≡ true → IsNarrowed x (div binary32 (ofBits binary32 0) (ofBits binary32 0))
 nan-narrowed x h = rw (differs-from-itself x (subst T (sym h) tt)) (zero-by-zero binary32)

@@ -138,8 +138,8 @@ module _ (f : Format) (s : Bool) (v : ℕ) (mid : ℕ → ℕ) (rising : Rising 
       apart : (a b : ℕ) → a < b → a % 2 ≡ 0 → b % 2 ≡ 0 → suc a < b
       apart a b l e g = omega arith
 
-  pub only : {y z : Float} → Nearest f s v mid y → Nearest f s v mid z → y ≡ z
-  only {y} {z} n m =
+  pub nearest-unique : {y z : Float} → Nearest f s v mid y → Nearest f s v mid z → y ≡ z
+  nearest-unique {y} {z} n m =
       let p = pattern f s y (n .Y) (n .sized) in
       let q = pattern f s z (m .Y) (m .sized) in
       sym (p .is) ∙ ap (signed f s) (le-antisymm (at-most (not-below m n q p)) (at-most (not-below n m p q))) ∙ q .is

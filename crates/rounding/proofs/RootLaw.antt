@@ -18,7 +18,7 @@ use Rattle.rounding.specs.Root.{IsRoot, root, radicand}
 use Rattle.rounding.specs.Parts.{Under, Normal, Rooting}
 use Rattle.rounding.proofs.Compare.{is-lt, is-gt, compare-scale}
 use Rattle.rounding.proofs.Patterns.{signed, finite, hid-pos, twice-hid, digits-pos, count-is, count-at, count-lt}
-use Rattle.rounding.proofs.Nearest.{Rising, only, pick-nearest, floor-nearest, nearest-scale}
+use Rattle.rounding.proofs.Nearest.{Rising, nearest-unique, pick-nearest, floor-nearest, nearest-scale}
 use Rattle.rounding.proofs.Under.{from, under, root-from, root-under}
 
 -- ---- one value, and only one
@@ -33,15 +33,15 @@ root-is f (fin s zero e) = refl
 root-is f (fin true (suc m) e) = refl
 root-is f (fin false (suc m) e) = pick-nearest f false (radicand f (suc m) e) (λ M. M * M * down e) (squares-rise (down e) (down-pos e))
 
-pub root-only : (f : Format) (x y : Float) → IsRoot f x y → y ≡ root f x
+pub root-unique : (f : Format) (x y : Float) → IsRoot f x y → y ≡ root f x
 unfolding root
-root-only f nan y h = h
-root-only f (inf s) y h = h
-root-only f (fin s zero e) y h = h
-root-only f (fin true (suc m) e) y h = h
-root-only f (fin false (suc m) e) y h =
+root-unique f nan y h = h
+root-unique f (inf s) y h = h
+root-unique f (fin s zero e) y h = h
+root-unique f (fin true (suc m) e) y h = h
+root-unique f (fin false (suc m) e) y h =
     let rising = squares-rise (down e) (down-pos e) in
-    only f false (radicand f (suc m) e) (λ M. M * M * down e) rising h (pick-nearest f false (radicand f (suc m) e) (λ M. M * M * down e) rising)
+    nearest-unique f false (radicand f (suc m) e) (λ M. M * M * down e) rising h (pick-nearest f false (radicand f (suc m) e) (λ M. M * M * down e) rising)
 
 -- x is X smallest values, so its root is that of X * 2 ^ low squares of the smallest value
 pub root-of : (f : Format) (x : Float) (X : ℕ) (y : Float) → 0 < X → HasValue x false X (2 ^ low f) → Nearest f false (4 * (X * 2 ^ low f)) (λ M. M * M * 1) y → IsRoot f x y

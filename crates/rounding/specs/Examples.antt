@@ -28,10 +28,10 @@ answer (narrow b) = toBits binary32 (narrowed (ofBits binary64 b))
 answer (cut b) = truncated (ofBits binary32 b)
 
 -- each row's answer is the one told
-unfoldable pub hold : List Row → Bool
+unfoldable pub allHold : List Row → Bool
 unfolding answer
-hold [] = true
-hold (r ∷ rs) = eqb (answer (r .asked)) (r .told) && hold rs
+allHold [] = true
+allHold (r ∷ rs) = eqb (answer (r .asked)) (r .told) && allHold rs
 
 abbrev pub table : List Row
 table =
@@ -73,6 +73,6 @@ table =
     ∷ row (cut 0x7fc0_0000) 0
     ∷ []
 
-pub examples : T (hold table)
-unfolding hold
+pub examples : T (allHold table)
+unfolding allHold
 examples = tt

@@ -8,7 +8,7 @@ use lib.Seq.{length-take-le, take-add, take-append-seam, drop-append-seam}
 use Rattle.vector_types.specs.Read.{readOf}
 use Rattle.vector_types.specs.Parts.{shownHalf, valuesOf, indicesOf}
 use Rattle.vector_types.specs.declared.ReadAnswer.{ReadAnswer}
-use Rattle.vector_types.specs.declared.ReadAnswer.the-variants.{View as Seen, Refused}
+use Rattle.vector_types.specs.declared.ReadAnswer.the-variants.{Accepted, Refused}
 use Rattle.vector_types.proofs.Views.{half-within}
 use Rattle.sparse_view.specs.Halves.{half}
 
@@ -18,7 +18,7 @@ module _ (s : List ℕ) where
   h = shownHalf (readOf s)
 
   within : (x : ReadAnswer) → readOf s ≡ x → 2 * shownHalf x ≤ length s
-  within (Seen v) e = half-within s v e
+  within (Accepted v) e = half-within s v e
   within (Refused r) e = omega arith
 
   pub both-within : 2 * h ≤ length s

@@ -4,19 +4,19 @@ use mathlib.Core.List.{List, [], _∷_, map}
 use Prim.Native.String.{String}
 use lib.Ieee.{add, sub, mul, div, neg, eq, lt, ofInt, ofBits, toBits}
 use Rattle.float_laws.specs.Running.{running, total}
-use Rattle.elements.specs.Bytes.{numberAt}
+use Rattle.little_endian.specs.Bytes.{numberAt}
 use Rattle.rounding.specs.Root.{root}
 use Rattle.vector_types.specs.Search.{firstFrom}
-use Rattle.vector_types.specs.Layout.{named, byByte, before, fits, rowOf}
+use Rattle.vector_types.specs.Layout.{namedKind, byByte, lengthBeforeType, bodyFits, layoutRow}
 use Rattle.vector_types.specs.Read.{readOf, refusals, shown}
 use Rattle.vector_types.specs.Parts.{bodyOf}
 use Rattle.distance_sums.specs.Merged.{merged}
 use Rattle.distance.specs.Answer.{distanceOf}
 use Rattle.lines.specs.Text.{word, same}
-use Rattle.lines.specs.Hex.{digitOf, pairOf, hexBytes}
+use Rattle.lines.specs.Hex.{digitOf, hexPair, hexBytes}
 use Rattle.lines.specs.Decimal.{decimalOf}
 use Rattle.lines.specs.Parts.{partsOf}
-use Rattle.vecdist_lines.specs.Line.{answerOf}
+use Rattle.vecdist_lines.specs.Line.{vecdistReply}
 
 pub record Example : Type 0 where
   pub line : String
@@ -53,7 +53,7 @@ table =
     ∷ example "cos\t07\t0g" "X"
     ∷ []
 
-pub table-holds : map (λ (e : Example). answerOf (word (e .line))) table ≡ map (λ (e : Example). word (e .answer)) table
-unfolding answerOf partsOf same digitOf pairOf hexBytes decimalOf toBits
-    distanceOf readOf bodyOf named byByte before fits refusals shown firstFrom numberAt rowOf running total root merged add sub mul div neg eq lt ofInt ofBits
+pub table-holds : map (λ (e : Example). vecdistReply (word (e .line))) table ≡ map (λ (e : Example). word (e .answer)) table
+unfolding vecdistReply partsOf same digitOf hexPair hexBytes decimalOf toBits
+    distanceOf readOf bodyOf namedKind byByte lengthBeforeType bodyFits refusals shown firstFrom numberAt layoutRow running total root merged add sub mul div neg eq lt ofInt ofBits
 table-holds = refl

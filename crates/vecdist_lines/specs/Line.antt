@@ -10,7 +10,7 @@ use Rattle.io.specs.Digits.{digits}
 use Rattle.lines.specs.Text.{word, same}
 use Rattle.lines.specs.Printed.{headOf}
 use Rattle.lines.specs.Parts.{fieldsOf}
-use Rattle.lines.specs.Fields.{other, three, spelled}
+use Rattle.lines.specs.Fields.{other, three, fromHex}
 use Rattle.distance.specs.Answer.{distanceOf}
 use Rattle.distance.specs.declared.Distance.the-variants.{Cos, L2, Dot, Jaccard}
 use Rattle.distance.specs.declared.Which.{Which}
@@ -47,13 +47,13 @@ answerText (Refused r w) = refusalText (r .number) (nameOf w)
 
 -- the answer to the blobs that A and B spell, where D names a distance
 abbrev pub askedBy : Asked → List ℕ → List ℕ → List ℕ
-askedBy (Known m) first second = spelled (λ a. spelled (λ b. answerText (distanceOf m a b)) second) first
+askedBy (Known m) first second = fromHex (λ a. fromHex (λ b. answerText (distanceOf m a b)) second) first
 askedBy Unknown first second = other
 
 unfoldable pub pairText : List ℕ → List ℕ → List ℕ → List ℕ
-unfolding askedOf answerText spelled
+unfolding askedOf answerText fromHex
 pairText field first second = askedBy (askedOf field) first second
 
-unfoldable pub answerOf : List ℕ → List ℕ
+unfoldable pub vecdistReply : List ℕ → List ℕ
 unfolding three pairText
-answerOf line = three pairText (fieldsOf line)
+vecdistReply line = three pairText (fieldsOf line)

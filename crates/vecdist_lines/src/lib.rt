@@ -3,7 +3,7 @@ ghost use mathlib.Core.Path.{_≡_};
 ghost use Prim.Native.Nat.{_+_, _*_, _≤_};
 ghost use lib.ListN.{length};
 ghost use Rattle.promises.specs.Onto.{onto};
-ghost use Rattle.vecdist_lines.specs.Line.{askedOf, valueText, refusalText, answerText, askedBy, answerOf};
+ghost use Rattle.vecdist_lines.specs.Line.{askedOf, valueText, refusalText, answerText, askedBy, vecdistReply};
 use distance::Distance;
 use distance::DistanceAnswer;
 use distance::Which;
@@ -44,7 +44,7 @@ pub fn put_value(mark: &[u8], x: f64, out: &mut [u8]) -> usize
     ensures { λ _. ⌜ now (out .exit) ≡ onto (valueText (now (mark .entry)) x) (now (out .entry)) ⌝ }
 {
     let head = bytes::copy(mark, out);
-    head + lines::hex::put_hex(16, elements::bits64(x), &mut out[head..])
+    head + lines::hex::put_hex(16, little_endian::bits64(x), &mut out[head..])
 }
 
 // Puts R, the number of a refusal, and the name of the blob that it is about, parted by tabs.
@@ -111,8 +111,8 @@ fn answer_pair(
 pub fn answer(line: &[u8], spelled: &mut [u8], out: &mut [u8]) -> usize
     requires { ⌜ length (now line) ≤ 2 * length (now spelled) ⌝ }
     requires { ⌜ 32 ≤ length (now out) ⌝ }
-    ensures { λ r. ⌜ r ≡ length (answerOf (now (line .entry))) ⌝ }
-    ensures { λ _. ⌜ now (out .exit) ≡ onto (answerOf (now (line .entry))) (now (out .entry)) ⌝ }
+    ensures { λ r. ⌜ r ≡ length (vecdistReply (now (line .entry))) ⌝ }
+    ensures { λ _. ⌜ now (out .exit) ≡ onto (vecdistReply (now (line .entry))) (now (out .entry)) ⌝ }
 {
     let end = lines::text::field_end(line);
     if end == line.len() {

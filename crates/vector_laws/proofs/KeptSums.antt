@@ -12,9 +12,9 @@ use Rattle.float_laws.specs.Zero.{plusZero, FromZero}
 use Rattle.float_laws.specs.Running.{running}
 use Rattle.float_laws.proofs.Zero.{sub-plusZero-squared, plusZero-sub-squared}
 use Rattle.float_laws.proofs.Running.{plusZero-fromZero, add-fromZero, add-zero-term, add-mul-zero, add-zero-mul}
-use Rattle.elements.specs.Bytes.{f32At}
-use Rattle.elements.proofs.Floats.{floatAt-fits}
-use Rattle.vector_types.specs.Layout.{strays}
+use Rattle.little_endian.specs.Bytes.{f32At}
+use Rattle.little_endian.proofs.Floats.{floatAt-fits}
+use Rattle.vector_types.specs.Layout.{hasIndexOutside}
 use Rattle.vector_types.specs.declared.VectorType.the-variants.{Float32Sparse}
 use Rattle.convert.specs.Dense.{spreadBody}
 use Rattle.distance_sums.specs.Dense.{Products, products, productsWith, squares, squaresWith, dots, dotsWith, sharesBy, shares, sharesWith}
@@ -107,7 +107,7 @@ abbrev row : ℕ → List ℕ → ℕ → Float
 row d body i = f32At (spreadBody binary32 d body) (4 * i)
 
 module _ (d : ℕ) (a b : List ℕ) (au : Rising (entriesOf a)) (bu : Rising (entriesOf b))
-    (ai : strays Float32Sparse d a ≡ false) (bi : strays Float32Sparse d b ≡ false) where
+    (ai : hasIndexOutside Float32Sparse d a ≡ false) (bi : hasIndexOutside Float32Sparse d b ≡ false) where
   spread-sums : {S : Type 0} {r : Rule S} {K : S → Type 0} {Q : Float → Type 0} → Agrees r K Q → All Q (entriesOf a) → All Q (entriesOf b)
       → (sum : ℕ → S) → K (sum 0) → ((n : ℕ) → sum (suc n) ≡ r .both (sum n) (row d a n) (row d b n))
       → merge r (entriesOf a) (entriesOf b) (sum 0) ≡ sum d

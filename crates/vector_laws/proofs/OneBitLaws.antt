@@ -21,19 +21,19 @@ use lib.Ieee.Order.{le-of-values}
 use Rattle.float_laws.specs.Zero.{plusZero}
 use Rattle.float_laws.specs.Running.{total}
 use Rattle.float_laws.proofs.Whole.{of-whole, of-zero, add-int}
-use Rattle.elements.specs.Bytes.{AreBytes}
-use Rattle.vector_types.specs.Answers.{seen}
-use Rattle.vector_types.specs.Layout.{mostDims, ceil, fits, bitAt}
+use Rattle.little_endian.specs.Bytes.{AreBytes}
+use Rattle.vector_types.specs.Answers.{acceptedAs}
+use Rattle.vector_types.specs.Layout.{maxDims, ceil, bodyFits, bitAt}
 use Rattle.vector_types.specs.Read.{readOf}
 use Rattle.vector_types.specs.Parts.{bodyOf}
 use Rattle.vector_types.specs.declared.VectorType.the-variants.{Float1Bit}
 use Rattle.vector_types.specs.declared.View.{View}
-use Rattle.vector_types.specs.declared.ReadAnswer.the-variants.{View as Seen}
-use Rattle.vector_types.proofs.Views.{told}
+use Rattle.vector_types.specs.declared.ReadAnswer.the-variants.{Accepted}
+use Rattle.vector_types.proofs.Views.{view-facts}
 use Rattle.distance_sums.specs.OneBit.{wholeBits, differing, bitCosine}
 use Rattle.distance_sums.specs.Values.{cosineOf}
 use Rattle.distance.specs.Values.{valueOf}
-use Rattle.distance.specs.Answer.{pairOf, distanceOf}
+use Rattle.distance.specs.Answer.{distanceOfViews, distanceOf}
 use Rattle.distance.specs.declared.Distance.the-variants.{Cos}
 use Rattle.distance.specs.declared.DistanceAnswer.{DistanceAnswer}
 use Rattle.distance.specs.declared.DistanceAnswer.the-variants.{Measured, Refused}
@@ -93,8 +93,8 @@ module _ (a b : List ℕ) (B : AreBytes a) (C : AreBytes b) where
   differing-none n p q e = ext-getD 0 a b (p ∙ sym q) (λ i h. same-bytes n e i (rw p at h))
 
 -- ---- a blob: its view, and its body
-pub packed : (s : List ℕ) (v : View) (d : ℕ) → AreBytes s → readOf s ≡ Seen v → v .kind ≡ Float1Bit → v .dims .0 ≡ d → Packed d s
-packed s v d B e k g = record { bytes = B; long = v .length; read = e ∙ ap₂ (λ l n. seen l n (v .length)) k g }
+pub packed : (s : List ℕ) (v : View) (d : ℕ) → AreBytes s → readOf s ≡ Accepted v → v .kind ≡ Float1Bit → v .dims .0 ≡ d → Packed d s
+packed s v d B e k g = record { bytes = B; long = v .length; read = e ∙ ap₂ (λ l n. acceptedAs l n (v .length)) k g }
 
 bytes-take : (n : ℕ) (s : List ℕ) → AreBytes s → AreBytes (take n s)
 bytes-take zero s B k = zero-lt-suc 255
@@ -103,16 +103,16 @@ bytes-take (suc n) (x ∷ s) B zero = B zero
 bytes-take (suc n) (x ∷ s) B (suc k) = bytes-take n s (λ i. B (suc i)) k
 
 module _ {d : ℕ} {s : List ℕ} (p : Packed d s) where
-  few : d ≤ mostDims
-  few = told s _ (p .read) .few
+  few : d ≤ maxDims
+  few = view-facts s _ (p .read) .few
 
   body-bytes : AreBytes (bodyOf s)
   unfolding bodyOf
   body-bytes = rw (p .read) (bytes-take (p .long) s (p .bytes))
 
   body-long : length (bodyOf s) ≡ ceil d 8
-  unfolding bodyOf fits
-  body-long = rw (p .read) (body-length s _ (p .read) ∙ eqb-true _ _ (told s _ (p .read) .fit))
+  unfolding bodyOf bodyFits
+  body-long = rw (p .read) (body-length s _ (p .read) ∙ eqb-true _ _ (view-facts s _ (p .read) .fit))
 
 -- ---- two blobs of equal dims
 abbrev valueIn : DistanceAnswer → Float
@@ -125,11 +125,11 @@ no-bits n e v = let z = subst (λ (x : Float). HasValue x false n 1) e v in omeg
 
 module _ {d : ℕ} {s t : List ℕ} (p : Packed d s) (q : Packed d t) where
   pub cosine-counts : distanceOf Cos s t ≡ Measured (bitCosine (bitsApart d s t))
-  unfolding distanceOf pairOf valueOf cosineOf
+  unfolding distanceOf distanceOfViews valueOf cosineOf
   cosine-counts = rw (p .read, q .read, eq-eqb d d refl)
 
   -- 65,536 at the most
-  few-apart : bitsApart d s t ≤ mostDims
+  few-apart : bitsApart d s t ≤ maxDims
   unfolding differing
   few-apart = omega (arith, few p, tally-le xor-digits (bodyOf s) (bodyOf t) (wholeBits d))
 

@@ -13,10 +13,10 @@ use lib.Seq.{length-take-le}
 use lib.Ieee.{binary32, ofBits}
 use borrow.Author.Tests.{eqb-true, eqb-false, ltb-true, ltb-false}
 use Rattle.float_laws.specs.Zero.{plusZero}
-use Rattle.elements.specs.Bytes.{numberAt, put, f32At}
-use Rattle.elements.proofs.Numbers.{numberAt-take, numberAt-drop}
-use Rattle.elements.proofs.Put.{numberAt-put, numberAt-put-else}
-use Rattle.vector_types.specs.Layout.{indexAt, strays}
+use Rattle.little_endian.specs.Bytes.{numberAt, put, f32At}
+use Rattle.little_endian.proofs.Numbers.{numberAt-take, numberAt-drop}
+use Rattle.little_endian.proofs.Put.{numberAt-put, numberAt-put-else}
+use Rattle.vector_types.specs.Layout.{indexAt, hasIndexOutside}
 use Rattle.vector_types.specs.declared.VectorType.the-variants.{Float32Sparse}
 use Rattle.convert.specs.Dense.{count, entryBytes, spread, spreadBody}
 use Rattle.convert.proofs.Spread.{index-below, length-spread}
@@ -45,7 +45,7 @@ module _ (l vs : List ℕ) (x : ℕ) (room : 4 * x + 4 ≤ length l) (four : len
       away true p = inr (omega (arith, ltb-true x t p))
       away false p = inl (omega (arith, ltb-false x t p, h))
 
-module _ (d : ℕ) (body : List ℕ) (inside : strays Float32Sparse d body ≡ false) where
+module _ (d : ℕ) (body : List ℕ) (inside : hasIndexOutside Float32Sparse d body ≡ false) where
   pub below : Below (entriesOf body) d
   below = index-below binary32 d body inside
 

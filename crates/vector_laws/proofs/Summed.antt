@@ -38,7 +38,7 @@ module _ {S : Type 0} (r : Rule S) (K : S → Type 0) (Q : Float → Type 0) (la
   element-has : (v : Entries) → All Q v → (n t : ℕ) → n ≤ v .count → Q (orZero (lookup v n t))
   unfolding lookup
   element-has v q zero t h = law .zero-has
-  element-has v q (suc n) t h = go (eqb (v .at n) t) (element-has v q n t (omega arith))
+  element-has v q (suc n) t h = go (eqb (v .index n) t) (element-has v q n t (omega arith))
     where
       go : (b : Bool) → Q (orZero (lookup v n t)) → Q (orZero (cond b (some (v .value n)) (lookup v n t)))
       go true rest = q n h

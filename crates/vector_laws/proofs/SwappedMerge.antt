@@ -12,7 +12,7 @@ use Rattle.float_laws.specs.Zero.{plusZero, FromZero}
 use Rattle.float_laws.proofs.Running.{plusZero-fromZero}
 use Rattle.float_laws.proofs.Squared.{sub-squared}
 use Rattle.float_laws.proofs.Swap.{mul-comm}
-use Rattle.elements.proofs.Floats.{floatAt-fits}
+use Rattle.little_endian.proofs.Floats.{floatAt-fits}
 use Rattle.distance_sums.specs.Extremes.{lesser, greater}
 use Rattle.distance_sums.specs.Dense.{noProducts, productsWith, squaresWith, dotsWith, Shares, noShares, sharesWith}
 use Rattle.distance_sums.specs.Merged.{Entries, Rule, merged, merge}
@@ -60,7 +60,7 @@ module _ {S : Type 0} {r : Rule S} {turn : S → S} {Reached : S → Type 0} (t 
   merged-swap (suc p) (suc q) s z =
       let i = v .count - suc p in
       let j = w .count - suc q in
-      pick turn (v .at i) (w .at j)
+      pick turn (v .index i) (w .index j)
       (next p q (merged-swap p q) (t .both s _ _ (h i) (k j) z))
       (next p (suc q) (merged-swap p (suc q)) (t .left s _ (h i) z))
       (next (suc p) q (merged-swap (suc p) q) (t .right s _ (k j) z))

@@ -5,7 +5,7 @@ use mathlib.Core.Bool.{false}
 use mathlib.Core.List.{List}
 use lib.Dec.{T}
 use lib.Ieee.Scale.{finite}
-use Rattle.elements.specs.Bytes.{f32At}
+use Rattle.little_endian.specs.Bytes.{f32At}
 use Rattle.vector_types.specs.Parts.{bodyOf}
 use Rattle.vector_types.specs.Write.{blobOf}
 use Rattle.vector_types.specs.declared.View.{View}
@@ -18,8 +18,8 @@ use Rattle.distance.specs.declared.Distance.{Distance}
 use Rattle.distance.specs.declared.Distance.the-variants.{Cos, L2, Dot, Jaccard}
 
 -- the blob that the writer makes of what the blob s, with the view v, is converted to
-abbrev pub densely : List ℕ → View → List ℕ
-densely s v = blobOf Float32Dense (v .dims .0) (resultOf Float32Sparse Float32Dense (v .dims .0) (bodyOf s))
+abbrev pub denseForm : List ℕ → View → List ℕ
+denseForm s v = blobOf Float32Dense (v .dims .0) (resultOf Float32Sparse Float32Dense (v .dims .0) (bodyOf s))
 
 -- all stored values are finite
 abbrev pub AllFinite : List ℕ → Type 0
@@ -32,8 +32,8 @@ pub record NoZero (s : Products) : Type 0 where
   pub norm2 : isZero (s .norm2) ≡ false
 
 -- what is asked of two bodies, besides that their indices rise
-abbrev pub Asks : Distance → List ℕ → List ℕ → Type 0
-Asks Cos a b = AllFinite a × AllFinite b × NoZero (sparseProducts a b)
-Asks L2 a b = Unit
-Asks Dot a b = AllFinite a × AllFinite b
-Asks Jaccard a b = Unit
+abbrev pub Premises : Distance → List ℕ → List ℕ → Type 0
+Premises Cos a b = AllFinite a × AllFinite b × NoZero (sparseProducts a b)
+Premises L2 a b = Unit
+Premises Dot a b = AllFinite a × AllFinite b
+Premises Jaccard a b = Unit

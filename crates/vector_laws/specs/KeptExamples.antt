@@ -7,15 +7,15 @@ use Prim.Native.Nat.{ℕ}
 use lib.Dec.{eqb}
 use lib.Ieee.{add, sub, mul, div, neg, eq, lt, ofBits, binary64}
 use Rattle.float_laws.specs.Running.{running}
-use Rattle.elements.specs.Bytes.{numberAt, bytesOf, put}
+use Rattle.little_endian.specs.Bytes.{numberAt, bytesOf, put}
 use Rattle.rounding.specs.Root.{root}
 use Rattle.vector_types.specs.Search.{firstFrom}
-use Rattle.vector_types.specs.Layout.{named, byByte, before, fits, rowOf}
+use Rattle.vector_types.specs.Layout.{namedKind, byByte, lengthBeforeType, bodyFits, layoutRow}
 use Rattle.vector_types.specs.Read.{readOf, refusals, shown}
 use Rattle.vector_types.specs.Parts.{bodyOf}
 use Rattle.vector_types.specs.Write.{tailOf, blobOf}
 use Rattle.vector_types.specs.declared.ReadAnswer.{ReadAnswer}
-use Rattle.vector_types.specs.declared.ReadAnswer.the-variants.{View as Seen, Refused as Unread}
+use Rattle.vector_types.specs.declared.ReadAnswer.the-variants.{Accepted, Refused as Unread}
 use Rattle.vector_types.specs.declared.VectorType.the-variants.{Float32Sparse}
 use Rattle.convert.specs.Pieces.{each}
 use Rattle.convert.specs.Dense.{spread}
@@ -30,7 +30,7 @@ use Rattle.distance.specs.declared.Distance.{Distance}
 use Rattle.distance.specs.declared.Distance.the-variants.{Cos, L2, Dot, Jaccard}
 use Rattle.distance.specs.declared.DistanceAnswer.{DistanceAnswer}
 use Rattle.distance.specs.declared.DistanceAnswer.the-variants.{Measured}
-use Rattle.vector_laws.specs.Densely.{densely}
+use Rattle.vector_laws.specs.Densely.{denseForm}
 
 -- two sparse blobs, and the patterns of their distance and of that of their dense forms
 pub record Example : Type 0 where
@@ -49,7 +49,7 @@ changes m s t x y =
 
 -- the dense form of a blob that is read
 abbrev pub denselyIn : ReadAnswer → List ℕ → List ℕ
-denselyIn (Seen v) s = densely s v
+denselyIn (Accepted v) s = denseForm s v
 denselyIn (Unread r) s = s
 
 -- a sparse blob of dims 2: the patterns of its values, and their indices
@@ -109,7 +109,7 @@ defined e =
     (distanceOf (e .measure) s t, distanceOf (e .measure) (denselyIn (readOf s) s) (denselyIn (readOf t) t))
 
 pub table-holds : map defined table ≡ map (λ (e : Example). (answer (e .sparse), answer (e .dense))) table
-unfolding distanceOf readOf bodyOf named byByte before fits refusals shown firstFrom numberAt bytesOf put rowOf tailOf blobOf each resultOf spread running root merged productsWith squaresWith dotsWith sharesWith lesser greater add sub mul div neg eq lt ofBits
+unfolding distanceOf readOf bodyOf namedKind byByte lengthBeforeType bodyFits refusals shown firstFrom numberAt bytesOf put layoutRow tailOf blobOf each resultOf spread running root merged productsWith squaresWith dotsWith sharesWith lesser greater add sub mul div neg eq lt ofBits
 table-holds = refl
 
 -- and no two of them are one

@@ -2,8 +2,8 @@
 use Prim.Native.Nat.{ℕ}
 use mathlib.Core.Path.{_≡_}
 use mathlib.Core.List.{List}
-use Rattle.elements.specs.Bytes.{AreBytes}
-use Rattle.vector_types.specs.Answers.{seen}
+use Rattle.little_endian.specs.Bytes.{AreBytes}
+use Rattle.vector_types.specs.Answers.{acceptedAs}
 use Rattle.vector_types.specs.Read.{readOf}
 use Rattle.vector_types.specs.Parts.{bodyOf}
 use Rattle.vector_types.specs.declared.VectorType.the-variants.{Float1Bit}
@@ -12,7 +12,7 @@ use Rattle.distance_sums.specs.OneBit.{differing, wholeBits}
 pub record Packed (d : ℕ) (s : List ℕ) : Type 0 where
   pub bytes : AreBytes s
   pub long : ℕ
-  pub read : readOf s ≡ seen Float1Bit d long
+  pub read : readOf s ≡ acceptedAs Float1Bit d long
 
 abbrev pub bitsApart : ℕ → List ℕ → List ℕ → ℕ
 bitsApart d s t = differing (bodyOf s) (bodyOf t) (wholeBits d)

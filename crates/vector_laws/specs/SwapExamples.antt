@@ -4,9 +4,9 @@ use mathlib.Core.List.{List, [], _∷_, _++_, map}
 use Prim.Native.Nat.{ℕ}
 use lib.Ieee.{add, sub, mul, div, neg, ofInt, ofBits, binary64}
 use Rattle.float_laws.specs.Running.{total}
-use Rattle.elements.specs.Bytes.{numberAt}
+use Rattle.little_endian.specs.Bytes.{numberAt}
 use Rattle.rounding.specs.Root.{root}
-use Rattle.vector_types.specs.Layout.{named, byByte, before, fits, rowOf}
+use Rattle.vector_types.specs.Layout.{namedKind, byByte, lengthBeforeType, bodyFits, layoutRow}
 use Rattle.vector_types.specs.Read.{readOf, refusals, shown}
 use Rattle.vector_types.specs.Parts.{bodyOf}
 use Rattle.distance.specs.Answer.{distanceOf}
@@ -34,10 +34,10 @@ patterns = map (λ n. Measured (ofBits binary64 n))
 
 -- the terms are 2 ^ 53, 1, 2 and 2 ^ -52, or 2 ^ 53, 2, 1 and 2 ^ -52: the sum is 2 ^ 53 + 2, or 2 ^ 53 + 4
 pub dot-both-ways : bothWays Dot ≡ patterns (0xc340_0000_0000_0001 ∷ 0xc340_0000_0000_0002 ∷ [])
-unfolding distanceOf readOf bodyOf named byByte before fits refusals shown numberAt rowOf total add mul neg ofInt ofBits
+unfolding distanceOf readOf bodyOf namedKind byByte lengthBeforeType bodyFits refusals shown numberAt layoutRow total add mul neg ofInt ofBits
 dot-both-ways = refl
 
 -- the root of the norms is 2 ^ 53 + 2: the cosine is 0, or -2 ^ -52
 pub cosine-both-ways : bothWays Cos ≡ patterns (0 ∷ 0xbcb0_0000_0000_0000 ∷ [])
-unfolding distanceOf readOf bodyOf named byByte before fits refusals shown numberAt rowOf total root add sub mul div ofInt ofBits
+unfolding distanceOf readOf bodyOf namedKind byByte lengthBeforeType bodyFits refusals shown numberAt layoutRow total root add sub mul div ofInt ofBits
 cosine-both-ways = refl

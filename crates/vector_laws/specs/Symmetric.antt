@@ -5,15 +5,15 @@ use Rattle.vector_types.specs.declared.VectorType.the-variants.{Float32Dense, F
 use Rattle.distance.specs.declared.Distance.{Distance}
 use Rattle.distance.specs.declared.Distance.the-variants.{Cos, L2, Dot, Jaccard}
 
-abbrev pub orderly : VectorType → Bool
-orderly Float32Dense = true
-orderly Float64Dense = true
-orderly Float32Sparse = true
-orderly Float1Bit = true
-orderly Float8 = false
+abbrev pub isNotFloat8 : VectorType → Bool
+isNotFloat8 Float32Dense = true
+isNotFloat8 Float64Dense = true
+isNotFloat8 Float32Sparse = true
+isNotFloat8 Float1Bit = true
+isNotFloat8 Float8 = false
 
 abbrev pub symmetric : Distance → VectorType → Bool
-symmetric Cos k = orderly k
+symmetric Cos k = isNotFloat8 k
 symmetric L2 k = true
-symmetric Dot k = orderly k
+symmetric Dot k = isNotFloat8 k
 symmetric Jaccard k = true

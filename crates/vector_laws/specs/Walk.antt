@@ -9,7 +9,7 @@ use Rattle.distance_sums.specs.Merged.{Entries, Rule}
 -- the value at the index t, if there is one: of the first n entries, the last that stands there
 unfoldable pub lookup : Entries → ℕ → ℕ → Option Float
 lookup v zero t = none
-lookup v (suc n) t = let rest = lookup v n t in cond (eqb (v .at n) t) (some (v .value n)) rest
+lookup v (suc n) t = let rest = lookup v n t in cond (eqb (v .index n) t) (some (v .value n)) rest
 
 -- one index; one that neither has adds nothing
 abbrev pub turn : {S : Type 0} → Rule S → S → Option Float → Option Float → S
@@ -25,7 +25,7 @@ walked r v w s (suc t) = turn r (walked r v w s t) (lookup v (v .count) t) (look
 
 -- each index is above the one before it, and all are below d
 abbrev pub Rising : Entries → Type 0
-Rising v = (i : ℕ) → suc i < v .count → v .at i < v .at (suc i)
+Rising v = (i : ℕ) → suc i < v .count → v .index i < v .index (suc i)
 
 abbrev pub Below : Entries → ℕ → Type 0
-Below v d = (i : ℕ) → i < v .count → v .at i < d
+Below v d = (i : ℕ) → i < v .count → v .index i < d

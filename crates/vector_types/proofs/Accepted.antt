@@ -6,38 +6,38 @@ use Prim.Native.Nat.{ℕ}
 use borrow.Author.Tests.{leb-true, le-leb, le-ltb}
 use lib.Dec.{leb}
 use lib.ListN.{length}
-use Rattle.vector_types.specs.Answers.{seen, isSeen}
-use Rattle.vector_types.specs.Layout.{longest, mostDims, Named, a, unsupported, unknown, named, accepted, acceptedIn, dimsOf, lengthOf}
+use Rattle.vector_types.specs.Answers.{acceptedAs, isAccepted}
+use Rattle.vector_types.specs.Layout.{maxBlobLength, maxDims, Named, a, unsupported, unknown, namedKind, rowAccepts, blobAccepted, dimsOf, lengthOf}
 use Rattle.vector_types.specs.Read.{readOf, refusals}
 use Rattle.vector_types.specs.declared.VectorType.{VectorType}
 use Rattle.vector_types.specs.declared.ReadAnswer.{ReadAnswer}
-use Rattle.vector_types.specs.declared.ReadAnswer.the-variants.{View as Seen, Refused}
+use Rattle.vector_types.specs.declared.ReadAnswer.the-variants.{Accepted, Refused}
 use Rattle.vector_types.proofs.Bools.{and-three, same}
 use Rattle.vector_types.proofs.Given.{passed-none}
 use Rattle.vector_types.proofs.Rows.{accepted-passed}
-use Rattle.vector_types.proofs.Views.{told}
+use Rattle.vector_types.proofs.Views.{view-facts}
 
 module _ (s : List ℕ) where
-  pub seen-exactly : (k : VectorType) → named s ≡ a k → acceptedIn (named s) s ≡ true → readOf s ≡ seen k (dimsOf k s) (lengthOf k s)
-  unfolding readOf acceptedIn
+  pub seen-exactly : (k : VectorType) → namedKind s ≡ a k → blobAccepted (namedKind s) s ≡ true → readOf s ≡ acceptedAs k (dimsOf k s) (lengthOf k s)
+  unfolding readOf blobAccepted
   seen-exactly k e h =
       let d = dimsOf k s in
-      let (row, short, few) = and-three (accepted k s) (leb (length s) longest) (leb d mostDims) (rw e at h) in
-      let passed = accepted-passed s k row (le-ltb longest (length s) (leb-true (length s) longest short)) (le-ltb mostDims d (leb-true d mostDims few)) in
+      let (row, short, few) = and-three (rowAccepts k s) (leb (length s) maxBlobLength) (leb d maxDims) (rw e at h) in
+      let passed = accepted-passed s k row (le-ltb maxBlobLength (length s) (leb-true (length s) maxBlobLength short)) (le-ltb maxDims d (leb-true d maxDims few)) in
       rw (e, passed-none (refusals (a k) s) passed)
 
   -- a blob that is shown has its row's and the limits' leave
-  leave : (r : ReadAnswer) → readOf s ≡ r → isSeen r ≡ true → acceptedIn (named s) s ≡ true
-  unfolding acceptedIn
-  leave (Seen v) e h = let t = told s v e in
-      rw (t .names, t .accepts, le-leb (length s) longest (t .short), ← (t .sized), le-leb (v .dims .0) mostDims (t .few))
+  leave : (r : ReadAnswer) → readOf s ≡ r → isAccepted r ≡ true → blobAccepted (namedKind s) s ≡ true
+  unfolding blobAccepted
+  leave (Accepted v) e h = let t = view-facts s v e in
+      rw (t .names, t .accepts, le-leb (length s) maxBlobLength (t .short), ← (t .sized), le-leb (v .dims .0) maxDims (t .few))
   leave (Refused r) e h = absurd (false≢true h)
 
-  shows : (n : Named) → named s ≡ n → acceptedIn n s ≡ true → isSeen (readOf s) ≡ true
-  unfolding acceptedIn
-  shows (a k) e h = ap isSeen (seen-exactly k e (rw e h))
+  shows : (n : Named) → namedKind s ≡ n → blobAccepted n s ≡ true → isAccepted (readOf s) ≡ true
+  unfolding blobAccepted
+  shows (a k) e h = ap isAccepted (seen-exactly k e (rw e h))
   shows unsupported e h = absurd (false≢true h)
   shows unknown e h = absurd (false≢true h)
 
-  pub accepted-exactly : isSeen (readOf s) ≡ acceptedIn (named s) s
-  accepted-exactly = same (isSeen (readOf s)) (acceptedIn (named s) s) (leave (readOf s) refl) (shows (named s) refl)
+  pub accepted-exactly : isAccepted (readOf s) ≡ blobAccepted (namedKind s) s
+  accepted-exactly = same (isAccepted (readOf s)) (blobAccepted (namedKind s) s) (leave (readOf s) refl) (shows (namedKind s) refl)

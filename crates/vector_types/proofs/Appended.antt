@@ -7,10 +7,10 @@ use native.Mathlib.Omega.{arith}
 use lib.Dec.{ltb, leb}
 use lib.ListN.{length, getD, length-append, List·getD-append}
 use lib.Seq.{getD-append-add}
-use Rattle.elements.proofs.Numbers.{numberAt-left}
-use Rattle.vector_types.specs.Search.{firstFrom, some}
-use Rattle.vector_types.specs.Layout.{named, byByte, before, indexAt, outside}
-use Rattle.vector_types.specs.Read.{falls, unusedSet}
+use Rattle.little_endian.proofs.Numbers.{numberAt-left}
+use Rattle.vector_types.specs.Search.{firstFrom, anyIndex}
+use Rattle.vector_types.specs.Layout.{namedKind, byByte, lengthBeforeType, indexAt, isOutside}
+use Rattle.vector_types.specs.Read.{isBelowPrevious, unusedSet}
 use Rattle.vector_types.proofs.Ends.{oddly}
 
 -- ---- two tests that agree at the places searched find the same
@@ -21,13 +21,13 @@ firstFrom-same p q i (suc n) h =
     let rest = firstFrom-same p q (suc i) n (λ j l m. h j (omega arith) (omega arith)) in
     rw (h i (omega arith) (omega arith), rest)
 
-some-same : (p q : ℕ → Bool) (n : ℕ) → ((j : ℕ) → j < n → p j ≡ q j) → some p n ≡ some q n
+some-same : (p q : ℕ → Bool) (n : ℕ) → ((j : ℕ) → j < n → p j ≡ q j) → anyIndex p n ≡ anyIndex q n
 some-same p q n h = ap (λ (i : ℕ). ltb i n) (firstFrom-same p q 0 n (λ j l m. h j (omega arith)))
 
 module _ (body tail : List ℕ) where
   -- the kind that is named, and how many bytes stand before the type byte
   pub ended : (i : ℕ) → length tail ≡ i + 1 → (length body + i) % 2 ≡ 0
-      → (named (body ++ tail) ≡ byByte (getD tail i 0)) × (before (body ++ tail) ≡ length body + i)
+      → (namedKind (body ++ tail) ≡ byByte (getD tail i 0)) × (lengthBeforeType (body ++ tail) ≡ length body + i)
   ended i long h =
       let (names, size) = oddly (body ++ tail) (length body + i) (rw length-append (omega arith)) h in
       (names ∙ rw getD-append-add, size)
@@ -40,19 +40,19 @@ module _ (body tail : List ℕ) where
   index-appended : (k : ℕ) → length body ≡ 8 * k → (j : ℕ) → j < k → indexAt (body ++ tail) k j ≡ indexAt body k j
   index-appended k long j h = numberAt-left 4 body tail (4 * k + 4 * j) (omega arith)
 
-  pub outside-appended : (k d : ℕ) → length body ≡ 8 * k → some (outside (body ++ tail) k d) k ≡ some (outside body k d) k
+  pub outside-appended : (k d : ℕ) → length body ≡ 8 * k → anyIndex (isOutside (body ++ tail) k d) k ≡ anyIndex (isOutside body k d) k
   outside-appended k d long =
-      some-same (outside (body ++ tail) k d) (outside body k d) k (λ j h. ap (λ (i : ℕ). leb d i) (index-appended k long j h))
+      some-same (isOutside (body ++ tail) k d) (isOutside body k d) k (λ j h. ap (λ (i : ℕ). leb d i) (index-appended k long j h))
 
-  pub falls-appended : (k : ℕ) → length body ≡ 8 * k → some (falls (body ++ tail) k) k ≡ some (falls body k) k
-  falls-appended k long = some-same (falls (body ++ tail) k) (falls body k) k at
+  pub falls-appended : (k : ℕ) → length body ≡ 8 * k → anyIndex (isBelowPrevious (body ++ tail) k) k ≡ anyIndex (isBelowPrevious body k) k
+  falls-appended k long = some-same (isBelowPrevious (body ++ tail) k) (isBelowPrevious body k) k at
     where
-      at : (j : ℕ) → j < k → falls (body ++ tail) k j ≡ falls body k j
+      at : (j : ℕ) → j < k → isBelowPrevious (body ++ tail) k j ≡ isBelowPrevious body k j
       at zero h = refl
       at (suc j) h = rw (index-appended k long (suc j) h, index-appended k long j (omega arith))
 
   -- the bits of a 1-bit body past the first d
-  pub unused-appended : (d : ℕ) → some (unusedSet (body ++ tail) d) (8 * length body - d) ≡ some (unusedSet body d) (8 * length body - d)
+  pub unused-appended : (d : ℕ) → anyIndex (unusedSet (body ++ tail) d) (8 * length body - d) ≡ anyIndex (unusedSet body d) (8 * length body - d)
   unused-appended d =
       some-same (unusedSet (body ++ tail) d) (unusedSet body d) (8 * length body - d)
       (λ i h. rw (List·getD-append body tail 0 ((d + i) / 8) (omega arith)))

@@ -8,11 +8,11 @@ use lib.Dec.{leb, eqb}
 use lib.ListN.{length, take, drop, length-append, take-append-drop}
 use lib.Seq.{length-take-le}
 use borrow.Author.Tests.{eqb-true, leb-true, ne-eqb, not-true}
-use Rattle.elements.specs.Bytes.{AreBytes}
-use Rattle.elements.proofs.Numbers.{length-bytesOf}
-use Rattle.vector_types.specs.Answers.{none, firstOf}
-use Rattle.vector_types.specs.Search.{some}
-use Rattle.vector_types.specs.Layout.{ceil, a, is, counted, named, before, trailing, entries, sparseDims, accepted, dimsOf, lengthOf, outside, rowOf}
+use Rattle.little_endian.specs.Bytes.{AreBytes}
+use Rattle.little_endian.proofs.Numbers.{length-bytesOf}
+use Rattle.vector_types.specs.Answers.{none, firstGiven}
+use Rattle.vector_types.specs.Search.{anyIndex}
+use Rattle.vector_types.specs.Layout.{ceil, a, hasByte, hasTrailingCount, namedKind, lengthBeforeType, trailingCount, entryCount, sparseDims, rowAccepts, dimsOf, lengthOf, isOutside, layoutRow}
 use Rattle.vector_types.specs.Read.{readOf}
 use Rattle.vector_types.specs.Parts.{bodyOf}
 use Rattle.vector_types.specs.Write.{tailOf, blobOf, writeRefusals}
@@ -22,8 +22,8 @@ use Rattle.vector_types.specs.declared.Refusal.{Refusal}
 use Rattle.vector_types.specs.declared.ReadAnswer.{ReadAnswer}
 use Rattle.vector_types.specs.declared.VectorType.{VectorType}
 use Rattle.vector_types.specs.declared.VectorType.the-variants.{Float32Dense, Float64Dense, Float32Sparse, Float1Bit, Float8}
-use Rattle.vector_types.specs.declared.ReadAnswer.the-variants.{View as Seen, Refused as ReadRefused}
-use Rattle.vector_types.proofs.Views.{told}
+use Rattle.vector_types.specs.declared.ReadAnswer.the-variants.{Accepted, Refused as ReadRefused}
+use Rattle.vector_types.proofs.Views.{view-facts}
 use Rattle.vector_types.proofs.Bools.{and-three}
 use Rattle.vector_types.proofs.Ends.{named-odd, before-within}
 use Rattle.vector_types.proofs.Tails.{length-filler}
@@ -34,15 +34,15 @@ use Rattle.vector_types.proofs.Written.{unrefused, body-seen, reads-bac
 record Kept (k : VectorType) (s : List ℕ) : Type 0 where
   room : lengthOf k s + length (tailOf k (dimsOf k s)) ≤ length s
   lost : AreBytes s → length s ≤ lengthOf k s + length (tailOf k (dimsOf k s)) + 30
-  filled : (counted k && eqb (dimsOf k s) 0) ≡ false
-  inside : (is 9 k && some (outside (take (lengthOf k s) s) (lengthOf k s / 8) (dimsOf k s)) (lengthOf k s / 8)) ≡ false
+  filled : (hasTrailingCount k && eqb (dimsOf k s) 0) ≡ false
+  inside : (hasByte 9 k && anyIndex (isOutside (take (lengthOf k s) s) (lengthOf k s / 8) (dimsOf k s)) (lengthOf k s / 8)) ≡ false
 
 module _ (s : List ℕ) where
-  one-bit-kept : named s ≡ a Float1Bit → accepted Float1Bit s ≡ true → Kept Float1Bit s
-  unfolding tailOf rowOf
+  one-bit-kept : namedKind s ≡ a Float1Bit → rowAccepts Float1Bit s ≡ true → Kept Float1Bit s
+  unfolding tailOf layoutRow
   one-bit-kept names row =
-      let n = before s in
-      let t = trailing s in
+      let n = lengthBeforeType s in
+      let t = trailingCount s in
       let tests = and-three (leb 2 n) (leb 8 t) (leb t (8 * n - 1)) row in
       let last = named-odd s Float1Bit names refl in
       let d : dimsOf Float1Bit s ≡ 8 * n - t = refl in
@@ -53,11 +53,11 @@ module _ (s : List ℕ) where
         inside = refl;
       }
 
-  float8-kept : named s ≡ a Float8 → accepted Float8 s ≡ true → Kept Float8 s
-  unfolding tailOf rowOf
+  float8-kept : namedKind s ≡ a Float8 → rowAccepts Float8 s ≡ true → Kept Float8 s
+  unfolding tailOf layoutRow
   float8-kept names row =
-      let n = before s in
-      let t = trailing s in
+      let n = lengthBeforeType s in
+      let t = trailingCount s in
       let tests = and-three (leb 14 n) (eqb ((n - 10) % 4) 0) (leb t 3) row in
       let d : dimsOf Float8 s ≡ n - 10 - t = refl in
       let last = named-odd s Float8 names refl in
@@ -68,13 +68,13 @@ module _ (s : List ℕ) where
         inside = refl;
       }
 
-  sparse-kept : named s ≡ a Float32Sparse → accepted Float32Sparse s ≡ true → Kept Float32Sparse s
-  unfolding tailOf rowOf
+  sparse-kept : namedKind s ≡ a Float32Sparse → rowAccepts Float32Sparse s ≡ true → Kept Float32Sparse s
+  unfolding tailOf layoutRow
   sparse-kept names row =
-      let n = before s in
-      let k = entries s in
+      let n = lengthBeforeType s in
+      let k = entryCount s in
       let m = 8 * k in
-      let (size, within) = and-eq-true-iff (eqb n (4 + 8 * k)) (not (some (outside s k (sparseDims s)) k)) .0 row in
+      let (size, within) = and-eq-true-iff (eqb n (4 + 8 * k)) (not (anyIndex (isOutside s k (sparseDims s)) k)) .0 row in
       let size = eqb-true n (4 + 8 * k) size in
       let last = named-odd s Float32Sparse names refl in
       let count : m / 8 ≡ k = omega arith in
@@ -84,11 +84,11 @@ module _ (s : List ℕ) where
         room = rw (length-append, length-bytesOf) (omega arith);
         lost = λ _. rw (length-append, length-bytesOf) (omega arith);
         filled = refl;
-        inside = rw count (sym same ∙ not-true (some (outside s k (sparseDims s)) k) within);
+        inside = rw count (sym same ∙ not-true (anyIndex (isOutside s k (sparseDims s)) k) within);
       }
 
-kept : (k : VectorType) (s : List ℕ) → named s ≡ a k → accepted k s ≡ true → Kept k s
-unfolding tailOf rowOf
+kept : (k : VectorType) (s : List ℕ) → namedKind s ≡ a k → rowAccepts k s ≡ true → Kept k s
+unfolding tailOf layoutRow
 kept Float32Dense s names row = record { room = omega (arith, before-within s); lost = λ _. omega (arith, before-within s); filled = refl; inside = refl }
 kept Float64Dense s names row =
     let last = named-odd s Float64Dense names refl in
@@ -105,27 +105,27 @@ rewritten-as s r e = ap (λ (r : ReadAnswer). rewrittenAs r s) e
 abbrev blobFor : View → List ℕ → List ℕ
 blobFor v s = blobOf (v .kind) (v .dims .0) (bodyOf s)
 
-module _ (s : List ℕ) (v : View) (e : readOf s ≡ Seen v) where
+module _ (s : List ℕ) (v : View) (e : readOf s ≡ Accepted v) where
   pub body-is : bodyOf s ≡ take (v .length) s
   body-is = body-seen s (v .kind) (v .dims .0) (v .length) e
 
   body-long : length (bodyOf s) ≡ v .length
-  body-long = rw body-is (length-take-le (v .length) s (told s v e .within))
+  body-long = rw body-is (length-take-le (v .length) s (view-facts s v e .within))
 
   here : Kept (v .kind) s
-  here = let t = told s v e in kept (v .kind) s (t .names) (t .accepts)
+  here = let t = view-facts s v e in kept (v .kind) s (t .names) (t .accepts)
 
   blob-no-longer : length (blobFor v s) ≤ length s
   unfolding blobOf
-  blob-no-longer = let t = told s v e in rw (length-append, body-long, t .sized, t .long) (here .room)
+  blob-no-longer = let t = view-facts s v e in rw (length-append, body-long, t .sized, t .long) (here .room)
 
   blob-little-shorter : AreBytes s → length s ≤ length (blobFor v s) + 30
   unfolding blobOf
-  blob-little-shorter bytes = let t = told s v e in rw (length-append, body-long, t .sized, t .long) (here .lost bytes)
+  blob-little-shorter bytes = let t = view-facts s v e in rw (length-append, body-long, t .sized, t .long) (here .lost bytes)
 
-  pub rewritable : firstOf (writeRefusals (v .kind) (v .dims .0) (bodyOf s)) ≡ none
+  pub rewritable : firstGiven (writeRefusals (v .kind) (v .dims .0) (bodyOf s)) ≡ none
   rewritable =
-      let t = told s v e in
+      let t = view-facts s v e in
       unrefused (v .kind) (v .dims .0) (bodyOf s)
       (record {
         few = t .few;
@@ -135,19 +135,19 @@ module _ (s : List ℕ) (v : View) (e : readOf s ≡ Seen v) where
         filled = rw (t .sized) (here .filled);
       })
 
-  pub blob-same : (readOf (blobFor v s) ≡ Seen v) × (bodyOf (blobFor v s) ≡ bodyOf s)
+  pub blob-same : (readOf (blobFor v s) ≡ Accepted v) × (bodyOf (blobFor v s) ≡ bodyOf s)
   blob-same = let (view, body) = reads-back (v .kind) (v .dims .0) (bodyOf s) rewritable in (rw body-long at view, body)
 
   blob-once : rewritten (blobFor v s) ≡ blobFor v s
-  blob-once = rewritten-as (blobFor v s) (Seen v) (blob-same .0) ∙ rw (blob-same .1)
+  blob-once = rewritten-as (blobFor v s) (Accepted v) (blob-same .0) ∙ rw (blob-same .1)
 
 -- ---- the same of any blob: one that is refused is not rewritten
-pub rewritten-by : (s : List ℕ) (P : List ℕ → Type 0) → ((v : View) → readOf s ≡ Seen v → P (blobFor v s))
+pub rewritten-by : (s : List ℕ) (P : List ℕ → Type 0) → ((v : View) → readOf s ≡ Accepted v → P (blobFor v s))
     → ((r : Refusal) → readOf s ≡ ReadRefused r → P s) → P (rewritten s)
 rewritten-by s P view refusal = by (readOf s) refl
   where
     by : (r : ReadAnswer) → readOf s ≡ r → P (rewritten s)
-    by (Seen v) e = rw (rewritten-as s (Seen v) e) (view v e)
+    by (Accepted v) e = rw (rewritten-as s (Accepted v) e) (view v e)
     by (ReadRefused r) e = rw (rewritten-as s (ReadRefused r) e) (refusal r e)
 
 pub rewritten-no-longer : (s : List ℕ) → length (rewritten s) ≤ length s
@@ -165,5 +165,5 @@ pub rewritten-once : (s : List ℕ) → rewritten (rewritten s) ≡ rewritten s
 rewritten-once s = rewritten-by s (λ w. rewritten w ≡ w) (blob-once s) (λ r. rewritten-as s (ReadRefused r))
 
 -- two blobs of one view and body become one
-pub rewritten-alike : (s t : List ℕ) (v : View) → readOf s ≡ Seen v → readOf t ≡ Seen v → bodyOf s ≡ bodyOf t → rewritten s ≡ rewritten t
-rewritten-alike s t v e f body = rewritten-as s (Seen v) e ∙ rw body (sym (rewritten-as t (Seen v) f))
+pub rewritten-alike : (s t : List ℕ) (v : View) → readOf s ≡ Accepted v → readOf t ≡ Accepted v → bodyOf s ≡ bodyOf t → rewritten s ≡ rewritten t
+rewritten-alike s t v e f body = rewritten-as s (Accepted v) e ∙ rw body (sym (rewritten-as t (Accepted v) f))

@@ -6,18 +6,18 @@ use Prim.Native.Nat.{ℕ, _-_, _*_, _/_, _≤_}
 use native.Mathlib.Omega.{arith}
 use lib.ListN.{length, take, drop, take-append-drop}
 use lib.Seq.{length-take-le}
-use Rattle.vector_types.specs.Answers.{Test, test, firstOf, unless, refused}
-use Rattle.vector_types.specs.Search.{some}
-use Rattle.vector_types.specs.Layout.{Named, a, is, named, entries, dimsOf, lengthOf}
-use Rattle.vector_types.specs.Read.{falls, unusedSet, strictRefusals, readOf, strictOf}
+use Rattle.vector_types.specs.Answers.{Test, test, firstGiven, unless, refused}
+use Rattle.vector_types.specs.Search.{anyIndex}
+use Rattle.vector_types.specs.Layout.{Named, a, hasByte, namedKind, entryCount, dimsOf, lengthOf}
+use Rattle.vector_types.specs.Read.{isBelowPrevious, unusedSet, strictRefusals, readOf, strictOf}
 use Rattle.vector_types.specs.Parts.{bodyOf}
 use Rattle.vector_types.specs.Write.{blobOf}
 use Rattle.vector_types.specs.Rewritten.{rewritten}
 use Rattle.vector_types.specs.declared.View.{View}
 use Rattle.vector_types.specs.declared.VectorType.{VectorType}
 use Rattle.vector_types.specs.declared.VectorType.the-variants.{Float32Dense, Float64Dense, Float32Sparse, Float1Bit, Float8}
-use Rattle.vector_types.specs.declared.ReadAnswer.the-variants.{View as Seen}
-use Rattle.vector_types.proofs.Views.{told}
+use Rattle.vector_types.specs.declared.ReadAnswer.the-variants.{Accepted}
+use Rattle.vector_types.proofs.Views.{view-facts}
 use Rattle.vector_types.proofs.Strict.{strict-seen}
 use Rattle.vector_types.proofs.Appended.{falls-appended, unused-appended}
 use Rattle.vector_types.proofs.Rewritten.{body-is, blob-same, rewritten-by}
@@ -25,8 +25,8 @@ use Rattle.vector_types.proofs.Rewritten.{body-is, blob-same, rewritten
 -- ---- the strict reader's own tests, by the body alone
 abbrev bodyTests : VectorType → ℕ → List ℕ → List Test
 bodyTests k d b =
-    test 10 (is 9 k && some (falls b (length b / 8)) (length b / 8))
-    ∷ test 11 (is 3 k && some (unusedSet b d) (8 * length b - d))
+    test 10 (hasByte 9 k && anyIndex (isBelowPrevious b (length b / 8)) (length b / 8))
+    ∷ test 11 (hasByte 3 k && anyIndex (unusedSet b d) (8 * length b - d))
     ∷ []
 
 by-body : (k : VectorType) (s : List ℕ) (m d : ℕ) → m ≤ length s → m ≡ lengthOf k s → d ≡ dimsOf k s
@@ -36,8 +36,8 @@ by-body Float32Dense s m d within long sized = refl
 by-body Float64Dense s m d within long sized = refl
 by-body Float32Sparse s m d within long sized =
     let size = length-take-le m s within in
-    let count : length (take m s) / 8 ≡ entries s = omega arith in
-    let same = rw take-append-drop at (falls-appended (take m s) (drop m s) (entries s) (omega arith)) in
+    let count : length (take m s) / 8 ≡ entryCount s = omega arith in
+    let same = rw take-append-drop at (falls-appended (take m s) (drop m s) (entryCount s) (omega arith)) in
     ap (λ (p : Bool). test 10 p ∷ test 11 false ∷ []) (same ∙ rw count)
 by-body Float1Bit s m d within long sized =
     let size = length-take-le m s within in
@@ -46,16 +46,16 @@ by-body Float1Bit s m d within long sized =
 by-body Float8 s m d within long sized = refl
 
 -- ---- a blob with a view is read strictly by these tests
-by-tests : (s : List ℕ) (v : View) → readOf s ≡ Seen v
-    → strictOf s ≡ unless (firstOf (bodyTests (v .kind) (v .dims .0) (bodyOf s))) refused (Seen v)
+by-tests : (s : List ℕ) (v : View) → readOf s ≡ Accepted v
+    → strictOf s ≡ unless (firstGiven (bodyTests (v .kind) (v .dims .0) (bodyOf s))) refused (Accepted v)
 by-tests s v e =
-    let t = told s v e in
+    let t = view-facts s v e in
     let kind = ap (λ (n : Named). strictRefusals n s) (t .names) in
     let body = by-body (v .kind) s (v .length) (v .dims .0) (t .within) (t .long) (t .sized) in
-    let same : strictRefusals (named s) s ≡ bodyTests (v .kind) (v .dims .0) (bodyOf s) = kind ∙ body ∙ rw (body-is s v e) in
-    strict-seen s v e ∙ ap (λ (ts : List Test). unless (firstOf ts) refused (Seen v)) same
+    let same : strictRefusals (namedKind s) s ≡ bodyTests (v .kind) (v .dims .0) (bodyOf s) = kind ∙ body ∙ rw (body-is s v e) in
+    strict-seen s v e ∙ ap (λ (ts : List Test). unless (firstGiven ts) refused (Accepted v)) same
 
-blob-strict : (s : List ℕ) (v : View) → readOf s ≡ Seen v → strictOf (blobOf (v .kind) (v .dims .0) (bodyOf s)) ≡ strictOf s
+blob-strict : (s : List ℕ) (v : View) → readOf s ≡ Accepted v → strictOf (blobOf (v .kind) (v .dims .0) (bodyOf s)) ≡ strictOf s
 blob-strict s v e =
     let (view, body) = blob-same s v e in
     by-tests (blobOf (v .kind) (v .dims .0) (bodyOf s)) v view ∙ rw body (sym (by-tests s v e))

@@ -1,9 +1,9 @@
--- Laws of `first`: the invariant of a loop that searches, from its start to a hit or to the end.
+-- Laws of `firstIndex`: the invariant of a loop that searches, from its start to a hit or to the end.
 use mathlib.Core.Path.{_≡_, refl, sym, _∙_}
 use mathlib.Core.Bool.{Bool, true, false, cond}
 use Prim.Native.Nat.{ℕ, zero, suc, _+_, _-_, _<_, _≤_}
 use native.Mathlib.Omega.{arith}
-use Rattle.vector_types.specs.Search.{firstFrom, first}
+use Rattle.vector_types.specs.Search.{firstFrom, firstIndex}
 
 -- one place more
 peel : (p : ℕ → Bool) (i n : ℕ) → firstFrom p i (suc n) ≡ cond (p i) i (firstFrom p (suc i) n)
@@ -16,7 +16,7 @@ none p i = refl
 
 -- no place below j has been a hit
 abbrev pub Searched : (ℕ → Bool) → ℕ → ℕ → Type 0
-Searched p n j = (j ≤ n) × (first p n ≡ firstFrom p j (n - j))
+Searched p n j = (j ≤ n) × (firstIndex p n ≡ firstFrom p j (n - j))
 
 module _ (p : ℕ → Bool) (n : ℕ) where
   pub search-start : Searched p n 0
@@ -26,7 +26,7 @@ module _ (p : ℕ → Bool) (n : ℕ) where
     more : j < n → n - j ≡ suc (n - suc j)
     more h = omega arith
 
-    pub search-hit : j < n → p j ≡ true → j ≡ first p n
+    pub search-hit : j < n → p j ≡ true → j ≡ firstIndex p n
     search-hit h e = sym (s .1 ∙ rw (more h, peel p j (n - suc j), e))
 
     pub search-miss : j < n → p j ≡ false → Searched p n (j + 1)
@@ -34,5 +34,5 @@ module _ (p : ℕ → Bool) (n : ℕ) where
         let next : j + 1 ≡ suc j = omega arith in
         (omega arith, s .1 ∙ rw (more h, peel p j (n - suc j), e, next))
 
-    pub search-end : n ≤ j → n ≡ first p n
+    pub search-end : n ≤ j → n ≡ firstIndex p n
     search-end h = let e : j ≡ n = omega arith in let z : n - j ≡ 0 = omega arith in sym (s .1 ∙ rw (z, none p j, e))

@@ -5,7 +5,7 @@ use mathlib.Core.Bool.{Bool, true, false, true≢false}
 use Prim.Native.Nat.{ℕ, zero, suc, _+_, _<_, _≤_}
 use native.Mathlib.Omega.{arith}
 use borrow.Author.Tests.{lt-ltb, le-ltb}
-use Rattle.vector_types.specs.Search.{firstFrom, first, some}
+use Rattle.vector_types.specs.Search.{firstFrom, firstIndex, anyIndex}
 
 -- the test fails at the n places from i on
 abbrev Fails : (ℕ → Bool) → ℕ → ℕ → Type 0
@@ -29,15 +29,15 @@ module _ (p : ℕ → Bool) where
           rw e (rest (omega arith) (omega arith) q)
 
 module _ (p : ℕ → Bool) (n : ℕ) where
-  true-some : (j : ℕ) → j < n → p j ≡ true → some p n ≡ true
-  true-some j m q = lt-ltb (first p n) n (omega (arith, hit-after p n 0 j (omega arith) (omega arith) q))
+  true-some : (j : ℕ) → j < n → p j ≡ true → anyIndex p n ≡ true
+  true-some j m q = lt-ltb (firstIndex p n) n (omega (arith, hit-after p n 0 j (omega arith) (omega arith) q))
 
-  pub some-false : some p n ≡ false → (j : ℕ) → j < n → p j ≡ false
+  pub some-false : anyIndex p n ≡ false → (j : ℕ) → j < n → p j ≡ false
   some-false e j m = at (p j) refl
     where
       at : (b : Bool) → p j ≡ b → p j ≡ false
       at true q = absurd (true≢false (sym (true-some j m q) ∙ e))
       at false q = q
 
-  pub false-some : ((j : ℕ) → j < n → p j ≡ false) → some p n ≡ false
-  false-some h = le-ltb (first p n) n (omega (arith, fails-from p n 0 (λ j l m. h j (omega arith))))
+  pub false-some : ((j : ℕ) → j < n → p j ≡ false) → anyIndex p n ≡ false
+  false-some h = le-ltb (firstIndex p n) n (omega (arith, fails-from p n 0 (λ j l m. h j (omega arith))))

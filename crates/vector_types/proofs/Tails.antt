@@ -9,7 +9,7 @@ use lib.ListN.{length, set, length-append}
 use borrow.Author.Tests.{eqb-true, eqb-false}
 use Rattle.promises.specs.Onto.{onto}
 use Rattle.promises.proofs.Onto.{onto-put}
-use Rattle.elements.proofs.Numbers.{length-bytesOf}
+use Rattle.little_endian.proofs.Numbers.{length-bytesOf}
 use Rattle.vector_types.specs.Layout.{ceil}
 use Rattle.vector_types.specs.Write.{zeroIf, filler, trailingBits, tailOf, blobOf}
 use Rattle.vector_types.specs.declared.VectorType.{VectorType}

@@ -8,16 +8,16 @@ use lib.Dec.{eqb}
 use lib.ListN.{length, getD, take, drop, take-append-drop, drop-of-length-le}
 use lib.Seq.{drop-cons, drop-drop, drop-length}
 use borrow.Author.Tests.{eqb-true}
-use Rattle.elements.specs.Bytes.{bytesOf, AreBytes}
-use Rattle.elements.proofs.Numbers.{bytesOf-numberAt}
-use Rattle.vector_types.specs.Answers.{seen}
-use Rattle.vector_types.specs.Layout.{Named, a, unsupported, unknown, is, byteOf, named, byByte, before, entries, rowOf}
-use Rattle.vector_types.specs.Read.{of, readOf}
+use Rattle.little_endian.specs.Bytes.{bytesOf, AreBytes}
+use Rattle.little_endian.proofs.Numbers.{bytesOf-numberAt}
+use Rattle.vector_types.specs.Answers.{acceptedAs}
+use Rattle.vector_types.specs.Layout.{Named, a, unsupported, unknown, hasByte, byteOf, namedKind, byByte, lengthBeforeType, entryCount, layoutRow}
+use Rattle.vector_types.specs.Read.{ofKind, readOf}
 use Rattle.vector_types.specs.Write.{tailOf, blobOf}
 use Rattle.vector_types.specs.Rewritten.{rewritten}
 use Rattle.vector_types.specs.declared.VectorType.{VectorType}
 use Rattle.vector_types.specs.declared.VectorType.the-variants.{Float32Dense, Float64Dense, Float32Sparse, Float1Bit, Float8}
-use Rattle.vector_types.proofs.Views.{told}
+use Rattle.vector_types.proofs.Views.{view-facts}
 use Rattle.vector_types.proofs.Ends.{evenly, oddly, named-odd}
 use Rattle.vector_types.proofs.Rewritten.{body-is, rewritten-as}
 
@@ -34,8 +34,8 @@ module _ (b : ℕ) (k : VectorType) where
   row this false rest e next names = next names
 
   unnamed : (c : Bool) → cond c unsupported unknown ≡ a k → b ≡ byteOf k
-  unnamed true names = absurd (true≢false (sym (ap (λ (n : Named). of n (λ _. true)) names)))
-  unnamed false names = absurd (true≢false (sym (ap (λ (n : Named). of n (λ _. true)) names)))
+  unnamed true names = absurd (true≢false (sym (ap (λ (n : Named). ofKind n (λ _. true)) names)))
+  unnamed false names = absurd (true≢false (sym (ap (λ (n : Named). ofKind n (λ _. true)) names)))
 
   named-byte : byByte b ≡ a k → b ≡ byteOf k
   unfolding byByte
@@ -45,36 +45,36 @@ module _ (b : ℕ) (k : VectorType) where
       (row Float1Bit (eqb b 3) _ refl (row Float8 (eqb b 4) _ refl (row Float32Sparse (eqb b 9) _ refl (unnamed (eqb b 5 || eqb b 6))))))
 
 -- what stands after the bytes before the type byte: that byte
-type-byte : (s : List ℕ) (k : VectorType) → named s ≡ a k → is 1 k ≡ false → drop (before s) s ≡ byteOf k ∷ []
+type-byte : (s : List ℕ) (k : VectorType) → namedKind s ≡ a k → hasByte 1 k ≡ false → drop (lengthBeforeType s) s ≡ byteOf k ∷ []
 type-byte s k names other =
     let last = named-odd s k names other in
-    let byte = named-byte (getD s (before s) 0) k (sym (oddly s (before s) (last .one-more) (last .halved) .0) ∙ names) in
-    rw (drop-cons s (before s) 0 (omega arith), byte, drop-of-length-le s {i = suc (before s)} (omega arith))
+    let byte = named-byte (getD s (lengthBeforeType s) 0) k (sym (oddly s (lengthBeforeType s) (last .one-more) (last .halved) .0) ∙ names) in
+    rw (drop-cons s (lengthBeforeType s) 0 (omega arith), byte, drop-of-length-le s {i = suc (lengthBeforeType s)} (omega arith))
 
 -- ---- where the same follows the body, all is the same
 module _ (s : List ℕ) (d m : ℕ) where
-  same-tail : (k : VectorType) → readOf s ≡ seen k d m → tailOf k d ≡ drop m s → rewritten s ≡ s
+  same-tail : (k : VectorType) → readOf s ≡ acceptedAs k d m → tailOf k d ≡ drop m s → rewritten s ≡ s
   unfolding blobOf
-  same-tail k e end = rewritten-as s (seen k d m) e ∙ rw (body-is s _ e, end) (take-append-drop m s)
+  same-tail k e end = rewritten-as s (acceptedAs k d m) e ∙ rw (body-is s _ e, end) (take-append-drop m s)
 
-  pub untyped-unchanged : readOf s ≡ seen Float32Dense d m → length s % 2 ≡ 0 → rewritten s ≡ s
-  unfolding tailOf rowOf
+  pub untyped-unchanged : readOf s ≡ acceptedAs Float32Dense d m → length s % 2 ≡ 0 → rewritten s ≡ s
+  unfolding tailOf layoutRow
   untyped-unchanged e h =
-      let all : m ≡ length s = told s _ e .long ∙ evenly s h .1 in
+      let all : m ≡ length s = view-facts s _ e .long ∙ evenly s h .1 in
       same-tail Float32Dense e (sym (rw all (drop-length s)))
 
-  pub float64-unchanged : readOf s ≡ seen Float64Dense d m → rewritten s ≡ s
-  unfolding tailOf rowOf
+  pub float64-unchanged : readOf s ≡ acceptedAs Float64Dense d m → rewritten s ≡ s
+  unfolding tailOf layoutRow
   float64-unchanged e =
-      let t = told s _ e in
+      let t = view-facts s _ e in
       same-tail Float64Dense e (sym (rw (t .long) (type-byte s Float64Dense (t .names) refl)))
 
-  pub sparse-unchanged : readOf s ≡ seen Float32Sparse d m → AreBytes s → rewritten s ≡ s
-  unfolding tailOf rowOf
+  pub sparse-unchanged : readOf s ≡ acceptedAs Float32Sparse d m → AreBytes s → rewritten s ≡ s
+  unfolding tailOf layoutRow
   sparse-unchanged e bytes =
-      let t = told s _ e in
-      let n = before s in
-      let fours = eqb-true n (4 + 8 * entries s) (and-eq-true-iff (eqb n (4 + 8 * entries s)) _ .0 (t .accepts) .0) in
+      let t = view-facts s _ e in
+      let n = lengthBeforeType s in
+      let fours = eqb-true n (4 + 8 * entryCount s) (and-eq-true-iff (eqb n (4 + 8 * entryCount s)) _ .0 (t .accepts) .0) in
       let last = named-odd s Float32Sparse (t .names) refl in
       let place : n - 4 ≡ m = omega (arith, t .long) in
       let past : m + 4 ≡ n = omega arith in

@@ -9,7 +9,7 @@ use lib.Dec.{ltb, eqb}
 use lib.ListN.{getD}
 use lib.Pow.{shr-lt, shr-shr}
 use borrow.Author.Tests.{lt-ltb, le-ltb, ne-eqb, eqb-true, eqb-false}
-use Rattle.vector_types.specs.Search.{firstFrom, some}
+use Rattle.vector_types.specs.Search.{firstFrom, anyIndex}
 use Rattle.vector_types.specs.Layout.{ceil}
 use Rattle.vector_types.specs.Read.{unusedSet}
 use Rattle.vector_types.proofs.Search.{Searched, search-start, search-hit, search-miss, search-end}
@@ -22,7 +22,7 @@ half-zero (suc x) e = ne-eqb (suc x / 2) 0 (λ z. omega arith) ∙ sym (ne-eqb (
 -- a search over the bits of a number of n bits, from bit j on
 module _ (p : ℕ → Bool) (x n : ℕ) (bits : (j : ℕ) → j < n → p j ≡ eqb (x / 2 ^ j % 2) 1) where
   abbrev Left : ℕ → Type 0
-  Left j = Searched p n j → some p n ≡ not (eqb (x / 2 ^ j) 0)
+  Left j = Searched p n j → anyIndex p n ≡ not (eqb (x / 2 ^ j) 0)
 
   bit-next : (j : ℕ) → x / 2 ^ (j + 1) ≡ x / 2 ^ j / 2
   bit-next j = sym (shr-shr x j 1)
@@ -43,7 +43,7 @@ module _ (p : ℕ → Bool) (x n : ℕ) (bits : (j : ℕ) → j < n → p j ≡ 
   from-bit (suc m) j e h s =
       one-bit j (omega arith) (from-bit m (j + 1) (omega arith) (rw bit-next (omega arith))) (p j) refl s
 
-  some-bit : x < 2 ^ n → some p n ≡ not (eqb x 0)
+  some-bit : x < 2 ^ n → anyIndex p n ≡ not (eqb x 0)
   some-bit h = rw div-one at (from-bit n 0 (omega arith) (rw div-one h) (search-start p n))
 
 -- the byte in which bit d stands, and the bits of it from d on
@@ -57,11 +57,11 @@ module _ (s : List ℕ) (d : ℕ) where
       let bit : (d + j) % 8 ≡ d % 8 + j = omega arith in
       rw (place, bit, shr-shr)
 
-  pub none-unused : d % 8 ≡ 0 → false ≡ some (unusedSet s d) (8 * ceil d 8 - d)
+  pub none-unused : d % 8 ≡ 0 → false ≡ anyIndex (unusedSet s d) (8 * ceil d 8 - d)
   unfolding firstFrom
   none-unused e = let z : 8 * ceil d 8 - d ≡ 0 = omega arith in rw z
 
-  pub some-unused : last < 256 → (d % 8 ≡ 0 → ⊥) → not (eqb (last / 2 ^ (d % 8)) 0) ≡ some (unusedSet s d) (8 * ceil d 8 - d)
+  pub some-unused : last < 256 → (d % 8 ≡ 0 → ⊥) → not (eqb (last / 2 ^ (d % 8)) 0) ≡ anyIndex (unusedSet s d) (8 * ceil d 8 - d)
   some-unused h u =
       let n : 8 * ceil d 8 - d ≡ 8 - d % 8 = omega arith in
       let all : 8 - d % 8 + d % 8 ≡ 8 = omega arith in

@@ -8,11 +8,11 @@ use lib.Dec.{ltb, eqb}
 use lib.ListN.{length, take, drop, length-append}
 use lib.Seq.{take-append-seam, take-at}
 use borrow.Author.Tests.{lt-ltb, le-ltb, ltb-false, eqb-true, eqb-false, not-false}
-use Rattle.elements.specs.Bytes.{bytesOf, u32At}
-use Rattle.elements.proofs.Numbers.{numberAt-left, numberAt-right, numberAt-bytesOf}
-use Rattle.vector_types.specs.Answers.{Given, none, given, firstOf, unless, seen, needing, written, unwritten}
-use Rattle.vector_types.specs.Search.{some}
-use Rattle.vector_types.specs.Layout.{longest, mostDims, ceil, counted, fits, byByte, strays}
+use Rattle.little_endian.specs.Bytes.{bytesOf, u32At}
+use Rattle.little_endian.proofs.Numbers.{numberAt-left, numberAt-right, numberAt-bytesOf}
+use Rattle.vector_types.specs.Answers.{Given, none, given, firstGiven, unless, acceptedAs, needing, written, writeRefused}
+use Rattle.vector_types.specs.Search.{anyIndex}
+use Rattle.vector_types.specs.Layout.{maxBlobLength, maxDims, ceil, hasTrailingCount, bodyFits, byByte, hasIndexOutside}
 use Rattle.vector_types.specs.Read.{readOf}
 use Rattle.vector_types.specs.Parts.{bodyOf, shownLength}
 use Rattle.vector_types.specs.Write.{filler, trailingBits, trailingBytes, tailOf, blobOf, writeRefusals, writeOf, WriteOutcome, outcome, writeOutcome}
@@ -30,28 +30,28 @@ use Rattle.vector_types.proofs.Shapes.{reads-float32, reads-float64, re
 
 -- ---- what the writer does not refuse, a short buffer apart
 pub record Writable (k : VectorType) (d : ℕ) (body : List ℕ) : Type 0 where
-  pub few : d ≤ mostDims
-  pub fit : fits k d (length body) ≡ true
-  pub short : length (blobOf k d body) ≤ longest
-  pub inside : strays k d body ≡ false
-  pub filled : (counted k && eqb d 0) ≡ false
+  pub few : d ≤ maxDims
+  pub fit : bodyFits k d (length body) ≡ true
+  pub short : length (blobOf k d body) ≤ maxBlobLength
+  pub inside : hasIndexOutside k d body ≡ false
+  pub filled : (hasTrailingCount k && eqb d 0) ≡ false
 
-pub writable : (k : VectorType) (d : ℕ) (body : List ℕ) → firstOf (writeRefusals k d body) ≡ none → Writable k d body
+pub writable : (k : VectorType) (d : ℕ) (body : List ℕ) → firstGiven (writeRefusals k d body) ≡ none → Writable k d body
 unfolding writeRefusals
 writable k d body e =
     let c = none-passed (writeRefusals k d body) e in
     record {
-      few = ltb-false mostDims d (c .0);
-      fit = not-false (fits k d (length body)) (c .1 .0);
-      short = ltb-false longest (length (blobOf k d body)) (c .1 .1 .0);
+      few = ltb-false maxDims d (c .0);
+      fit = not-false (bodyFits k d (length body)) (c .1 .0);
+      short = ltb-false maxBlobLength (length (blobOf k d body)) (c .1 .1 .0);
       inside = c .1 .1 .1 .0;
       filled = c .1 .1 .1 .1 .0;
     }
 
-pub unrefused : (k : VectorType) (d : ℕ) (body : List ℕ) → Writable k d body → firstOf (writeRefusals k d body) ≡ none
+pub unrefused : (k : VectorType) (d : ℕ) (body : List ℕ) → Writable k d body → firstGiven (writeRefusals k d body) ≡ none
 unfolding writeRefusals
 unrefused k d body w =
-    rw (le-ltb mostDims d (w .few), w .fit, le-ltb longest (length (blobOf k d body)) (w .short), w .inside, w .filled)
+    rw (le-ltb maxDims d (w .few), w .fit, le-ltb maxBlobLength (length (blobOf k d body)) (w .short), w .inside, w .filled)
 
 -- ---- each kind reads back
 -- the count: 8 to 15 after an odd body, 16 to 23 after an even one
@@ -59,33 +59,33 @@ pub count-range : (d : ℕ) → (8 + 8 * (1 - ceil d 8 % 2) ≤ trailingBits d) 
 count-range d = rw length-filler (omega arith)
 
 module _ (d : ℕ) (body : List ℕ) where
-  float32-back : Writable Float32Dense d body → readOf (blobOf Float32Dense d body) ≡ seen Float32Dense d (length body)
-  unfolding blobOf fits
+  float32-back : Writable Float32Dense d body → readOf (blobOf Float32Dense d body) ≡ acceptedAs Float32Dense d (length body)
+  unfolding blobOf bodyFits
   float32-back w =
       let e = eqb-true (length body) (4 * d) (w .fit) in
       let (names, size) = evenly body (omega arith) in
       rw append-nil (reads-float32 body (length body) d size (w .few) (rw append-nil at (w .short)) names e)
 
-  float64-back : Writable Float64Dense d body → readOf (blobOf Float64Dense d body) ≡ seen Float64Dense d (length body)
-  unfolding blobOf fits byByte
+  float64-back : Writable Float64Dense d body → readOf (blobOf Float64Dense d body) ≡ acceptedAs Float64Dense d (length body)
+  unfolding blobOf bodyFits byByte
   float64-back w =
       let e = eqb-true (length body) (8 * d) (w .fit) in
       let (names, size) = ended body (2 ∷ []) 0 refl (omega arith) in
       reads-float64 (body ++ (2 ∷ [])) (length body) d (size ∙ omega arith) (w .few) (w .short) names e
 
-  float8-back : Writable Float8 d body → readOf (blobOf Float8 d body) ≡ seen Float8 d (length body)
-  unfolding blobOf fits byByte
+  float8-back : Writable Float8 d body → readOf (blobOf Float8 d body) ≡ acceptedAs Float8 d (length body)
+  unfolding blobOf bodyFits byByte
   float8-back w =
       let t = trailingBytes d in
       let e = eqb-true (length body) (4 * ceil d 4 + 8) (w .fit) in
       let (names, size) = ended body (0 ∷ t ∷ 4 ∷ []) 2 refl (omega arith) in
       let long : length body + 2 - 2 ≡ length body = omega arith in
-      let some : 0 < d = omega (arith, eqb-false d 0 (w .filled)) in
+      let anyIndex : 0 < d = omega (arith, eqb-false d 0 (w .filled)) in
       let count = count-appended body (0 ∷ t ∷ 4 ∷ []) 1 in
-      rw long at (reads-float8 (body ++ (0 ∷ t ∷ 4 ∷ [])) (length body + 2) d size (w .few) (w .short) names some (omega arith) count)
+      rw long at (reads-float8 (body ++ (0 ∷ t ∷ 4 ∷ [])) (length body + 2) d size (w .few) (w .short) names anyIndex (omega arith) count)
 
-  one-bit-back : Writable Float1Bit d body → readOf (blobOf Float1Bit d body) ≡ seen Float1Bit d (length body)
-  unfolding blobOf fits byByte
+  one-bit-back : Writable Float1Bit d body → readOf (blobOf Float1Bit d body) ≡ acceptedAs Float1Bit d (length body)
+  unfolding blobOf bodyFits byByte
   one-bit-back w =
       let front = body ++ filler (ceil d 8) in
       let t = trailingBits d in
@@ -93,13 +93,13 @@ module _ (d : ℕ) (body : List ℕ) where
       let long = length-append body (filler (ceil d 8)) in
       let (names, size) = ended front (t ∷ 3 ∷ []) 1 refl (omega (arith, length-filler (ceil d 8))) in
       let all : t ≡ 8 * (length front + 1) - d = rw (long, e) in
-      let some : 0 < d = omega (arith, eqb-false d 0 (w .filled)) in
+      let anyIndex : 0 < d = omega (arith, eqb-false d 0 (w .filled)) in
       let count = count-appended front (t ∷ 3 ∷ []) 0 ∙ all in
       let short = rw (← append-assoc) at (w .short) in
-      rw (e, ← append-assoc) (reads-one-bit (front ++ (t ∷ 3 ∷ [])) (length front + 1) d size (w .few) short names some (omega arith) count)
+      rw (e, ← append-assoc) (reads-one-bit (front ++ (t ∷ 3 ∷ [])) (length front + 1) d size (w .few) short names anyIndex (omega arith) count)
 
-  sparse-back : Writable Float32Sparse d body → readOf (blobOf Float32Sparse d body) ≡ seen Float32Sparse d (length body)
-  unfolding blobOf fits byByte bytesOf
+  sparse-back : Writable Float32Sparse d body → readOf (blobOf Float32Sparse d body) ≡ acceptedAs Float32Sparse d (length body)
+  unfolding blobOf bodyFits byByte bytesOf
   sparse-back w =
       let k = length body / 8 in
       let tail = bytesOf 4 d ++ (9 ∷ []) in
@@ -111,7 +111,7 @@ module _ (d : ℕ) (body : List ℕ) where
       let inside = outside-appended body tail k d e ∙ w .inside in
       rw (← e) at (reads-sparse (body ++ tail) (length body + 4) d size (w .few) (w .short) k names (omega arith) stored inside)
 
-read-back : (k : VectorType) (d : ℕ) (body : List ℕ) → Writable k d body → readOf (blobOf k d body) ≡ seen k d (length body)
+read-back : (k : VectorType) (d : ℕ) (body : List ℕ) → Writable k d body → readOf (blobOf k d body) ≡ acceptedAs k d (length body)
 read-back Float32Dense d body w = float32-back d body w
 read-back Float64Dense d body w = float64-back d body w
 read-back Float32Sparse d body w = sparse-back d body w
@@ -119,12 +119,12 @@ read-back Float1Bit d body w = one-bit-back d body w
 read-back Float8 d body w = float8-back d body w
 
 -- the body that is shown by a view of length m
-pub body-seen : (s : List ℕ) (k : VectorType) (d m : ℕ) → readOf s ≡ seen k d m → bodyOf s ≡ take m s
+pub body-seen : (s : List ℕ) (k : VectorType) (d m : ℕ) → readOf s ≡ acceptedAs k d m → bodyOf s ≡ take m s
 unfolding bodyOf
 body-seen s k d m e = ap (λ (r : ReadAnswer). take (shownLength r) s) e
 
-pub reads-back : (k : VectorType) (d : ℕ) (body : List ℕ) → firstOf (writeRefusals k d body) ≡ none
-    → (readOf (blobOf k d body) ≡ seen k d (length body)) × (bodyOf (blobOf k d body) ≡ body)
+pub reads-back : (k : VectorType) (d : ℕ) (body : List ℕ) → firstGiven (writeRefusals k d body) ≡ none
+    → (readOf (blobOf k d body) ≡ acceptedAs k d (length body)) × (bodyOf (blobOf k d body) ≡ body)
 unfolding blobOf
 reads-back k d body e =
     let view = read-back k d body (writable k d body e) in
@@ -136,12 +136,12 @@ module _ (k : VectorType) (d : ℕ) (body : List ℕ) (room : ℕ) where
   blob = blobOf k d body
 
   by-room : writeOf k d body room
-      ≡ unless (unless (firstOf (writeRefusals k d body)) given (cond (ltb room (length blob)) (given (needing 15 (length blob))) none)) unwritten (written (length blob))
+      ≡ unless (unless (firstGiven (writeRefusals k d body)) given (cond (ltb room (length blob)) (given (needing 15 (length blob))) none)) writeRefused (written (length blob))
   unfolding writeOf
   by-room = rw first-append
 
-  module _ (clear : firstOf (writeRefusals k d body) ≡ none) (n : ℕ) (long : n ≡ length blob) where
-    pub clear-short : room < n → unwritten (needing 15 n) ≡ writeOf k d body room
+  module _ (clear : firstGiven (writeRefusals k d body) ≡ none) (n : ℕ) (long : n ≡ length blob) where
+    pub clear-short : room < n → writeRefused (needing 15 n) ≡ writeOf k d body room
     clear-short h = rw (by-room, clear, ← long, lt-ltb room n h)
 
     pub clear-whole : n ≤ room → written n ≡ writeOf k d body room
@@ -152,21 +152,21 @@ module _ (k : VectorType) (d : ℕ) (body : List ℕ) (room : ℕ) where
   reach (Written n) = suc n
   reach (WriteRefused r) = 0
 
-  taken : (g : Given) (fails : Bool) (r : Refusal) (need n : ℕ) → unless (unless g given (cond fails (given r) none)) unwritten (written need) ≡ written n
+  taken : (g : Given) (fails : Bool) (r : Refusal) (need n : ℕ) → unless (unless g given (cond fails (given r) none)) writeRefused (written need) ≡ written n
       → (g ≡ none) × (fails ≡ false) × (need ≡ n)
   taken none true r need n e = let z = ap reach e in absurd (omega arith)
   taken none false r need n e = let z = ap reach e in (refl, refl, omega arith)
   taken (given g) fails r need n e = let z = ap reach e in absurd (omega arith)
 
   pub written-clear : (n : ℕ) → writeOf k d body room ≡ written n
-      → (firstOf (writeRefusals k d body) ≡ none) × (length blob ≤ room) × (length blob ≡ n)
+      → (firstGiven (writeRefusals k d body) ≡ none) × (length blob ≤ room) × (length blob ≡ n)
   written-clear n e =
-      let (clear, fits, long) = taken (firstOf (writeRefusals k d body)) (ltb room (length blob)) (needing 15 (length blob)) (length blob) n (rw by-room at e) in
-      (clear, ltb-false room (length blob) fits, long)
+      let (clear, bodyFits, long) = taken (firstGiven (writeRefusals k d body)) (ltb room (length blob)) (needing 15 (length blob)) (length blob) n (rw by-room at e) in
+      (clear, ltb-false room (length blob) bodyFits, long)
 
 -- ---- as the writer's caller has it: the first n bytes of the buffer, where n is the answer
 pub written-blob : (k : VectorType) (d : ℕ) (body out : List ℕ) (n : ℕ) → writeOf k d body (length out) ≡ written n
-    → (firstOf (writeRefusals k d body) ≡ none) × (length (blobOf k d body) ≡ n) × (take n (writeOutcome k d body out .out) ≡ blobOf k d body)
+    → (firstGiven (writeRefusals k d body) ≡ none) × (length (blobOf k d body) ≡ n) × (take n (writeOutcome k d body out .out) ≡ blobOf k d body)
 unfolding writeOutcome
 written-blob k d body out n e =
     let blob = blobOf k d body in
@@ -174,7 +174,7 @@ written-blob k d body out n e =
     (clear, long, rw e (take-at blob (drop (length blob) out) n long))
 
 pub written-reads-back : (k : VectorType) (d : ℕ) (body out : List ℕ) (n : ℕ) → writeOf k d body (length out) ≡ written n
-    → (readOf (take n (writeOutcome k d body out .out)) ≡ seen k d (length body)) × (bodyOf (take n (writeOutcome k d body out .out)) ≡ body)
+    → (readOf (take n (writeOutcome k d body out .out)) ≡ acceptedAs k d (length body)) × (bodyOf (take n (writeOutcome k d body out .out)) ≡ body)
 written-reads-back k d body out n e = let (clear, _, left) = written-blob k d body out n e in rw left (reads-back k d body clear)
 
 -- an outcome, part by part

@@ -8,7 +8,7 @@ use Rattle.vector_types.specs.declared.Dims.{Dims}
 use Rattle.vector_types.specs.declared.Detail.the-variants.{Nothing, Needs}
 use Rattle.vector_types.specs.declared.Refusal.{Refusal}
 use Rattle.vector_types.specs.declared.ReadAnswer.{ReadAnswer}
-use Rattle.vector_types.specs.declared.ReadAnswer.the-variants.{View as Seen, Refused as ReadRefused}
+use Rattle.vector_types.specs.declared.ReadAnswer.the-variants.{Accepted, Refused as ReadRefused}
 use Rattle.vector_types.specs.declared.WriteAnswer.{WriteAnswer}
 use Rattle.vector_types.specs.declared.WriteAnswer.the-variants.{Written, Refused as WriteRefused}
 
@@ -23,26 +23,26 @@ abbrev pub needing : ℕ → ℕ → Refusal
 needing n need = record { number = n; detail = Needs need }
 
 -- a reader's answers: a view of kind, dims and body length, and a refusal
-abbrev pub seen : VectorType → ℕ → ℕ → ReadAnswer
-seen k d m = Seen (record { kind = k; dims = dims d; length = m })
+abbrev pub acceptedAs : VectorType → ℕ → ℕ → ReadAnswer
+acceptedAs k d m = Accepted (record { kind = k; dims = dims d; length = m })
 
 abbrev pub refused : Refusal → ReadAnswer
 refused r = ReadRefused r
 
-abbrev pub isSeen : ReadAnswer → Bool
-isSeen (Seen v) = true
-isSeen (ReadRefused r) = false
+abbrev pub isAccepted : ReadAnswer → Bool
+isAccepted (Accepted v) = true
+isAccepted (ReadRefused r) = false
 
 -- a writer's answers: the length of the blob, and a refusal
 abbrev pub written : ℕ → WriteAnswer
 written n = Written n
 
-abbrev pub unwritten : Refusal → WriteAnswer
-unwritten r = WriteRefused r
+abbrev pub writeRefused : Refusal → WriteAnswer
+writeRefused r = WriteRefused r
 
 -- document 01's number for each answer, 0 where nothing is refused
 abbrev pub readNumber : ReadAnswer → ℕ
-readNumber (Seen v) = 0
+readNumber (Accepted v) = 0
 readNumber (ReadRefused r) = r .number
 
 abbrev pub writeNumber : WriteAnswer → ℕ
@@ -66,9 +66,9 @@ pub data Given : Type 0 where
   none : Given
   given : Refusal → Given
 
-abbrev pub firstOf : List Test → Given
-firstOf [] = none
-firstOf (t ∷ ts) = cond (t .holds) (given (t .gives)) (firstOf ts)
+abbrev pub firstGiven : List Test → Given
+firstGiven [] = none
+firstGiven (t ∷ ts) = cond (t .holds) (given (t .gives)) (firstGiven ts)
 
 -- the answer x, unless a refusal is given
 abbrev pub unless : {A : Type 0} → Given → (Refusal → A) → A → A

@@ -4,17 +4,17 @@ use mathlib.Core.Bool.{Bool, false, cond, not, _&&_, _||_}
 use mathlib.Core.List.{List}
 use lib.Dec.{leb, eqb}
 use lib.ListN.{length, getD}
-use Rattle.elements.specs.Bytes.{u32At}
-use Rattle.vector_types.specs.Search.{some}
+use Rattle.little_endian.specs.Bytes.{u32At}
+use Rattle.vector_types.specs.Search.{anyIndex}
 use Rattle.vector_types.specs.declared.VectorType.{VectorType}
 use Rattle.vector_types.specs.declared.VectorType.the-variants.{Float32Dense, Float64Dense, Float32Sparse, Float1Bit, Float8}
 
 -- the limits: the longest blob, and the greatest dims
-abbrev pub longest : ℕ
-longest = 524293
+abbrev pub maxBlobLength : ℕ
+maxBlobLength = 524293
 
-abbrev pub mostDims : ℕ
-mostDims = 65536
+abbrev pub maxDims : ℕ
+maxDims = 65536
 
 -- a / b, rounded up
 abbrev pub ceil : ℕ → ℕ → ℕ
@@ -28,12 +28,12 @@ byteOf Float1Bit = 3
 byteOf Float8 = 4
 byteOf Float32Sparse = 9
 
-abbrev pub is : ℕ → VectorType → Bool
-is b k = eqb (byteOf k) b
+abbrev pub hasByte : ℕ → VectorType → Bool
+hasByte b k = eqb (byteOf k) b
 
 -- the kinds whose blobs carry a trailing count
-abbrev pub counted : VectorType → Bool
-counted k = is 3 k || is 4 k
+abbrev pub hasTrailingCount : VectorType → Bool
+hasTrailingCount k = hasByte 3 k || hasByte 4 k
 
 -- what a blob names: a kind, a kind that is not supported, or nothing known
 pub data Named : Type 0 where
@@ -51,95 +51,95 @@ byByte b =
     (cond (eqb b 5 || eqb b 6) unsupported unknown)))))
 
 -- a blob of even length names no kind and is Float32Dense; of odd length, the last byte names it
-abbrev pub even : List ℕ → Bool
-even s = eqb (length s % 2) 0
+abbrev pub hasEvenLength : List ℕ → Bool
+hasEvenLength s = eqb (length s % 2) 0
 
-unfoldable pub named : List ℕ → Named
+unfoldable pub namedKind : List ℕ → Named
 unfolding byByte
-named s = cond (even s) (a Float32Dense) (byByte (getD s (length s - 1) 0))
+namedKind s = cond (hasEvenLength s) (a Float32Dense) (byByte (getD s (length s - 1) 0))
 
 -- n, how many bytes stand before the type byte: all, where there is none; and t, the last of these
-unfoldable pub before : List ℕ → ℕ
-before s = cond (even s) (length s) (length s - 1)
+unfoldable pub lengthBeforeType : List ℕ → ℕ
+lengthBeforeType s = cond (hasEvenLength s) (length s) (length s - 1)
 
-abbrev pub trailing : List ℕ → ℕ
-unfolding before
-trailing s = getD s (before s - 1) 0
+abbrev pub trailingCount : List ℕ → ℕ
+unfolding lengthBeforeType
+trailingCount s = getD s (lengthBeforeType s - 1) 0
 
 -- of a sparse blob: how many entries it has, its dims, and the index of entry j
-abbrev pub entries : List ℕ → ℕ
-unfolding before
-entries s = before s / 8
+abbrev pub entryCount : List ℕ → ℕ
+unfolding lengthBeforeType
+entryCount s = lengthBeforeType s / 8
 
 abbrev pub sparseDims : List ℕ → ℕ
-unfolding before
-sparseDims s = u32At s (before s - 4)
+unfolding lengthBeforeType
+sparseDims s = u32At s (lengthBeforeType s - 4)
 
 abbrev pub indexAt : List ℕ → ℕ → ℕ → ℕ
 indexAt s k j = u32At s (4 * k + 4 * j)
 
 -- whether index j of the k of a sparse body is not below d
-abbrev pub outside : List ℕ → ℕ → ℕ → ℕ → Bool
-outside s k d j = leb d (indexAt s k j)
+abbrev pub isOutside : List ℕ → ℕ → ℕ → ℕ → Bool
+isOutside s k d j = leb d (indexAt s k j)
 
 -- whether a sparse body of a vector of d elements has an index that is not below d; another kind has none
-abbrev pub strays : VectorType → ℕ → List ℕ → Bool
-strays k d body = is 9 k && some (outside body (length body / 8) d) (length body / 8)
+abbrev pub hasIndexOutside : VectorType → ℕ → List ℕ → Bool
+hasIndexOutside k d body = hasByte 9 k && anyIndex (isOutside body (length body / 8) d) (length body / 8)
 
 -- a row of the table, the limits apart: when a blob is accepted, its dims, and how long its body is, which are its first bytes
-pub record Row : Type 0 where
+pub record LayoutRow : Type 0 where
   pub accepted : Bool
   pub dims : ℕ
   pub body : ℕ
 
-abbrev pub row : Bool → ℕ → ℕ → Row
-row when d m = record { accepted = when; dims = d; body = m }
+abbrev pub layout : Bool → ℕ → ℕ → LayoutRow
+layout when d m = record { accepted = when; dims = d; body = m }
 
-unfoldable pub rowOf : VectorType → List ℕ → Row
-unfolding before
-rowOf Float32Dense s = let n = before s in row (eqb (n % 4) 0) (n / 4) n
-rowOf Float64Dense s = let n = before s in row (eqb (n % 8) 0) (n / 8) n
-rowOf Float1Bit s =
-    let n = before s in
-    let t = trailing s in
-    row (leb 2 n && leb 8 t && leb t (8 * n - 1)) (8 * n - t) (ceil (8 * n - t) 8)
-rowOf Float8 s =
-    let n = before s in
-    let t = trailing s in
-    row (leb 14 n && eqb ((n - 10) % 4) 0 && leb t 3) (n - 10 - t) (n - 2)
-rowOf Float32Sparse s =
-    let n = before s in
-    let k = entries s in
+unfoldable pub layoutRow : VectorType → List ℕ → LayoutRow
+unfolding lengthBeforeType
+layoutRow Float32Dense s = let n = lengthBeforeType s in layout (eqb (n % 4) 0) (n / 4) n
+layoutRow Float64Dense s = let n = lengthBeforeType s in layout (eqb (n % 8) 0) (n / 8) n
+layoutRow Float1Bit s =
+    let n = lengthBeforeType s in
+    let t = trailingCount s in
+    layout (leb 2 n && leb 8 t && leb t (8 * n - 1)) (8 * n - t) (ceil (8 * n - t) 8)
+layoutRow Float8 s =
+    let n = lengthBeforeType s in
+    let t = trailingCount s in
+    layout (leb 14 n && eqb ((n - 10) % 4) 0 && leb t 3) (n - 10 - t) (n - 2)
+layoutRow Float32Sparse s =
+    let n = lengthBeforeType s in
+    let k = entryCount s in
     let d = sparseDims s in
-    row (eqb n (4 + 8 * k) && not (some (outside s k d) k)) d (8 * k)
+    layout (eqb n (4 + 8 * k) && not (anyIndex (isOutside s k d) k)) d (8 * k)
 
-abbrev pub accepted : VectorType → List ℕ → Bool
-accepted k s = rowOf k s .accepted
+abbrev pub rowAccepts : VectorType → List ℕ → Bool
+rowAccepts k s = layoutRow k s .accepted
 
 abbrev pub dimsOf : VectorType → List ℕ → ℕ
-dimsOf k s = rowOf k s .dims
+dimsOf k s = layoutRow k s .dims
 
 abbrev pub lengthOf : VectorType → List ℕ → ℕ
-lengthOf k s = rowOf k s .body
+lengthOf k s = layoutRow k s .body
 
 -- whether a blob is accepted, by its row and by the limits
-unfoldable pub acceptedIn : Named → List ℕ → Bool
-acceptedIn (a k) s = accepted k s && leb (length s) longest && leb (dimsOf k s) mostDims
-acceptedIn unsupported s = false
-acceptedIn unknown s = false
+unfoldable pub blobAccepted : Named → List ℕ → Bool
+blobAccepted (a k) s = rowAccepts k s && leb (length s) maxBlobLength && leb (dimsOf k s) maxDims
+blobAccepted unsupported s = false
+blobAccepted unknown s = false
 
 -- whether a body of m bytes is what a vector of d elements has; a sparse one has any number of entries
-unfoldable pub fits : VectorType → ℕ → ℕ → Bool
-fits Float32Dense d m = eqb m (4 * d)
-fits Float64Dense d m = eqb m (8 * d)
-fits Float32Sparse d m = eqb (m % 8) 0
-fits Float1Bit d m = eqb m (ceil d 8)
-fits Float8 d m = eqb m (4 * ceil d 4 + 8)
+unfoldable pub bodyFits : VectorType → ℕ → ℕ → Bool
+bodyFits Float32Dense d m = eqb m (4 * d)
+bodyFits Float64Dense d m = eqb m (8 * d)
+bodyFits Float32Sparse d m = eqb (m % 8) 0
+bodyFits Float1Bit d m = eqb m (ceil d 8)
+bodyFits Float8 d m = eqb m (4 * ceil d 4 + 8)
 
 -- whether the length of a blob's body does not fit its kind and dims; after a sparse body the dims need four bytes
-abbrev pub unfit : VectorType → List ℕ → Bool
-unfolding fits
-unfit k s = not (fits k (dimsOf k s) (lengthOf k s)) || (is 9 k && not (eqb (before s) (4 + lengthOf k s)))
+abbrev pub bodyUnfit : VectorType → List ℕ → Bool
+unfolding bodyFits
+bodyUnfit k s = not (bodyFits k (dimsOf k s) (lengthOf k s)) || (hasByte 9 k && not (eqb (lengthBeforeType s) (4 + lengthOf k s)))
 
 -- bit i of a 1-bit body: byte i / 8, place i mod 8
 abbrev pub bitAt : List ℕ → ℕ → ℕ

@@ -6,11 +6,11 @@ use Rattle.vector_types.specs.Read.{readOf}
 use Rattle.vector_types.specs.declared.VectorType.{VectorType}
 use Rattle.vector_types.specs.declared.VectorType.the-variants.{Float32Dense, Float64Dense, Float32Sparse, Float1Bit, Float8}
 use Rattle.vector_types.specs.declared.ReadAnswer.{ReadAnswer}
-use Rattle.vector_types.specs.declared.ReadAnswer.the-variants.{View, Refused}
+use Rattle.vector_types.specs.declared.ReadAnswer.the-variants.{Accepted, Refused}
 
 -- how long the body is that an answer shows: nothing on a refusal
 abbrev pub shownLength : ReadAnswer → ℕ
-shownLength (View v) = v .length
+shownLength (Accepted v) = v .length
 shownLength (Refused r) = 0
 
 -- of a sparse body half are values and half are indices; another kind has neither
@@ -22,7 +22,7 @@ halfOf Float1Bit m = 0
 halfOf Float8 m = 0
 
 abbrev pub shownHalf : ReadAnswer → ℕ
-shownHalf (View v) = halfOf (v .kind) (v .length)
+shownHalf (Accepted v) = halfOf (v .kind) (v .length)
 shownHalf (Refused r) = 0
 
 unfoldable pub bodyOf : List ℕ → List ℕ

@@ -5,10 +5,10 @@ use Rattle.vector_types.specs.Read.{readOf}
 use Rattle.vector_types.specs.Parts.{bodyOf}
 use Rattle.vector_types.specs.Write.{blobOf}
 use Rattle.vector_types.specs.declared.ReadAnswer.{ReadAnswer}
-use Rattle.vector_types.specs.declared.ReadAnswer.the-variants.{View, Refused}
+use Rattle.vector_types.specs.declared.ReadAnswer.the-variants.{Accepted, Refused}
 
 abbrev pub rewrittenAs : ReadAnswer → List ℕ → List ℕ
-rewrittenAs (View v) s = blobOf (v .kind) (v .dims .0) (bodyOf s)
+rewrittenAs (Accepted v) s = blobOf (v .kind) (v .dims .0) (bodyOf s)
 rewrittenAs (Refused r) s = s
 
 unfoldable pub rewritten : List ℕ → List ℕ

@@ -9,8 +9,8 @@ firstFrom p i zero = i
 firstFrom p i (suc n) = let r = firstFrom p (suc i) n in cond (p i) i r
 
 -- the first j below n with p j, or n; and whether there is one
-abbrev pub first : (ℕ → Bool) → ℕ → ℕ
-first p n = firstFrom p 0 n
+abbrev pub firstIndex : (ℕ → Bool) → ℕ → ℕ
+firstIndex p n = firstFrom p 0 n
 
-abbrev pub some : (ℕ → Bool) → ℕ → Bool
-some p n = ltb (first p n) n
+abbrev pub anyIndex : (ℕ → Bool) → ℕ → Bool
+anyIndex p n = ltb (firstIndex p n) n

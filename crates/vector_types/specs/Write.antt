@@ -5,9 +5,9 @@ use mathlib.Core.List.{List, [], _∷_, _++_}
 use lib.Dec.{ltb, eqb}
 use lib.ListN.{length}
 use Rattle.promises.specs.Onto.{onto}
-use Rattle.elements.specs.Bytes.{bytesOf}
-use Rattle.vector_types.specs.Answers.{Test, test, testRoom, firstOf, unless, written, unwritten}
-use Rattle.vector_types.specs.Layout.{longest, mostDims, ceil, counted, fits, strays}
+use Rattle.little_endian.specs.Bytes.{bytesOf}
+use Rattle.vector_types.specs.Answers.{Test, test, testRoom, firstGiven, unless, written, writeRefused}
+use Rattle.vector_types.specs.Layout.{maxBlobLength, maxDims, ceil, hasTrailingCount, bodyFits, hasIndexOutside}
 use Rattle.vector_types.specs.declared.VectorType.{VectorType}
 use Rattle.vector_types.specs.declared.VectorType.the-variants.{Float32Dense, Float64Dense, Float32Sparse, Float1Bit, Float8}
 use Rattle.vector_types.specs.declared.WriteAnswer.{WriteAnswer}
@@ -43,13 +43,13 @@ blobOf k d body = body ++ tailOf k d
 
 -- the refusals of the writer, but for a buffer that is too short
 unfoldable pub writeRefusals : VectorType → ℕ → List ℕ → List Test
-unfolding fits blobOf
+unfolding bodyFits blobOf
 writeRefusals k d body =
-    test 9 (ltb mostDims d)
-    ∷ test 7 (not (fits k d (length body)))
-    ∷ test 1 (ltb longest (length (blobOf k d body)))
-    ∷ test 8 (strays k d body)
-    ∷ test 16 (counted k && eqb d 0)
+    test 9 (ltb maxDims d)
+    ∷ test 7 (not (bodyFits k d (length body)))
+    ∷ test 1 (ltb maxBlobLength (length (blobOf k d body)))
+    ∷ test 8 (hasIndexOutside k d body)
+    ∷ test 16 (hasTrailingCount k && eqb d 0)
     ∷ []
 
 -- the answer where the buffer has `room` bytes: 15, the last refusal, carries the blob's length
@@ -57,7 +57,7 @@ unfoldable pub writeOf : VectorType → ℕ → List ℕ → ℕ → WriteAnswer
 unfolding writeRefusals blobOf
 writeOf k d body room =
     let need = length (blobOf k d body) in
-    unless (firstOf (writeRefusals k d body ++ (testRoom 15 room need ∷ []))) unwritten (written need)
+    unless (firstGiven (writeRefusals k d body ++ (testRoom 15 room need ∷ []))) writeRefused (written need)
 
 -- the buffer afterwards: the blob over its first bytes if it is written, else as it was
 abbrev pub leftBy : WriteAnswer → List ℕ → List ℕ → List ℕ

@@ -4,10 +4,10 @@ use mathlib.Core.List.{List, [], _∷_, _++_, map}
 use Prim.Native.Nat.{ℕ}
 use lib.ListN.{length, replicate}
 use Rattle.promises.specs.Onto.{onto}
-use Rattle.elements.specs.Bytes.{numberAt, bytesOf}
-use Rattle.vector_types.specs.Answers.{refusal, needing, written, unwritten}
+use Rattle.little_endian.specs.Bytes.{numberAt, bytesOf}
+use Rattle.vector_types.specs.Answers.{refusal, needing, written, writeRefused}
 use Rattle.vector_types.specs.Search.{firstFrom}
-use Rattle.vector_types.specs.Layout.{named, byByte, before, fits, rowOf}
+use Rattle.vector_types.specs.Layout.{namedKind, byByte, lengthBeforeType, bodyFits, layoutRow}
 use Rattle.vector_types.specs.Read.{readOf, refusals, shown}
 use Rattle.vector_types.specs.Parts.{bodyOf}
 use Rattle.vector_types.specs.Write.{tailOf, blobOf, writeRefusals, writeOf, WriteOutcome, outcome, writeOutcome}
@@ -31,10 +31,10 @@ abbrev pub refuses : VectorType → ℕ → List ℕ → WriteAnswer → Example
 refuses k d body r = record { kind = k; dims = d; body = body; answer = r; blob = [] }
 
 abbrev pub refuse : ℕ → WriteAnswer
-refuse n = unwritten (refusal n)
+refuse n = writeRefused (refusal n)
 
 abbrev pub short : ℕ → WriteAnswer
-short need = unwritten (needing 15 need)
+short need = writeRefused (needing 15 need)
 
 -- bodies: 1.0 in both widths, 1.0 at one index and at two, and a Float8 body whose padding is not zero
 abbrev pub one32 : List ℕ
@@ -81,7 +81,7 @@ room = replicate 20 0xee
 
 pub writing-holds :
     map (λ (e : Example). writeOutcome (e .kind) (e .dims) (e .body) room) writing ≡ map (λ (e : Example). outcome (e .answer) (onto (e .blob) room)) writing
-unfolding writeOf writeOutcome writeRefusals fits tailOf blobOf bytesOf numberAt firstFrom
+unfolding writeOf writeOutcome writeRefusals bodyFits tailOf blobOf bytesOf numberAt firstFrom
 writing-holds = refl
 
 -- a blob, and what it is after it was read and written again
@@ -115,5 +115,5 @@ rewriting =
     ∷ []
 
 pub rewriting-holds : map (λ (c : Change). rewritten (c .old)) rewriting ≡ map (λ (c : Change). c .new) rewriting
-unfolding rewritten readOf bodyOf named byByte before fits refusals shown firstFrom numberAt tailOf blobOf bytesOf rowOf
+unfolding rewritten readOf bodyOf namedKind byByte lengthBeforeType bodyFits refusals shown firstFrom numberAt tailOf blobOf bytesOf layoutRow
 rewriting-holds = refl

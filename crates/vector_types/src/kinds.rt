@@ -1,6 +1,6 @@
 // The bytes that name the kinds.
 ghost use mathlib.Core.Path.{_≡_};
-ghost use Rattle.vector_types.specs.Layout.{byteOf, is};
+ghost use Rattle.vector_types.specs.Layout.{byteOf, hasByte};
 use crate::VectorType;
 
 // The byte that names a kind in a blob.
@@ -17,7 +17,7 @@ pub fn type_byte(kind: VectorType) -> u8
 }
 
 pub fn is_same_kind(kind: VectorType, other: VectorType) -> bool
-    ensures { λ r. ⌜ r ≡ is (byteOf other) kind ⌝ }
+    ensures { λ r. ⌜ r ≡ hasByte (byteOf other) kind ⌝ }
 {
     let byte = type_byte(kind);
     byte == type_byte(other)

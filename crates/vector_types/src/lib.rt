@@ -66,7 +66,7 @@ impl Refusal {
 }
 
 pub enum ReadAnswer {
-    View(View),
+    Accepted(View),
     Refused(Refusal),
 }
 
@@ -77,6 +77,6 @@ pub enum WriteAnswer {
 }
 
 // The longest blob, and the most elements of a vector.
-pub const LONGEST: usize = 524293;
+pub const MAX_BLOB_LENGTH: usize = 524293;
 
-pub const MOST_DIMS: usize = 65536;
+pub const MAX_DIMS: usize = 65536;

@@ -14,7 +14,7 @@ pub fn body(blob: &[u8]) -> &[u8]
     ensures { λ r. ⌜ r .ptr ≡ blob .entry .ptr ⌝ }
 {
     match read(blob) {
-        ReadAnswer::View(view) => {
+        ReadAnswer::Accepted(view) => {
             let length = view.length;
             &blob[..length]
         }
@@ -40,7 +40,7 @@ fn half(blob: &[u8]) -> usize
     ensures { λ r. ⌜ 2 * r ≤ length (now (blob .entry)) ⌝ }
 {
     match read(blob) {
-        ReadAnswer::View(view) => {
+        ReadAnswer::Accepted(view) => {
             let kind = view.kind;
             half_of(kind, view.length)
         }

@@ -4,14 +4,14 @@ ghost use Prim.Native.Nat.{_+_, _*_, _/_, _≤_, _<_};
 ghost use mathlib.Core.Bool.{cond, not};
 ghost use lib.Dec.{ltb, eqb};
 ghost use lib.ListN.{length};
-ghost use Rattle.vector_types.specs.Answers.{seen, refused, refusal};
-ghost use Rattle.vector_types.specs.Search.{first};
-ghost use Rattle.vector_types.specs.Layout.{longest, mostDims, a, named, outside};
+ghost use Rattle.vector_types.specs.Answers.{acceptedAs, refused, refusal};
+ghost use Rattle.vector_types.specs.Search.{firstIndex};
+ghost use Rattle.vector_types.specs.Layout.{maxBlobLength, maxDims, a, namedKind, isOutside};
 ghost use Rattle.vector_types.specs.Read.{readOf};
 ghost use Rattle.vector_types.specs.declared.VectorType.the-variants.{Float32Sparse, Float1Bit, Float8};
 use crate::Dims;
-use crate::LONGEST;
-use crate::MOST_DIMS;
+use crate::MAX_BLOB_LENGTH;
+use crate::MAX_DIMS;
 use crate::ReadAnswer;
 use crate::Refusal;
 use crate::TrailingBits;
@@ -28,19 +28,19 @@ pub(crate) fn refuse(number: u8) -> ReadAnswer
 
 // Shows a view, unless it has too many dims.
 fn show(kind: VectorType, dims: Dims, length: usize) -> ReadAnswer
-    ensures { λ r. ⌜ r ≡ cond (ltb mostDims (dims .0)) (refused (refusal 9)) (seen kind (dims .0) length) ⌝ }
+    ensures { λ r. ⌜ r ≡ cond (ltb maxDims (dims .0)) (refused (refusal 9)) (acceptedAs kind (dims .0) length) ⌝ }
 {
-    if MOST_DIMS < dims.0 {
+    if MAX_DIMS < dims.0 {
         return refuse(9);
     }
-    ReadAnswer::View(View { kind, dims, length })
+    ReadAnswer::Accepted(View { kind, dims, length })
 }
 
 // A dense blob of n bytes, of which each element has `width`.
 fn dense(kind: VectorType, width: usize, n: usize) -> ReadAnswer
     requires { ⌜ 0 < width ⌝ }
     ensures { λ r. ⌜ r ≡ cond (not (eqb n (width * (n / width)))) (refused (refusal 7))
-        (cond (ltb mostDims (n / width)) (refused (refusal 9)) (seen kind (n / width) n)) ⌝ }
+        (cond (ltb maxDims (n / width)) (refused (refusal 9)) (acceptedAs kind (n / width) n)) ⌝ }
 {
     if n % width != 0 {
         return refuse(7);
@@ -50,8 +50,8 @@ fn dense(kind: VectorType, width: usize, n: usize) -> ReadAnswer
 
 // A 1-bit blob.
 fn one_bit(blob: &[u8]) -> ReadAnswer
-    requires { ⌜ length (now blob) ≤ longest ⌝ }
-    requires { ⌜ named (now blob) ≡ a Float1Bit ⌝ }
+    requires { ⌜ length (now blob) ≤ maxBlobLength ⌝ }
+    requires { ⌜ namedKind (now blob) ≡ a Float1Bit ⌝ }
     ensures { λ r. ⌜ r ≡ readOf (now (blob .entry)) ⌝ }
 {
     let n = blob.len() - 1;
@@ -75,7 +75,7 @@ fn one_bit(blob: &[u8]) -> ReadAnswer
 
 // The next multiple of 4.
 pub(crate) fn align4(n: usize) -> usize
-    requires { ⌜ n ≤ longest ⌝ }
+    requires { ⌜ n ≤ maxBlobLength ⌝ }
     ensures { λ r. ⌜ r ≡ 4 * ((n + 3) / 4) ⌝ }
 {
     4 * ((n + 3) / 4)
@@ -83,8 +83,8 @@ pub(crate) fn align4(n: usize) -> usize
 
 // A Float8 blob.
 fn float8(blob: &[u8]) -> ReadAnswer
-    requires { ⌜ length (now blob) ≤ longest ⌝ }
-    requires { ⌜ named (now blob) ≡ a Float8 ⌝ }
+    requires { ⌜ length (now blob) ≤ maxBlobLength ⌝ }
+    requires { ⌜ namedKind (now blob) ≡ a Float8 ⌝ }
     ensures { λ r. ⌜ r ≡ readOf (now (blob .entry)) ⌝ }
 {
     let n = blob.len() - 1;
@@ -112,11 +112,11 @@ fn float8(blob: &[u8]) -> ReadAnswer
 // The first of the count indices of a sparse body that is not below dims, or count.
 pub(crate) fn first_outside(s: &[u8], count: usize, dims: usize) -> usize
     requires { ⌜ 8 * count ≤ length (now s) ⌝ }
-    ensures { λ r. ⌜ r ≡ first (outside (now (s .entry)) count dims) count ⌝ }
+    ensures { λ r. ⌜ r ≡ firstIndex (isOutside (now (s .entry)) count dims) count ⌝ }
 {
     let mut j = 0;
     while j < count {
-        let index = elements::u32_at(s, 4 * count + 4 * j);
+        let index = little_endian::u32_at(s, 4 * count + 4 * j);
         if dims <= index as usize {
             return j;
         }
@@ -127,8 +127,8 @@ pub(crate) fn first_outside(s: &[u8], count: usize, dims: usize) -> usize
 
 // A sparse blob.
 fn sparse(blob: &[u8]) -> ReadAnswer
-    requires { ⌜ length (now blob) ≤ longest ⌝ }
-    requires { ⌜ named (now blob) ≡ a Float32Sparse ⌝ }
+    requires { ⌜ length (now blob) ≤ maxBlobLength ⌝ }
+    requires { ⌜ namedKind (now blob) ≡ a Float32Sparse ⌝ }
     ensures { λ r. ⌜ r ≡ readOf (now (blob .entry)) ⌝ }
 {
     let n = blob.len() - 1;
@@ -137,7 +137,7 @@ fn sparse(blob: &[u8]) -> ReadAnswer
     if n != 4 + length {
         return refuse(7);
     }
-    let dims = elements::u32_at(blob, n - 4) as usize;
+    let dims = little_endian::u32_at(blob, n - 4) as usize;
     if first_outside(blob, count, dims) < count {
         return refuse(8);
     }
@@ -149,7 +149,7 @@ pub fn read(blob: &[u8]) -> ReadAnswer
     ensures { λ r. ⌜ r ≡ readOf (now (blob .entry)) ⌝ }
 {
     let length = blob.len();
-    if LONGEST < length {
+    if MAX_BLOB_LENGTH < length {
         return refuse(1);
     }
     if length % 2 == 0 {

@@ -2,10 +2,10 @@
 ghost use mathlib.Core.Path.{_≡_};
 ghost use Prim.Native.Nat.{_*_, _-_, _≤_, _<_};
 ghost use lib.ListN.{length};
-ghost use Rattle.vector_types.specs.Search.{first, some};
+ghost use Rattle.vector_types.specs.Search.{firstIndex, anyIndex};
 ghost use Rattle.vector_types.specs.Layout.{ceil};
-ghost use Rattle.vector_types.specs.Read.{readOf, strictOf, falls, unusedSet};
-ghost use Rattle.vector_types.specs.declared.ReadAnswer.the-variants.{View as Seen};
+ghost use Rattle.vector_types.specs.Read.{readOf, strictOf, isBelowPrevious, unusedSet};
+ghost use Rattle.vector_types.specs.declared.ReadAnswer.the-variants.{Accepted};
 use crate::ReadAnswer;
 use crate::VectorType;
 use crate::View;
@@ -15,12 +15,12 @@ use crate::reading::refuse;
 // The first of the count indices of a sparse body that is below the one before it, or count.
 fn first_fall(s: &[u8], count: usize) -> usize
     requires { ⌜ 8 * count ≤ length (now s) ⌝ }
-    ensures { λ r. ⌜ r ≡ first (falls (now (s .entry)) count) count ⌝ }
+    ensures { λ r. ⌜ r ≡ firstIndex (isBelowPrevious (now (s .entry)) count) count ⌝ }
 {
     let mut last: u32 = 0;
     let mut j = 0;
     while j < count {
-        let index = elements::u32_at(s, 4 * count + 4 * j);
+        let index = little_endian::u32_at(s, 4 * count + 4 * j);
         if index < last {
             return j;
         }
@@ -33,7 +33,7 @@ fn first_fall(s: &[u8], count: usize) -> usize
 // Whether a bit past dims is set in the last byte of a 1-bit body.
 fn unused_set(s: &[u8], dims: usize) -> bool
     requires { ⌜ ceil dims 8 ≤ length (now s) ⌝ }
-    ensures { λ r. ⌜ r ≡ some (unusedSet (now (s .entry)) dims) (8 * ceil dims 8 - dims) ⌝ }
+    ensures { λ r. ⌜ r ≡ anyIndex (unusedSet (now (s .entry)) dims) (8 * ceil dims 8 - dims) ⌝ }
 {
     let used = dims % 8;
     if used == 0 {
@@ -44,7 +44,7 @@ fn unused_set(s: &[u8], dims: usize) -> bool
 
 // The view of an accepted blob, unless a strict test refuses it.
 fn hold(blob: &[u8], view: View) -> ReadAnswer
-    requires { ⌜ readOf (now blob) ≡ Seen view ⌝ }
+    requires { ⌜ readOf (now blob) ≡ Accepted view ⌝ }
     ensures { λ r. ⌜ r ≡ strictOf (now (blob .entry)) ⌝ }
 {
     let kind = view.kind;
@@ -54,17 +54,17 @@ fn hold(blob: &[u8], view: View) -> ReadAnswer
             if first_fall(blob, count) < count {
                 return refuse(10);
             }
-            ReadAnswer::View(view)
+            ReadAnswer::Accepted(view)
         }
         VectorType::Float1Bit => {
             if unused_set(blob, view.dims.0) {
                 return refuse(11);
             }
-            ReadAnswer::View(view)
+            ReadAnswer::Accepted(view)
         }
-        VectorType::Float32Dense => ReadAnswer::View(view),
-        VectorType::Float64Dense => ReadAnswer::View(view),
-        VectorType::Float8 => ReadAnswer::View(view),
+        VectorType::Float32Dense => ReadAnswer::Accepted(view),
+        VectorType::Float64Dense => ReadAnswer::Accepted(view),
+        VectorType::Float8 => ReadAnswer::Accepted(view),
     }
 }
 
@@ -73,7 +73,7 @@ pub fn read_strict(blob: &[u8]) -> ReadAnswer
     ensures { λ r. ⌜ r ≡ strictOf (now (blob .entry)) ⌝ }
 {
     match read(blob) {
-        ReadAnswer::View(view) => hold(blob, view),
+        ReadAnswer::Accepted(view) => hold(blob, view),
         ReadAnswer::Refused(refusal) => ReadAnswer::Refused(refusal),
     }
 }

@@ -5,15 +5,15 @@ ghost use mathlib.Core.Bool.{_&&_};
 ghost use lib.Dec.{eqb};
 ghost use lib.ListN.{length};
 ghost use Rattle.promises.specs.Onto.{onto};
-ghost use Rattle.vector_types.specs.Answers.{refusal, unwritten};
-ghost use Rattle.vector_types.specs.Layout.{mostDims, counted, fits, strays};
+ghost use Rattle.vector_types.specs.Answers.{refusal, writeRefused};
+ghost use Rattle.vector_types.specs.Layout.{maxDims, hasTrailingCount, bodyFits, hasIndexOutside};
 ghost use Rattle.vector_types.specs.Write.{filler, trailingBits, trailingBytes, tailOf, blobOf, writeOf, outcome, writeOutcome};
 ghost use Rattle.vector_types.specs.inner.Count.{countOf};
 ghost use Rattle.vector_types.specs.declared.VectorType.the-variants.{Float32Sparse};
 use crate::Detail;
 use crate::Dims;
-use crate::LONGEST;
-use crate::MOST_DIMS;
+use crate::MAX_BLOB_LENGTH;
+use crate::MAX_DIMS;
 use crate::Refusal;
 use crate::TrailingBits;
 use crate::TrailingBytes;
@@ -23,15 +23,15 @@ use crate::reading::align4;
 use crate::reading::first_outside;
 
 fn refuse(number: u8) -> WriteAnswer
-    ensures { λ r. ⌜ r ≡ unwritten (refusal number) ⌝ }
+    ensures { λ r. ⌜ r ≡ writeRefused (refusal number) ⌝ }
 {
     WriteAnswer::Refused(Refusal::plain(number))
 }
 
 // Whether a body of so many bytes is what a vector of this kind and dims has.
 fn is_fit(kind: VectorType, dims: Dims, size: usize) -> bool
-    requires { ⌜ dims .0 ≤ mostDims ⌝ }
-    ensures { λ r. ⌜ r ≡ fits kind (dims .0) size ⌝ }
+    requires { ⌜ dims .0 ≤ maxDims ⌝ }
+    ensures { λ r. ⌜ r ≡ bodyFits kind (dims .0) size ⌝ }
 {
     match kind {
         VectorType::Float32Dense => size == 4 * dims.0,
@@ -51,7 +51,7 @@ fn fill(size: usize) -> usize
 
 // The count of a 1-bit blob, and of a Float8 one.
 fn trailing_bits(dims: Dims) -> TrailingBits
-    requires { ⌜ dims .0 ≤ mostDims ⌝ }
+    requires { ⌜ dims .0 ≤ maxDims ⌝ }
     ensures { λ r. ⌜ r .0 ≡ trailingBits (dims .0) ⌝ }
 {
     let size = (dims.0 + 7) / 8;
@@ -60,7 +60,7 @@ fn trailing_bits(dims: Dims) -> TrailingBits
 }
 
 fn trailing_bytes(dims: Dims) -> TrailingBytes
-    requires { ⌜ dims .0 ≤ mostDims ⌝ }
+    requires { ⌜ dims .0 ≤ maxDims ⌝ }
     ensures { λ r. ⌜ r .0 ≡ trailingBytes (dims .0) ⌝ }
 {
     TrailingBytes(align4(dims.0) - dims.0)
@@ -68,7 +68,7 @@ fn trailing_bytes(dims: Dims) -> TrailingBytes
 
 // How many bytes follow the body.
 fn tail_length(kind: VectorType, dims: Dims) -> usize
-    requires { ⌜ dims .0 ≤ mostDims ⌝ }
+    requires { ⌜ dims .0 ≤ maxDims ⌝ }
     ensures { λ r. ⌜ r ≡ length (tailOf kind (dims .0)) ⌝ }
 {
     match kind {
@@ -82,7 +82,7 @@ fn tail_length(kind: VectorType, dims: Dims) -> usize
 
 // Whether an index of a sparse body is not below dims.
 fn is_outside(kind: VectorType, dims: Dims, body: &[u8]) -> bool
-    ensures { λ r. ⌜ r ≡ strays kind (dims .0) (now (body .entry)) ⌝ }
+    ensures { λ r. ⌜ r ≡ hasIndexOutside kind (dims .0) (now (body .entry)) ⌝ }
 {
     match kind {
         VectorType::Float32Sparse => {
@@ -98,7 +98,7 @@ fn is_outside(kind: VectorType, dims: Dims, body: &[u8]) -> bool
 
 // Whether there is no element, in a kind that must have one.
 fn is_empty(kind: VectorType, dims: Dims) -> bool
-    ensures { λ r. ⌜ r ≡ (counted kind && eqb (dims .0) 0) ⌝ }
+    ensures { λ r. ⌜ r ≡ (hasTrailingCount kind && eqb (dims .0) 0) ⌝ }
 {
     match kind {
         VectorType::Float1Bit => dims.0 == 0,
@@ -113,14 +113,14 @@ fn is_empty(kind: VectorType, dims: Dims) -> bool
 fn measure(kind: VectorType, dims: Dims, body: &[u8], room: usize) -> WriteAnswer
     ensures { λ r. ⌜ r ≡ writeOf kind (dims .0) (now (body .entry)) room ⌝ }
 {
-    if MOST_DIMS < dims.0 {
+    if MAX_DIMS < dims.0 {
         return refuse(9);
     }
     if !is_fit(kind, dims, body.len()) {
         return refuse(7);
     }
     let length = body.len() + tail_length(kind, dims);
-    if LONGEST < length {
+    if MAX_BLOB_LENGTH < length {
         return refuse(1);
     }
     if is_outside(kind, dims, body) {
@@ -155,17 +155,17 @@ fn put_count(filled: bool, count: u8, byte: u8, out: &mut [u8])
 
 // Puts the dims and the type byte of a sparse blob at the start of out.
 fn put_sparse_tail(dims: Dims, out: &mut [u8])
-    requires { ⌜ dims .0 ≤ mostDims ⌝ }
+    requires { ⌜ dims .0 ≤ maxDims ⌝ }
     requires { ⌜ length (tailOf Float32Sparse (dims .0)) ≤ length (now out) ⌝ }
     ensures { λ _. ⌜ now (out .exit) ≡ onto (tailOf Float32Sparse (dims .0)) (now (out .entry)) ⌝ }
 {
-    elements::put_u32(out, 0, dims.0 as u32);
+    little_endian::put_u32(out, 0, dims.0 as u32);
     out[4] = 9;
 }
 
 // Puts what follows the body at the start of out.
 fn put_tail(kind: VectorType, dims: Dims, out: &mut [u8])
-    requires { ⌜ dims .0 ≤ mostDims ⌝ }
+    requires { ⌜ dims .0 ≤ maxDims ⌝ }
     requires { ⌜ length (tailOf kind (dims .0)) ≤ length (now out) ⌝ }
     ensures { λ _. ⌜ now (out .exit) ≡ onto (tailOf kind (dims .0)) (now (out .entry)) ⌝ }
 {
@@ -189,7 +189,7 @@ fn put_tail(kind: VectorType, dims: Dims, out: &mut [u8])
 
 // Puts the blob at the start of out.
 fn put_blob(kind: VectorType, dims: Dims, body: &[u8], out: &mut [u8])
-    requires { ⌜ dims .0 ≤ mostDims ⌝ }
+    requires { ⌜ dims .0 ≤ maxDims ⌝ }
     requires { ⌜ length (blobOf kind (dims .0) (now body)) ≤ length (now out) ⌝ }
     ensures { λ _. ⌜ now (out .exit) ≡ onto (blobOf kind (dims .0) (now (body .entry))) (now (out .entry)) ⌝ }
 {

@@ -1,8 +1,8 @@
 -- Each return is a path of `pairOf`; the two bodies fit what is measured.
 use mathlib.Core.Path.{_≡_, sym, _∙_}
 use mathlib.Core.Bool.{true}
-use Rattle.vector_types.specs.Layout.{byteOf, is}
-use Rattle.vector_types.proofs.Views.{told}
+use Rattle.vector_types.specs.Layout.{byteOf, hasByte}
+use Rattle.vector_types.proofs.Views.{view-facts}
 use Rattle.vector_types.proofs.Rewritten.{body-is}
 use Rattle.distance.proofs.Paired.{dims-differ, kinds-differ, unmeasured, measured, body-length, body-fits, other-fits}
 use borrow.Author.Tests.{not-true, not-false}
@@ -23,7 +23,7 @@ returns-2 c =
     ∙ sym (kinds-differ (a .distance) (a .v) (a .w) _ _ (s .before .if1 .left) (sym (s .is-same-kind .ensures) ∙ not-true _ (c .before .if2 .taken)))
 
 -- the kinds of the two are one
-alike : (c : tie.Else2) → let a = c .before .before .before .before .before .before .before .before .before .args in is (byteOf (a .w .kind)) (a .v .kind) ≡ true
+alike : (c : tie.Else2) → let a = c .before .before .before .before .before .before .before .before .before .args in hasByte (byteOf (a .w .kind)) (a .v .kind) ≡ true
 alike c = sym (c .before .is-same-kind .ensures) ∙ not-false _ (c .if2 .left)
 
 returns-3 : tie.Need-returns-3
@@ -49,7 +49,7 @@ measure-requires c κs =
     let a = s .before .before .before .before .before .before .before .before .before in
     let first = a .args .first .now in
     let v = a .args .v in (
-      told first v (a .pre .0) .few,
+      view-facts first v (a .pre .0) .few,
       (
         body-fits first v (a .pre .0),
         (

@@ -1,7 +1,7 @@
 -- By what each call ensures.
 use borrow.Author.Needs.{needs}
 use lib.Ieee.{binary64, mul, ofBits}
-use Rattle.rounding.proofs.RootLaw.{root-only}
+use Rattle.rounding.proofs.RootLaw.{root-unique}
 use Rattle.distance_sums.specs.Float8.{scaledCosine}
 use Rattle.distance_sums.specs.Values.{cosineOf}
 use Rattle.distance_cos.proofs.vector_f8_distance_cos.Statement.{statement}
@@ -13,7 +13,7 @@ returns c =
     let m = c .before in
     let n = m .before in
     let d = n .before in
-    let root = root-only binary64 (mul binary64 (n .norm-of .result) (m .norm-of2 .result)) (c .root64 .result) (c .root64 .ensures) in
+    let root = root-unique binary64 (mul binary64 (n .norm-of .result) (m .norm-of2 .result)) (c .root64 .result) (c .root64 .ensures) in
     let t = d .before .totals-of .ensures in
     let v = d .before .before .scale-of2 .ensures in
     let u = d .before .before .before .scale-of .ensures in

@@ -2,7 +2,7 @@
 use mathlib.Core.Path.{ap, sym, _∙_}
 use mathlib.Core.Bool.{true≢false}
 use mathlib.Core.Option.{some}
-use Rattle.vector_types.specs.Layout.{is}
+use Rattle.vector_types.specs.Layout.{hasByte}
 use Rattle.convert.proofs.Bodies.{float32-length, float64-length, float8-length}
 use Rattle.distance_sums.specs.Values.{l2Of}
 use borrow.Author.Needs.{needs}
@@ -42,7 +42,7 @@ returns-4 c = rw (c .before .enum-told4 .given .1) (c .vector-f8-distance-l2 .en
 
 -- the kind is not Float1Bit
 returns-5 : tie.Need-returns-5
-returns-5 c = absurd (true≢false (sym (ap (is 3) (c .enum-told5 .given .1)) ∙ c .before .before .before .before .pre .1 .1 .1))
+returns-5 c = absurd (true≢false (sym (ap (hasByte 3) (c .enum-told5 .given .1)) ∙ c .before .before .before .before .pre .1 .1 .1))
 
 pub measure-l2-spec : {M : Type 1} → statement M
 measure-l2-spec =

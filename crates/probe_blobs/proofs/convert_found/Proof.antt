@@ -1,8 +1,8 @@
 -- `convert_found` meets its contract: X, or what a conversion makes of the bytes that the field spells.
 use mathlib.Core.Path.{_≡_, sym, _∙_}
 use lib.Seq.{length-take-le}
-use Rattle.lines.specs.Fields.{spelled}
-use Rattle.lines.proofs.Fields.{answered, spelled-part, spelled-all}
+use Rattle.lines.specs.Fields.{fromHex}
+use Rattle.lines.proofs.Fields.{same-text, spelled-part, spelled-all}
 use Rattle.probe_blobs.specs.Blobs.{convertedText, convertedBy}
 use borrow.Author.Needs.{needs}
 use native.Mathlib.Omega.{arith}
@@ -13,13 +13,13 @@ returns : tie.Need-returns
 returns c = rw (c .before .before .before .before .enum-told .given .1) (c .before .before .put-other .ensures)
 
 -- the answer where the kind is known
-asked : (c : tie.After-kind) → let a = c .before .before .before .before .before .before .before .args in spelled (convertedText (c .kind .given .0 .0)) (a .field .now) ≡ convertedBy (a .kind) (a .field .now)
+asked : (c : tie.After-kind) → let a = c .before .before .before .before .before .before .before .args in fromHex (convertedText (c .kind .given .0 .0)) (a .field .now) ≡ convertedBy (a .kind) (a .field .now)
 asked c = rw (c .kind .given .1)
 
 returns-2 : tie.Need-returns-2
 returns-2 c =
     let s = c .before .before .before .before .before .before .before .bytes in
-    answered _ _ _ _ _ (spelled-part _ _ (s .result) (s .ensures .0) (c .before .before .before .before .if1 .taken) ∙ asked (c .before .before .before .before .before .before .before .before .before .before)) (c .before .before .put-other2 .ensures)
+    same-text _ _ _ _ _ (spelled-part _ _ (s .result) (s .ensures .0) (c .before .before .before .before .if1 .taken) ∙ asked (c .before .before .before .before .before .before .before .before .before .before)) (c .before .before .put-other2 .ensures)
 
 slice-aggregate-put-converted : tie.Need-slice-aggregate-put-converted
 slice-aggregate-put-converted c = sym (length-take-le _ _ (omega arith))
@@ -29,7 +29,7 @@ returns-3 c =
     let s = c .before .before .before .before .before .before .before .before .before .before .before .before .before .before .bytes in
     let a = c .before .before .before .before .before .before .before .before .before .before .before .before .before .before .before .before .before .before .before .before .before .before .before .before .args in
     let e = spelled-all _ (a .field .now) (s .result) (a .spelled .now) (s .last .1 .0) (s .ensures .0, s .ensures .1 .0) (c .before .before .before .before .before .before .before .before .before .before .before .if1 .left) in
-    answered _ _ _ _ _ (e ∙ asked (c .before .before .before .before .before .before .before .before .before .before .before .before .before .before .before .before .before)) (c .before .before .before .before .before .before .put-converted .ensures)
+    same-text _ _ _ _ _ (e ∙ asked (c .before .before .before .before .before .before .before .before .before .before .before .before .before .before .before .before .before)) (c .before .before .before .before .before .before .put-converted .ensures)
 
 pub convert-found-spec : {M : Type 1} → statement M
 convert-found-spec =

@@ -5,7 +5,7 @@ use lib.ListN.{length, take}
 use lib.Seq.{length-take-le}
 use Rattle.bytes.specs.Bytes.{indexOf}
 use Rattle.lines.specs.Text.{tab}
-use Rattle.lines.proofs.Fields.{answered, two-short, after}
+use Rattle.lines.proofs.Fields.{same-text, two-short, after}
 use Rattle.probe_blobs.specs.declared.Kind.{Kind}
 use Rattle.probe_blobs.specs.Blobs.{convertedBy, convText}
 use Rattle.probe_blobs.proofs.BlobTexts.{conv-fields}
@@ -19,7 +19,7 @@ returns c =
     let t = c .before .before .before .before in
     let rest = t .before .before .before .before .before .before .before .args .rest .now in
     let all : indexOf tab rest ≡ length rest = sym (t .before .field-end .ensures .0) ∙ t .if1 .taken in
-    answered _ _ _ _ _ (sym (two-short convText rest all)) (c .before .before .put-other .ensures)
+    same-text _ _ _ _ _ (sym (two-short convText rest all)) (c .before .before .put-other .ensures)
 
 slice-aggregate-kind-of : tie.Need-slice-aggregate-kind-of
 slice-aggregate-kind-of c = sym (length-take-le _ _ (omega arith))
@@ -33,7 +33,7 @@ returns-2 c =
     let rest = k .before .before .before .before .before .before .before .before .before .args .rest .now in
     let field = after end rest in
     let found : convertedBy (k .kind-of .result) field ≡ convText (take end rest) field = ap (λ (x : Kind). convertedBy x field) (k .kind-of .ensures) in
-    answered _ _ _ _ _ (found ∙ conv-fields rest end (f .ensures .0) (lt-of-le-ne (f .ensures .1) (k .before .before .if1 .left))) (c .before .before .before .before .before .before .before .before .convert-found .ensures)
+    same-text _ _ _ _ _ (found ∙ conv-fields rest end (f .ensures .0) (lt-of-le-ne (f .ensures .1) (k .before .before .if1 .left))) (c .before .before .before .before .before .before .before .before .convert-found .ensures)
 
 pub convert-line-spec : {M : Type 1} → statement M
 convert-line-spec =

@@ -9,7 +9,7 @@ use Rattle.vector_types.specs.Parts.{bodyOf}
 use Rattle.convert.specs.Convert.{convertOf, convertOutcome}
 use Rattle.convert.specs.declared.ConvertAnswer.{ConvertAnswer}
 use Rattle.convert.proofs.Answered.{outcome-parts}
-use Rattle.lines.proofs.Fields.{answered}
+use Rattle.lines.proofs.Fields.{same-text}
 use Rattle.probe_blobs.specs.Blobs.{vectorText, newText, newBody, convertedText}
 use Rattle.probe_blobs.proofs.BlobTexts.{converted-room}
 use borrow.Author.Needs.{needs}
@@ -53,13 +53,13 @@ unfolding newText
 returns c =
     let told = c .before .before .before .before .before .before .before in
     let made = ap (λ (s : List ℕ). vectorText (word "C\t") (told .view .given .0 .0) s) (room told .1) in
-    answered _ _ _ _ _ (made ∙ text (told .before .before .before .before .before .before) _ (told .view .given .1)) (c .before .before .put-vector .ensures)
+    same-text _ _ _ _ _ (made ∙ text (told .before .before .before .before .before .before) _ (told .view .given .1)) (c .before .before .put-vector .ensures)
 
 returns-2 : tie.Need-returns-2
 unfolding newText
 returns-2 c =
     let told = c .before .before .before .before .before in
-    answered _ _ _ _ _ (text (told .before .before .before .before .before .before) _ (told .refusal .given .1)) (c .before .before .put-refusal .ensures)
+    same-text _ _ _ _ _ (text (told .before .before .before .before .before .before) _ (told .refusal .given .1)) (c .before .before .put-refusal .ensures)
 
 pub put-converted-spec : {M : Type 1} → statement M
 put-converted-spec =

@@ -5,7 +5,7 @@ use Prim.Native.Nat.{ℕ, _+_, _≤_}
 use Rattle.vector_types.specs.Layout.{byteOf}
 use Rattle.lines.specs.Printed.{headOf}
 use Rattle.promises.proofs.Onto.{copied}
-use Rattle.lines.proofs.Fields.{answered, puts-then}
+use Rattle.lines.proofs.Fields.{same-text, puts-then}
 use Rattle.probe_blobs.specs.Blobs.{headerText}
 use borrow.Author.Needs.{needs}
 use native.Mathlib.Omega.{arith}
@@ -31,7 +31,7 @@ returns c =
     let p = puts-then mark kind (a .out .now) _ _ (h .result) _ m (k .ensures .0, k .ensures .1 .0) in
     let q = puts-then (mark ++ kind) dims (a .out .now) _ _ (h .result + k .result) _ p (n .ensures .0, n .ensures .1 .0) in
     let text : (mark ++ kind) ++ dims ≡ headerText mark (a .kind) (a .dims) = rw (byte .ensures, append-assoc mark (headOf (byteOf (a .kind))) dims) in
-    let put = answered _ _ (a .out .now) _ _ text q in
+    let put = same-text _ _ (a .out .now) _ _ text q in
     (put .0, (put .1, within (h .result) (k .result) (n .result) _ (h .ensures .0) (start .pre .0) (k .ensures .1 .1) (n .ensures .1 .1)))
 
 pub put-header-spec : {M : Type 1} → statement M

@@ -1,8 +1,8 @@
 -- `put_read` meets its contract: what the reader shows is put, or the refusal.
 use mathlib.Core.Path.{_≡_, refl, sym, ap, _∙_}
 use Rattle.vector_types.specs.declared.ReadAnswer.{ReadAnswer}
-use Rattle.vector_types.specs.declared.ReadAnswer.the-variants.{View, Refused}
-use Rattle.lines.proofs.Fields.{answered}
+use Rattle.vector_types.specs.declared.ReadAnswer.the-variants.{Accepted, Refused}
+use Rattle.lines.proofs.Fields.{same-text}
 use Rattle.probe_blobs.specs.Blobs.{viewText, readerOf}
 use Rattle.probe_blobs.proofs.BlobTexts.{seen-within}
 use borrow.Author.Needs.{needs}
@@ -11,7 +11,7 @@ use Rattle.probe_blobs.proofs.put_read.Statement.{statement}
 use Rattle.probe_blobs.proofs.put_read.Tie as tie
 
 -- what the reader answers, in each arm
-shown : (c : tie.After-view) → let a = c .before .before .before .before .before .args in readerOf (a .reader) (a .blob .now) ≡ View (c .view .given .0 .0)
+shown : (c : tie.After-view) → let a = c .before .before .before .before .before .args in readerOf (a .reader) (a .blob .now) ≡ Accepted (c .view .given .0 .0)
 shown c = sym (c .before .before .read-by .ensures) ∙ c .view .given .1
 
 refused : (c : tie.After-refusal) → let a = c .before .before .before .before .before .args in readerOf (a .reader) (a .blob .now) ≡ Refused (c .refusal .given .0 .0)
@@ -27,13 +27,13 @@ returns : tie.Need-returns
 unfolding viewText
 returns c =
     let a = c .before .before .before .before .before .before .before .before .before .before .before .args in
-    answered _ _ _ _ _ (sym (ap (λ (r : ReadAnswer). viewText r (a .blob .now)) (shown (c .before .before .before .before .before .before)))) (c .before .before .put-vector .ensures)
+    same-text _ _ _ _ _ (sym (ap (λ (r : ReadAnswer). viewText r (a .blob .now)) (shown (c .before .before .before .before .before .before)))) (c .before .before .put-vector .ensures)
 
 returns-2 : tie.Need-returns-2
 unfolding viewText
 returns-2 c =
     let a = c .before .before .before .before .before .before .before .before .before .before .args in
-    answered _ _ _ _ _ (sym (ap (λ (r : ReadAnswer). viewText r (a .blob .now)) (refused (c .before .before .before .before .before)))) (c .before .before .put-refusal .ensures)
+    same-text _ _ _ _ _ (sym (ap (λ (r : ReadAnswer). viewText r (a .blob .now)) (refused (c .before .before .before .before .before)))) (c .before .before .put-refusal .ensures)
 
 pub put-read-spec : {M : Type 1} → statement M
 put-read-spec =

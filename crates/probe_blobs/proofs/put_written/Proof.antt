@@ -6,11 +6,11 @@ use lib.ListN.{length, take}
 use lib.Seq.{length-take-le}
 use Rattle.lines.specs.Text.{word}
 use Rattle.lines.specs.Hex.{hexOf}
-use Rattle.vector_types.specs.Layout.{longest}
+use Rattle.vector_types.specs.Layout.{maxBlobLength}
 use Rattle.vector_types.specs.Write.{blobOf, writeOf, writeOutcome}
 use Rattle.vector_types.specs.declared.WriteAnswer.{WriteAnswer}
 use Rattle.vector_types.proofs.Written.{outcome-parts}
-use Rattle.lines.proofs.Fields.{answered, puts-then}
+use Rattle.lines.proofs.Fields.{same-text, puts-then}
 use Rattle.probe_blobs.specs.Blobs.{blobText, madeText}
 use Rattle.probe_blobs.proofs.BlobTexts.{written-room}
 use borrow.Author.Needs.{needs}
@@ -34,7 +34,7 @@ made c w e = ap (λ (x : WriteAnswer). blobText x (blob c)) (sym e ∙ rw (← c
 abbrev left : tie.After-length → List ℕ
 left c = take (c .length .given .0 .0) (c .before .before .before .before .write .last .1 .1 .1 .0)
 
-room : (c : tie.After-length) → (c .length .given .0 .0 ≤ longest) × (left c ≡ blob (c .before .before .before .before))
+room : (c : tie.After-length) → (c .length .given .0 .0 ≤ maxBlobLength) × (left c ≡ blob (c .before .before .before .before))
 room c =
     let w = c .before .before .before .before in
     let start = w .before .before .before .before .before in
@@ -65,13 +65,13 @@ returns c =
     let a = told .before .before .before .before .before .before .before .before .before .args in
     let put = puts-then (word "W\t") (hexOf (left told)) (a .out .now) _ _ (h .result) _ (h .ensures) (d .ensures .0, d .ensures .1 .0) in
     let text = ap (λ (s : List ℕ). word "W\t" ++ hexOf s) (room told .1) ∙ made (told .before .before .before .before) _ (told .length .given .1) in
-    answered _ _ (a .out .now) _ _ text put
+    same-text _ _ (a .out .now) _ _ text put
 
 returns-2 : tie.Need-returns-2
 unfolding blobText
 returns-2 c =
     let told = c .before .before .before .before .before in
-    answered _ _ _ _ _ (made (told .before .before .before .before) _ (told .refusal .given .1)) (c .before .before .put-refusal .ensures)
+    same-text _ _ _ _ _ (made (told .before .before .before .before) _ (told .refusal .given .1)) (c .before .before .put-refusal .ensures)
 
 pub put-written-spec : {M : Type 1} → statement M
 put-written-spec =

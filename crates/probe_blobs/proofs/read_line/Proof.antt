@@ -1,7 +1,7 @@
 -- `read_line` meets its contract: X, or what the reader shows of the bytes that the field spells.
 use mathlib.Core.Path.{sym}
 use lib.Seq.{length-take-le}
-use Rattle.lines.proofs.Fields.{answered, spelled-part, spelled-all}
+use Rattle.lines.proofs.Fields.{same-text, spelled-part, spelled-all}
 use Rattle.probe_blobs.specs.Blobs.{shownText, readText}
 use borrow.Author.Needs.{needs}
 use native.Mathlib.Omega.{arith}
@@ -13,7 +13,7 @@ unfolding readText
 returns c =
     let a = c .before .before .before .before .before .before .before .before .before .before .before .before .args in
     let s = c .before .before .before .before .before .before .before .bytes in
-    answered _ _ _ _ _ (spelled-part (shownText (a .reader)) (a .field .now) (s .result) (s .ensures .0) (c .before .before .before .before .if1 .taken)) (c .before .before .put-other .ensures)
+    same-text _ _ _ _ _ (spelled-part (shownText (a .reader)) (a .field .now) (s .result) (s .ensures .0) (c .before .before .before .before .if1 .taken)) (c .before .before .put-other .ensures)
 
 slice-aggregate-put-read : tie.Need-slice-aggregate-put-read
 slice-aggregate-put-read c = sym (length-take-le _ _ (omega arith))
@@ -24,7 +24,7 @@ returns-2 c =
     let a = c .before .before .before .before .before .before .before .before .before .before .before .before .before .args in
     let s = c .before .before .before .before .before .before .before .before .bytes in
     let e = spelled-all (shownText (a .reader)) (a .field .now) (s .result) (a .spelled .now) (s .last .1 .0) (s .ensures .0, s .ensures .1 .0) (c .before .before .before .before .before .if1 .left) in
-    answered _ _ _ _ _ e (c .before .before .put-read .ensures)
+    same-text _ _ _ _ _ e (c .before .before .put-read .ensures)
 
 pub read-line-spec : {M : Type 1} → statement M
 read-line-spec =

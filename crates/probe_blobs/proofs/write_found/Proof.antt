@@ -1,8 +1,8 @@
 -- `write_found` meets its contract: X, or what is written of the bytes that the field spells.
 use mathlib.Core.Path.{_≡_, sym, _∙_}
 use lib.Seq.{length-take-le}
-use Rattle.lines.specs.Fields.{spelled}
-use Rattle.lines.proofs.Fields.{answered, spelled-part, spelled-all}
+use Rattle.lines.specs.Fields.{fromHex}
+use Rattle.lines.proofs.Fields.{same-text, spelled-part, spelled-all}
 use Rattle.probe_blobs.specs.Blobs.{madeText, writtenBy}
 use borrow.Author.Needs.{needs}
 use native.Mathlib.Omega.{arith}
@@ -17,13 +17,13 @@ returns-2 c = rw (c .before .before .before .before .before .before .before .kin
 
 -- the answer where kind and number are known
 asked : (c : tie.After-number) → let a = c .before .before .before .before .before .before .before .before .before .args in
-    spelled (madeText (c .before .before .before .kind .given .0 .0) (c .number .given .0 .0)) (a .field .now) ≡ writtenBy (a .kind) (a .number) (a .field .now)
+    fromHex (madeText (c .before .before .before .kind .given .0 .0) (c .number .given .0 .0)) (a .field .now) ≡ writtenBy (a .kind) (a .number) (a .field .now)
 asked c = rw (c .before .before .before .kind .given .1, c .number .given .1)
 
 returns-3 : tie.Need-returns-3
 returns-3 c =
     let s = c .before .before .before .before .before .before .before .bytes in
-    answered _ _ _ _ _ (spelled-part _ _ (s .result) (s .ensures .0) (c .before .before .before .before .if1 .taken) ∙ asked (c .before .before .before .before .before .before .before .before .before .before)) (c .before .before .put-other3 .ensures)
+    same-text _ _ _ _ _ (spelled-part _ _ (s .result) (s .ensures .0) (c .before .before .before .before .if1 .taken) ∙ asked (c .before .before .before .before .before .before .before .before .before .before)) (c .before .before .put-other3 .ensures)
 
 slice-aggregate-put-written : tie.Need-slice-aggregate-put-written
 slice-aggregate-put-written c = sym (length-take-le _ _ (omega arith))
@@ -33,7 +33,7 @@ returns-4 c =
     let s = c .before .before .before .before .before .before .before .before .before .before .before .bytes in
     let a = c .before .before .before .before .before .before .before .before .before .before .before .before .before .before .before .before .before .before .before .before .before .before .before .args in
     let e = spelled-all _ (a .field .now) (s .result) (a .spelled .now) (s .last .1 .0) (s .ensures .0, s .ensures .1 .0) (c .before .before .before .before .before .before .before .before .if1 .left) in
-    answered _ _ _ _ _ (e ∙ asked (c .before .before .before .before .before .before .before .before .before .before .before .before .before .before)) (c .before .before .before .before .put-written .ensures)
+    same-text _ _ _ _ _ (e ∙ asked (c .before .before .before .before .before .before .before .before .before .before .before .before .before .before)) (c .before .before .before .before .put-written .ensures)
 
 pub write-found-spec : {M : Type 1} → statement M
 write-found-spec =

@@ -10,7 +10,7 @@ use Rattle.lines.specs.Text.{tab}
 use Rattle.lines.specs.Parts.{fieldsOf}
 use Rattle.lines.specs.declared.hex.Found.{Found}
 use Rattle.lines.specs.Fields.{two, three}
-use Rattle.lines.proofs.Fields.{answered, two-short, after, three-short, three-fields}
+use Rattle.lines.proofs.Fields.{same-text, two-short, after, three-short, three-fields}
 use Rattle.probe_blobs.specs.declared.Kind.{Kind}
 use Rattle.probe_blobs.specs.Blobs.{writeText, writtenBy}
 use Rattle.probe_blobs.proofs.BlobTexts.{write-fields}
@@ -24,7 +24,7 @@ returns c =
     let t = c .before .before .before .before in
     let rest = t .before .before .before .before .before .before .args .rest .now in
     let all : indexOf tab rest ≡ length rest = sym (t .before .field-end .ensures .0) ∙ t .if1 .taken in
-    answered _ _ _ _ _ (sym (three-short writeText rest all)) (c .before .before .put-other .ensures)
+    same-text _ _ _ _ _ (sym (three-short writeText rest all)) (c .before .before .put-other .ensures)
 
 slice-aggregate-kind-of : tie.Need-slice-aggregate-kind-of
 slice-aggregate-kind-of c = sym (length-take-le _ _ (omega arith))
@@ -48,7 +48,7 @@ returns-2 : tie.Need-returns-2
 returns-2 c =
     let here = c .before .before .before .before .before in
     let all : indexOf tab (more here) ≡ length (more here) = sym (here .field-end2 .ensures .0) ∙ c .before .before .before .before .if2 .taken in
-    answered _ _ _ _ _ (sym (two-short (writeText (kind here)) (more here) all) ∙ by-more here) (c .before .before .put-other2 .ensures)
+    same-text _ _ _ _ _ (sym (two-short (writeText (kind here)) (more here) all) ∙ by-more here) (c .before .before .put-other2 .ensures)
 
 slice-aggregate-numeral : tie.Need-slice-aggregate-numeral
 slice-aggregate-numeral c = sym (length-take-le _ _ (omega arith))
@@ -63,7 +63,7 @@ returns-3 c =
     let field = after stop (more here) in
     let found : writtenBy (k .kind-of .result) (n .numeral .result) field ≡ writeText (kind here) (take stop (more here)) field = ap₂ (λ (x : Kind) (y : Found). writtenBy x y field) (k .kind-of .ensures) (n .numeral .ensures) in
     let fields = write-fields (kind here) (more here) stop (here .field-end2 .ensures .0) (lt-of-le-ne (here .field-end2 .ensures .1) (n .before .before .if2 .left)) in
-    answered _ _ _ _ _ (found ∙ fields ∙ by-more here) (c .before .before .before .before .before .before .write-found .ensures)
+    same-text _ _ _ _ _ (found ∙ fields ∙ by-more here) (c .before .before .before .before .before .before .write-found .ensures)
 
 pub write-line-spec : {M : Type 1} → statement M
 write-line-spec =

@@ -5,8 +5,8 @@ use native.Mathlib.Omega.{arith}
 use Rattle.lines.specs.Hex.{patternOf}
 use Rattle.lines.specs.declared.hex.Found.the-variants.{Number}
 use Rattle.lines.proofs.Digits.{pattern-below}
-use Rattle.lines.proofs.Fields.{answered}
-use Rattle.probe_floats.specs.Floats.{rowOf, floatOf, byFound, computedOf}
+use Rattle.lines.proofs.Fields.{same-text}
+use Rattle.probe_floats.specs.Floats.{workOf, floatOf, byFound, computedOf}
 use Rattle.probe_floats.proofs.Fields.{wide}
 use borrow.Author.Needs.{needs}
 use Rattle.probe_floats.proofs.float_line.Statement.{statement}
@@ -16,11 +16,11 @@ pattern-requires : tie.Need-pattern-requires
 pattern-requires c κs = omega (arith, c .widths .ensures .0, wide (c .before .before .before .args .work) .takes)
 
 -- what is asked of the field, and the number that was found
-asked : (c : tie.After-pattern) → let a = c .before .before .before .before .args in c .pattern .result ≡ patternOf (rowOf (a .work) .takes) (a .field .now)
+asked : (c : tie.After-pattern) → let a = c .before .before .before .before .args in c .pattern .result ≡ patternOf (workOf (a .work) .takes) (a .field .now)
 asked c = c .pattern .ensures ∙ ap (λ (k : ℕ). patternOf k (c .before .before .before .before .args .field .now)) (c .before .widths .ensures .0)
 
 read : (c : tie.After-found) → let a = c .before .before .before .before .before .before .args in
-    patternOf (rowOf (a .work) .takes) (a .field .now) ≡ Number (c .found .given .0 .0)
+    patternOf (workOf (a .work) .takes) (a .field .now) ≡ Number (c .found .given .0 .0)
 read c = sym (asked (c .before .before)) ∙ c .found .given .1
 
 result-requires : tie.Need-result-requires
@@ -40,8 +40,8 @@ returns c =
     let work = d .before .before .before .args .work in
     let found = read (c .before .before .before .before .before .before) in
     let value = c .before .before .before .before .result .ensures .0 in
-    let e = ap₂ floatOf (d .widths .ensures .1) value ∙ sym (ap (byFound (rowOf work)) found) in
-    answered _ _ _ _ _ e (c .before .before .put-float .ensures)
+    let e = ap₂ floatOf (d .widths .ensures .1) value ∙ sym (ap (byFound (workOf work)) found) in
+    same-text _ _ _ _ _ e (c .before .before .put-float .ensures)
 
 returns-2 : tie.Need-returns-2
 unfolding computedOf
@@ -50,7 +50,7 @@ returns-2 c =
     let p = told .before .before in
     let work = p .before .before .before .before .args .work in
     let e = sym (asked p) ∙ told .enum-told .given .1 in
-    answered _ _ _ _ _ (sym (ap (byFound (rowOf work)) e)) (c .before .before .put-other .ensures)
+    same-text _ _ _ _ _ (sym (ap (byFound (workOf work)) e)) (c .before .before .put-other .ensures)
 
 pub float-line-spec : {M : Type 1} → statement M
 float-line-spec =

@@ -5,8 +5,8 @@ use lib.Ieee.{binary32, binary64, toBits}
 use Rattle.rounding.specs.Root.{root}
 use Rattle.rounding.specs.Narrow.{narrowed}
 use Rattle.rounding.specs.Truncate.{truncated}
-use Rattle.rounding.proofs.RootLaw.{root-only}
-use Rattle.rounding.proofs.NarrowLaw.{narrowed-only}
+use Rattle.rounding.proofs.RootLaw.{root-unique}
+use Rattle.rounding.proofs.NarrowLaw.{narrowed-unique}
 use borrow.Author.Needs.{needs}
 use Rattle.probe_floats.proofs.result.Statement.{statement}
 use Rattle.probe_floats.proofs.result.Tie as tie
@@ -22,17 +22,17 @@ cast-f32-of-3 c = omega (arith, rw (c .enum-told5 .given .1) at (c .before .befo
 
 returns : tie.Need-returns
 returns c =
-    let x = root-only binary32 (c .before .before .f32-of .result) (c .before .root32 .result) (c .before .root32 .ensures) ∙ ap (root binary32) (c .before .before .f32-of .ensures) in
+    let x = root-unique binary32 (c .before .before .f32-of .result) (c .before .root32 .result) (c .before .root32 .ensures) ∙ ap (root binary32) (c .before .before .f32-of .ensures) in
     rw (c .before .before .before .enum-told .given .1) (c .bits32 .ensures ∙ ap (toBits binary32) x, omega (arith, c .bits32 .ok))
 
 returns-2 : tie.Need-returns-2
 returns-2 c =
-    let x = root-only binary64 (c .before .before .f64-of .result) (c .before .root64 .result) (c .before .root64 .ensures) ∙ ap (root binary64) (c .before .before .f64-of .ensures) in
+    let x = root-unique binary64 (c .before .before .f64-of .result) (c .before .root64 .result) (c .before .root64 .ensures) ∙ ap (root binary64) (c .before .before .f64-of .ensures) in
     rw (c .before .before .before .enum-told2 .given .1) (c .bits64 .ensures ∙ ap (toBits binary64) x, omega (arith, c .bits64 .ok))
 
 returns-3 : tie.Need-returns-3
 returns-3 c =
-    let x = narrowed-only (c .before .before .f64-of2 .result) (c .before .narrow .result) (c .before .narrow .ensures) ∙ ap narrowed (c .before .before .f64-of2 .ensures) in
+    let x = narrowed-unique (c .before .before .f64-of2 .result) (c .before .narrow .result) (c .before .narrow .ensures) ∙ ap narrowed (c .before .before .f64-of2 .ensures) in
     rw (c .before .before .before .enum-told3 .given .1) (c .bits322 .ensures ∙ ap (toBits binary32) x, omega (arith, c .bits322 .ok))
 
 returns-4 : tie.Need-returns-4

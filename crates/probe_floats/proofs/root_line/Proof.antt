@@ -11,7 +11,7 @@ use Rattle.lines.specs.Text.{word, same, tab}
 use Rattle.lines.specs.Parts.{fieldsOf}
 use Rattle.lines.proofs.Same.{tested}
 use Rattle.lines.specs.Fields.{two, other}
-use Rattle.lines.proofs.Fields.{two-short, answered}
+use Rattle.lines.proofs.Fields.{two-short, same-text}
 use Rattle.probe_floats.specs.Floats.{computedOf, ofWidth}
 use Rattle.probe_floats.specs.declared.Work.the-variants.{Root32, Root64}
 use Rattle.probe_floats.proofs.Fields.{root-fields}
@@ -24,7 +24,7 @@ returns c =
     let t = c .before .before .before .before in
     let rest = t .before .before .before .before .args .rest .now in
     let all : indexOf tab rest ≡ length rest = sym (t .before .field-end .ensures .0) ∙ t .if1 .taken in
-    answered _ _ _ _ _ (sym (two-short ofWidth rest all)) (c .before .before .put-other .ensures)
+    same-text _ _ _ _ _ (sym (two-short ofWidth rest all)) (c .before .before .put-other .ensures)
 
 slice-aggregate-width : tie.Need-slice-aggregate-width
 slice-aggregate-width c = sym (length-take-le _ _ (omega arith))
@@ -60,7 +60,7 @@ returns-2 c =
     let t = c .before .before .before .before in
     let here = t .before .before .before in
     let is-32 = tested _ _ _ (t .before .same .ensures) ∙ t .if2 .taken in
-    answered _ _ _ _ _ (by-width here (computedOf Root32 (field here)) (rw is-32)) (c .before .before .float-line .ensures)
+    same-text _ _ _ _ _ (by-width here (computedOf Root32 (field here)) (rw is-32)) (c .before .before .float-line .ensures)
 
 returns-3 : tie.Need-returns-3
 unfolding ofWidth
@@ -69,7 +69,7 @@ returns-3 c =
     let e = t .before .before .before in
     let here = e .before .before .before in
     let is-64 = tested _ _ _ (t .before .same2 .ensures) ∙ t .if3 .taken in
-    answered _ _ _ _ _ (by-width here (computedOf Root64 (field here)) (rw (not-32 e, is-64))) (c .before .before .float-line2 .ensures)
+    same-text _ _ _ _ _ (by-width here (computedOf Root64 (field here)) (rw (not-32 e, is-64))) (c .before .before .float-line2 .ensures)
 
 returns-4 : tie.Need-returns-4
 unfolding ofWidth
@@ -77,7 +77,7 @@ returns-4 c =
     let t = c .before .before .before .before in
     let e = t .before .before .before in
     let not-64 = tested _ _ _ (t .before .same2 .ensures) ∙ t .if3 .left in
-    answered _ _ _ _ _ (by-width (e .before .before .before) other (rw (not-32 e, not-64))) (c .before .before .put-other2 .ensures)
+    same-text _ _ _ _ _ (by-width (e .before .before .before) other (rw (not-32 e, not-64))) (c .before .before .put-other2 .ensures)
 
 pub root-line-spec : {M : Type 1} → statement M
 root-line-spec =

@@ -6,7 +6,7 @@ use lib.Seq.{length-take-le}
 use Rattle.bytes.specs.Bytes.{indexOf}
 use Rattle.lines.specs.Text.{tab}
 use Rattle.lines.specs.Parts.{fieldsOf}
-use Rattle.lines.proofs.Fields.{answered, after}
+use Rattle.lines.proofs.Fields.{same-text, after}
 use Rattle.probe_lines.specs.Line.{answerTo}
 use Rattle.probe_lines.specs.declared.Verb.{Verb}
 use Rattle.probe_lines.proofs.Fields.{answer-short, answer-fields}
@@ -19,7 +19,7 @@ returns c =
     let t = c .before .before .before .before in
     let line = t .before .before .before .before .before .before .before .args .line .now in
     let all : indexOf tab line ≡ length line = sym (t .before .field-end .ensures .0) ∙ t .if1 .taken in
-    answered _ _ _ _ _ (sym (answer-short line all)) (c .before .before .put-other .ensures)
+    same-text _ _ _ _ _ (sym (answer-short line all)) (c .before .before .put-other .ensures)
 
 slice-aggregate-verb-of : tie.Need-slice-aggregate-verb-of
 slice-aggregate-verb-of c = sym (length-take-le _ _ (omega arith))
@@ -31,7 +31,7 @@ returns-2 c =
     let line = verb .before .before .before .before .before .before .before .before .before .args .line .now in
     let rest = after (first .result) line in
     let e = ap (λ (v : Verb). answerTo v (fieldsOf rest)) (verb .verb-of .ensures) ∙ answer-fields line (first .result) (first .ensures .0) (omega (arith, verb)) in
-    answered _ _ _ _ _ e (c .before .before .before .before .before .before .before .before .answer-to .ensures)
+    same-text _ _ _ _ _ e (c .before .before .before .before .before .before .before .before .answer-to .ensures)
 
 pub answer-spec : {M : Type 1} → statement M
 answer-spec =

@@ -3,7 +3,7 @@ use mathlib.Core.Path.{_≡_, sym, ap, _∙_}
 use mathlib.Core.List.{List}
 use Prim.Native.Nat.{ℕ}
 use Rattle.lines.specs.Parts.{fieldsOf}
-use Rattle.lines.proofs.Fields.{answered}
+use Rattle.lines.proofs.Fields.{same-text}
 use Rattle.probe_floats.proofs.Fields.{last-computed}
 use Rattle.probe_blobs.proofs.BlobTexts.{last-read}
 use Rattle.probe_lines.specs.Line.{answerTo}
@@ -22,7 +22,7 @@ unfolding answerTo
 returns c =
     let told = c .before .before .before .before in
     let rest = told .before .before .before .before .before .before .before .args .rest .now in
-    answered _ _ _ _ _ (by-verb Root rest (told .enum-told .given .1)) (c .before .before .root-line .ensures)
+    same-text _ _ _ _ _ (by-verb Root rest (told .enum-told .given .1)) (c .before .before .root-line .ensures)
 
 returns-2 : tie.Need-returns-2
 unfolding answerTo
@@ -30,7 +30,7 @@ returns-2 c =
     let told = c .before .before .before .before .before in
     let rest = told .before .before .before .before .before .before .before .args .rest .now in
     let given = told .verb .given in
-    answered _ _ _ _ _ (sym (last-computed (given .0 .0) rest) ∙ by-verb (Float (given .0 .0)) rest (given .1)) (c .before .before .float-line .ensures)
+    same-text _ _ _ _ _ (sym (last-computed (given .0 .0) rest) ∙ by-verb (Float (given .0 .0)) rest (given .1)) (c .before .before .float-line .ensures)
 
 returns-3 : tie.Need-returns-3
 unfolding answerTo
@@ -38,35 +38,35 @@ returns-3 c =
     let told = c .before .before .before .before .before .before .before .before in
     let rest = told .before .before .before .before .before .before .before .args .rest .now in
     let given = told .verb2 .given in
-    answered _ _ _ _ _ (sym (last-read (given .0 .0) rest) ∙ by-verb (Read (given .0 .0)) rest (given .1)) (c .before .before .before .before .read-line .ensures)
+    same-text _ _ _ _ _ (sym (last-read (given .0 .0) rest) ∙ by-verb (Read (given .0 .0)) rest (given .1)) (c .before .before .before .before .read-line .ensures)
 
 returns-4 : tie.Need-returns-4
 unfolding answerTo
 returns-4 c =
     let told = c .before .before .before .before .before .before .before .before .before .before in
     let rest = told .before .before .before .before .before .before .before .args .rest .now in
-    answered _ _ _ _ _ (by-verb Write rest (told .enum-told2 .given .1)) (c .before .before .before .before .before .before .write-line .ensures)
+    same-text _ _ _ _ _ (by-verb Write rest (told .enum-told2 .given .1)) (c .before .before .before .before .before .before .write-line .ensures)
 
 returns-5 : tie.Need-returns-5
 unfolding answerTo
 returns-5 c =
     let told = c .before .before .before .before .before .before .before .before .before .before .before .before .before in
     let rest = told .before .before .before .before .before .before .before .args .rest .now in
-    answered _ _ _ _ _ (by-verb Convert rest (told .enum-told3 .given .1)) (c .before .before .before .before .before .before .before .before .convert-line .ensures)
+    same-text _ _ _ _ _ (by-verb Convert rest (told .enum-told3 .given .1)) (c .before .before .before .before .before .before .before .before .convert-line .ensures)
 
 returns-6 : tie.Need-returns-6
 unfolding answerTo
 returns-6 c =
     let told = c .before .before .before .before .before .before .before in
     let rest = told .before .before .before .before .before .before .before .args .rest .now in
-    answered _ _ _ _ _ (by-verb Near rest (told .enum-told4 .given .1)) (c .before .before .before .before .near-line .ensures)
+    same-text _ _ _ _ _ (by-verb Near rest (told .enum-told4 .given .1)) (c .before .before .before .before .near-line .ensures)
 
 returns-7 : tie.Need-returns-7
 unfolding answerTo
 returns-7 c =
     let told = c .before .before .before .before in
     let rest = told .before .before .before .before .before .before .before .args .rest .now in
-    answered _ _ _ _ _ (by-verb Other rest (told .enum-told5 .given .1)) (c .before .before .put-other .ensures)
+    same-text _ _ _ _ _ (by-verb Other rest (told .enum-told5 .given .1)) (c .before .before .put-other .ensures)
 
 pub answer-to-spec : {M : Type 1} → statement M
 answer-to-spec =

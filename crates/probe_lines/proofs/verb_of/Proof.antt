@@ -5,7 +5,7 @@ use mathlib.Core.List.{List, [], _∷_}
 use Prim.Native.Nat.{ℕ}
 use lib.ListN.{drop}
 use Rattle.lines.specs.Text.{word}
-use Rattle.lines.proofs.Fields.{named, told}
+use Rattle.lines.proofs.Fields.{firstNamed, word-tested}
 use Rattle.probe_lines.specs.Line.{verbOf}
 use Rattle.probe_lines.specs.declared.Verb.{Verb}
 use Rattle.probe_lines.specs.declared.Verb.the-variants.{Root, Float, Read, Write, Convert, Near, Other}
@@ -22,7 +22,7 @@ words =
     ∷ (word "read", Read Plain) ∷ (word "strict", Read Strict) ∷ (word "write", Write) ∷ (word "conv", Convert) ∷ (word "near", Near) ∷ []
 
 abbrev from : ℕ → List ℕ → Verb
-from n w = named (drop n words) Other w
+from n w = firstNamed (drop n words) Other w
 
 -- the word that is asked for, after each test that failed
 abbrev asked1 : tie.Else1 → List ℕ
@@ -30,80 +30,80 @@ asked1 c = c .before .before .before .before .args .word .now
 
 past1 : (c : tie.Else1) → verbOf (asked1 c) ≡ from 1 (asked1 c)
 unfolding verbOf
-past1 c = told false (c .before .same .ensures) (c .if1 .left) _ _
+past1 c = word-tested false (c .before .same .ensures) (c .if1 .left) _ _
 
 abbrev asked2 : tie.Else2 → List ℕ
 asked2 c = asked1 (c .before .before .before)
 
 past2 : (c : tie.Else2) → verbOf (asked2 c) ≡ from 2 (asked2 c)
-past2 c = past1 (c .before .before .before) ∙ told false (c .before .same2 .ensures) (c .if2 .left) _ _
+past2 c = past1 (c .before .before .before) ∙ word-tested false (c .before .same2 .ensures) (c .if2 .left) _ _
 
 abbrev asked3 : tie.Else3 → List ℕ
 asked3 c = asked2 (c .before .before .before)
 
 past3 : (c : tie.Else3) → verbOf (asked3 c) ≡ from 3 (asked3 c)
-past3 c = past2 (c .before .before .before) ∙ told false (c .before .same3 .ensures) (c .if3 .left) _ _
+past3 c = past2 (c .before .before .before) ∙ word-tested false (c .before .same3 .ensures) (c .if3 .left) _ _
 
 abbrev asked4 : tie.Else4 → List ℕ
 asked4 c = asked3 (c .before .before .before)
 
 past4 : (c : tie.Else4) → verbOf (asked4 c) ≡ from 4 (asked4 c)
-past4 c = past3 (c .before .before .before) ∙ told false (c .before .same4 .ensures) (c .if4 .left) _ _
+past4 c = past3 (c .before .before .before) ∙ word-tested false (c .before .same4 .ensures) (c .if4 .left) _ _
 
 abbrev asked5 : tie.Else5 → List ℕ
 asked5 c = asked4 (c .before .before .before)
 
 past5 : (c : tie.Else5) → verbOf (asked5 c) ≡ from 5 (asked5 c)
-past5 c = past4 (c .before .before .before) ∙ told false (c .before .same5 .ensures) (c .if5 .left) _ _
+past5 c = past4 (c .before .before .before) ∙ word-tested false (c .before .same5 .ensures) (c .if5 .left) _ _
 
 abbrev asked6 : tie.Else6 → List ℕ
 asked6 c = asked5 (c .before .before .before)
 
 past6 : (c : tie.Else6) → verbOf (asked6 c) ≡ from 6 (asked6 c)
-past6 c = past5 (c .before .before .before) ∙ told false (c .before .same6 .ensures) (c .if6 .left) _ _
+past6 c = past5 (c .before .before .before) ∙ word-tested false (c .before .same6 .ensures) (c .if6 .left) _ _
 
 abbrev asked7 : tie.Else7 → List ℕ
 asked7 c = asked6 (c .before .before .before)
 
 past7 : (c : tie.Else7) → verbOf (asked7 c) ≡ from 7 (asked7 c)
-past7 c = past6 (c .before .before .before) ∙ told false (c .before .same7 .ensures) (c .if7 .left) _ _
+past7 c = past6 (c .before .before .before) ∙ word-tested false (c .before .same7 .ensures) (c .if7 .left) _ _
 
 abbrev asked8 : tie.Else8 → List ℕ
 asked8 c = asked7 (c .before .before .before)
 
 past8 : (c : tie.Else8) → verbOf (asked8 c) ≡ from 8 (asked8 c)
-past8 c = past7 (c .before .before .before) ∙ told false (c .before .same8 .ensures) (c .if8 .left) _ _
+past8 c = past7 (c .before .before .before) ∙ word-tested false (c .before .same8 .ensures) (c .if8 .left) _ _
 
 returns : tie.Need-returns
 unfolding verbOf
-returns c = sym (told true (c .before .same .ensures) (c .if1 .taken) _ _)
+returns c = sym (word-tested true (c .before .same .ensures) (c .if1 .taken) _ _)
 
 returns-2 : tie.Need-returns-2
-returns-2 c = sym (past1 (c .before .before .before) ∙ told true (c .before .same2 .ensures) (c .if2 .taken) _ _)
+returns-2 c = sym (past1 (c .before .before .before) ∙ word-tested true (c .before .same2 .ensures) (c .if2 .taken) _ _)
 
 returns-3 : tie.Need-returns-3
-returns-3 c = sym (past2 (c .before .before .before) ∙ told true (c .before .same3 .ensures) (c .if3 .taken) _ _)
+returns-3 c = sym (past2 (c .before .before .before) ∙ word-tested true (c .before .same3 .ensures) (c .if3 .taken) _ _)
 
 returns-4 : tie.Need-returns-4
-returns-4 c = sym (past3 (c .before .before .before) ∙ told true (c .before .same4 .ensures) (c .if4 .taken) _ _)
+returns-4 c = sym (past3 (c .before .before .before) ∙ word-tested true (c .before .same4 .ensures) (c .if4 .taken) _ _)
 
 returns-5 : tie.Need-returns-5
-returns-5 c = sym (past4 (c .before .before .before) ∙ told true (c .before .same5 .ensures) (c .if5 .taken) _ _)
+returns-5 c = sym (past4 (c .before .before .before) ∙ word-tested true (c .before .same5 .ensures) (c .if5 .taken) _ _)
 
 returns-6 : tie.Need-returns-6
-returns-6 c = sym (past5 (c .before .before .before) ∙ told true (c .before .same6 .ensures) (c .if6 .taken) _ _)
+returns-6 c = sym (past5 (c .before .before .before) ∙ word-tested true (c .before .same6 .ensures) (c .if6 .taken) _ _)
 
 returns-7 : tie.Need-returns-7
-returns-7 c = sym (past6 (c .before .before .before) ∙ told true (c .before .same7 .ensures) (c .if7 .taken) _ _)
+returns-7 c = sym (past6 (c .before .before .before) ∙ word-tested true (c .before .same7 .ensures) (c .if7 .taken) _ _)
 
 returns-8 : tie.Need-returns-8
-returns-8 c = sym (past7 (c .before .before .before) ∙ told true (c .before .same8 .ensures) (c .if8 .taken) _ _)
+returns-8 c = sym (past7 (c .before .before .before) ∙ word-tested true (c .before .same8 .ensures) (c .if8 .taken) _ _)
 
 returns-9 : tie.Need-returns-9
-returns-9 c = sym (past8 (c .before .before .before) ∙ told true (c .before .same9 .ensures) (c .if9 .taken) _ _)
+returns-9 c = sym (past8 (c .before .before .before) ∙ word-tested true (c .before .same9 .ensures) (c .if9 .taken) _ _)
 
 returns-10 : tie.Need-returns-10
-returns-10 c = sym (past8 (c .before .before .before) ∙ told false (c .before .same9 .ensures) (c .if9 .left) _ _)
+returns-10 c = sym (past8 (c .before .before .before) ∙ word-tested false (c .before .same9 .ensures) (c .if9 .left) _ _)
 
 pub verb-of-spec : {M : Type 1} → statement M
 verb-of-spec =

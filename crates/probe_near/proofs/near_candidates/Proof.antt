@@ -8,8 +8,8 @@ use lib.ListN.{length, take, take-append-drop}
 use lib.Seq.{take-at, drop-at, length-take-le}
 use Rattle.distance.specs.declared.Distance.{Distance}
 use Rattle.lines.specs.Hex.{hexBytes}
-use Rattle.lines.specs.Fields.{spelled}
-use Rattle.lines.proofs.Fields.{answered, Puts, puts-then, put-there, spelled-part, spelled-whole}
+use Rattle.lines.specs.Fields.{fromHex}
+use Rattle.lines.proofs.Fields.{same-text, Puts, puts-then, put-there, spelled-part, spelled-whole}
 use Rattle.nearer.specs.Nearer.{nearerOf}
 use Rattle.probe_near.specs.Near.{nearerText, partsText, candidatesText}
 use borrow.Author.Needs.{needs}
@@ -41,21 +41,21 @@ returns : tie.Need-returns
 returns c =
     let k = c .before .before .before .before .before .before .before .before .before .before .before .before .before in
     let s = c .before .before .before .before .before .before .before .bytes in
-    answered _ _ _ _ _ (spelled-part (λ a. spelled (text k a) (second k)) (first k) (s .result) (s .ensures .0) (c .before .before .before .before .if1 .taken)) (c .before .before .put-other .ensures)
+    same-text _ _ _ _ _ (spelled-part (λ a. fromHex (text k a) (second k)) (first k) (s .result) (s .ensures .0) (c .before .before .before .before .if1 .taken)) (c .before .before .put-other .ensures)
 
 -- where the first field spells a blob
-by-first : (c : tie.Else1) → let k = c .before .before .before .before .before .before .before .before .before in spelled (text k (hexBytes (first k))) (second k) ≡ candidatesText (k .args .distance) (probe k) (first k) (second k)
+by-first : (c : tie.Else1) → let k = c .before .before .before .before .before .before .before .before .before in fromHex (text k (hexBytes (first k))) (second k) ≡ candidatesText (k .args .distance) (probe k) (first k) (second k)
 by-first c =
     let k = c .before .before .before .before .before .before .before .before .before in
     let s = c .before .before .before .bytes in
-    spelled-whole (λ a. spelled (text k a) (second k)) (first k) (s .result) (s .ensures .0) (c .if1 .left)
+    spelled-whole (λ a. fromHex (text k a) (second k)) (first k) (s .result) (s .ensures .0) (c .if1 .left)
 
 returns-2 : tie.Need-returns-2
 returns-2 c =
     let k = c .before .before .before .before .before .before .before .before .before .before .before .before .before .before .before .before .before .before in
     let s = c .before .before .before .before .before .before .before .bytes2 in
     let e = spelled-part (text k (hexBytes (first k))) (second k) (s .result) (s .ensures .0) (c .before .before .before .before .if2 .taken) in
-    answered _ _ _ _ _ (e ∙ by-first (c .before .before .before .before .before .before .before .before .before)) (c .before .before .put-other2 .ensures)
+    same-text _ _ _ _ _ (e ∙ by-first (c .before .before .before .before .before .before .before .before .before)) (c .before .before .put-other2 .ensures)
 
 -- the room with two blobs, and where they end
 abbrev from : tie.Else1 → ℕ
@@ -106,7 +106,7 @@ returns-3 c =
     let p = first-there (k .args .probe) (k .args .spelled .now) (omega (arith, k .pre)) in
     let put = parts-are (k .args .distance) (probe k) (hexBytes (first k)) (hexBytes (second k)) _ (k .args .probe) (from e1) (blobs e) (p .0) (put-two e1 .0) in
     let spelt = spelled-whole (text k (hexBytes (first k))) (second k) (t .result) (t .ensures .0) (e .if2 .left) in
-    answered _ _ _ _ _ (put ∙ spelt ∙ by-first e1) (c .before .before .put-blobs .ensures)
+    same-text _ _ _ _ _ (put ∙ spelt ∙ by-first e1) (c .before .before .put-blobs .ensures)
 
 pub near-candidates-spec : {M : Type 1} → statement M
 near-candidates-spec =

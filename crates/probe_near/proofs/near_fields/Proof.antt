@@ -2,8 +2,8 @@
 use mathlib.Core.Path.{_≡_, sym, ap, _∙_}
 use mathlib.Core.List.{List}
 use Prim.Native.Nat.{ℕ}
-use Rattle.lines.specs.Fields.{spelled}
-use Rattle.lines.proofs.Fields.{answered, spelled-part, spelled-all}
+use Rattle.lines.specs.Fields.{fromHex}
+use Rattle.lines.proofs.Fields.{same-text, spelled-part, spelled-all}
 use Rattle.vecdist_lines.specs.declared.Asked.{Asked}
 use Rattle.probe_near.specs.Near.{candidatesText, nearBy}
 use borrow.Author.Needs.{needs}
@@ -17,14 +17,14 @@ returns c = rw (c .before .before .before .before .enum-told .given .1) (c .befo
 abbrev text : tie.After-asked → List ℕ → List ℕ
 text c p = let a = c .before .before .before .before .before .before .before .args in candidatesText (c .asked .given .0 .0) p (a .first .now) (a .second .now)
 
-known : (c : tie.After-asked) → let a = c .before .before .before .before .before .before .before .args in spelled (text c) (a .probe .now) ≡ nearBy (a .asked) (a .probe .now) (a .first .now) (a .second .now)
+known : (c : tie.After-asked) → let a = c .before .before .before .before .before .before .before .args in fromHex (text c) (a .probe .now) ≡ nearBy (a .asked) (a .probe .now) (a .first .now) (a .second .now)
 known c = let a = c .before .before .before .before .before .before .before .args in ap (λ (x : Asked). nearBy x (a .probe .now) (a .first .now) (a .second .now)) (sym (c .asked .given .1))
 
 returns-2 : tie.Need-returns-2
 returns-2 c =
     let k = c .before .before .before .before .before .before .before .before .before .before in
     let s = c .before .before .before .before .before .before .before .bytes in
-    answered _ _ _ _ _ (spelled-part (text k) _ (s .result) (s .ensures .0) (c .before .before .before .before .if1 .taken) ∙ known k) (c .before .before .put-other2 .ensures)
+    same-text _ _ _ _ _ (spelled-part (text k) _ (s .result) (s .ensures .0) (c .before .before .before .before .if1 .taken) ∙ known k) (c .before .before .put-other2 .ensures)
 
 returns-3 : tie.Need-returns-3
 returns-3 c =
@@ -32,7 +32,7 @@ returns-3 c =
     let s = c .before .before .before .before .before .before .before .before .before .before .bytes in
     let a = k .before .before .before .before .before .before .before .args in
     let e = spelled-all (text k) (a .probe .now) (s .result) (a .spelled .now) (s .last .1 .0) (s .ensures .0, s .ensures .1 .0) (c .before .before .before .before .before .before .before .if1 .left) in
-    answered _ _ _ _ _ (e ∙ known k) (c .before .before .before .before .near-candidates .ensures)
+    same-text _ _ _ _ _ (e ∙ known k) (c .before .before .before .before .near-candidates .ensures)
 
 pub near-fields-spec : {M : Type 1} → statement M
 near-fields-spec =

@@ -7,7 +7,7 @@ use lib.ListN.{length, take, drop}
 use lib.Seq.{length-take-le}
 use Rattle.promises.proofs.Onto.{tail-lent}
 use Rattle.distance.specs.declared.Distance.{Distance}
-use Rattle.lines.proofs.Fields.{answered}
+use Rattle.lines.proofs.Fields.{same-text}
 use Rattle.nearer.specs.Nearer.{nearerOf}
 use Rattle.nearer.specs.declared.NearerAnswer.{NearerAnswer}
 use Rattle.probe_near.specs.Near.{nearerText, partsText}
@@ -34,7 +34,7 @@ returns : tie.Need-returns
 returns c =
     let a = c .before .before .before .before .before .before .before .before .before .before .before .args in
     let found = c .before .before .before .before .nearer in
-    answered _ _ _ _ _ (lent (a .distance) (a .probe) (a .pair) (a .blobs .now) (found .result) (found .ensures)) (c .before .before .put-nearer .ensures)
+    same-text _ _ _ _ _ (lent (a .distance) (a .probe) (a .pair) (a .blobs .now) (found .result) (found .ensures)) (c .before .before .put-nearer .ensures)
 
 pub put-blobs-spec : {M : Type 1} → statement M
 put-blobs-spec =

@@ -1,6 +1,6 @@
 -- `put_nearer` meets its contract: each arm puts its case of `nearerText`.
 use mathlib.Core.Path.{_≡_, sym, ap, _∙_}
-use Rattle.lines.proofs.Fields.{answered}
+use Rattle.lines.proofs.Fields.{same-text}
 use Rattle.vecdist_lines.specs.Line.{valueText, refusalText}
 use Rattle.vector_types.specs.declared.Refusal.{Refusal}
 use Rattle.nearer.specs.declared.Near.{Near}
@@ -25,32 +25,32 @@ refused e f = rw (e, f)
 returns : tie.Need-returns
 returns c =
     let told = c .before .before .before .before .before in
-    answered _ _ _ _ _ (nearest (told .before .before .before .answer .given .1) (told .enum-told .given .1)) (c .before .before .put-value .ensures)
+    same-text _ _ _ _ _ (nearest (told .before .before .before .answer .given .1) (told .enum-told .given .1)) (c .before .before .put-value .ensures)
 
 returns-2 : tie.Need-returns-2
 returns-2 c =
     let told = c .before .before .before .before .before in
-    answered _ _ _ _ _ (nearest (told .before .before .before .answer .given .1) (told .enum-told2 .given .1)) (c .before .before .put-value2 .ensures)
+    same-text _ _ _ _ _ (nearest (told .before .before .before .answer .given .1) (told .enum-told2 .given .1)) (c .before .before .put-value2 .ensures)
 
 returns-3 : tie.Need-returns-3
 returns-3 c =
     let told = c .before .before .before .before .before in
-    answered _ _ _ _ _ (refused (told .before .before .before .answer2 .given .1) (told .enum-told3 .given .1)) (c .before .before .put-refusal .ensures)
+    same-text _ _ _ _ _ (refused (told .before .before .before .answer2 .given .1) (told .enum-told3 .given .1)) (c .before .before .put-refusal .ensures)
 
 returns-4 : tie.Need-returns-4
 returns-4 c =
     let told = c .before .before .before .before .before in
-    answered _ _ _ _ _ (refused (told .before .before .before .answer2 .given .1) (told .enum-told4 .given .1)) (c .before .before .put-refusal2 .ensures)
+    same-text _ _ _ _ _ (refused (told .before .before .before .answer2 .given .1) (told .enum-told4 .given .1)) (c .before .before .put-refusal2 .ensures)
 
 returns-5 : tie.Need-returns-5
 returns-5 c =
     let told = c .before .before .before .before .before in
-    answered _ _ _ _ _ (refused (told .before .before .before .answer2 .given .1) (told .enum-told5 .given .1)) (c .before .before .put-refusal3 .ensures)
+    same-text _ _ _ _ _ (refused (told .before .before .before .answer2 .given .1) (told .enum-told5 .given .1)) (c .before .before .put-refusal3 .ensures)
 
 returns-6 : tie.Need-returns-6
 returns-6 c =
     let told = c .before .before .before .before .before in
-    answered _ _ _ _ _ (refused (told .before .before .before .answer2 .given .1) (told .enum-told6 .given .1)) (c .before .before .put-refusal4 .ensures)
+    same-text _ _ _ _ _ (refused (told .before .before .before .answer2 .given .1) (told .enum-told6 .given .1)) (c .before .before .put-refusal4 .ensures)
 
 pub put-nearer-spec : {M : Type 1} → statement M
 put-nearer-spec =

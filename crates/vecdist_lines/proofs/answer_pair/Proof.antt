@@ -7,8 +7,8 @@ use borrow.Rule.Slice.PartMut.{putMid}
 use lib.ListN.{length, take, length-append}
 use lib.Seq.{length-take-le}
 use Rattle.lines.specs.Hex.{hexBytes}
-use Rattle.lines.specs.Fields.{spelled}
-use Rattle.lines.proofs.Fields.{answered, puts-then, put-there, parted, spelled-part, spelled-whole}
+use Rattle.lines.specs.Fields.{fromHex}
+use Rattle.lines.proofs.Fields.{same-text, puts-then, put-there, parted, spelled-part, spelled-whole}
 use Rattle.distance.specs.Answer.{distanceOf}
 use Rattle.vecdist_lines.specs.declared.Asked.{Asked}
 use Rattle.vecdist_lines.specs.Line.{answerText, askedBy}
@@ -30,17 +30,17 @@ second c = c .before .before .before .before .before .before .args .second .now
 abbrev text : tie.After-asked → List ℕ → List ℕ → List ℕ
 text c a b = answerText (distanceOf (c .asked .given .0 .0) a b)
 
-known : (c : tie.After-asked) → spelled (λ a. spelled (text c a) (second c)) (first c) ≡ askedBy (c .before .before .before .before .before .before .args .asked) (first c) (second c)
+known : (c : tie.After-asked) → fromHex (λ a. fromHex (text c a) (second c)) (first c) ≡ askedBy (c .before .before .before .before .before .before .args .asked) (first c) (second c)
 known c = ap (λ (x : Asked). askedBy x (first c) (second c)) (sym (c .asked .given .1))
 
 returns-2 : tie.Need-returns-2
 returns-2 c =
     let s = c .before .before .before .before .before .before .before .bytes in
     let e = spelled-part _ _ (s .result) (s .ensures .0) (c .before .before .before .before .if1 .taken) in
-    answered _ _ _ _ _ (e ∙ known (c .before .before .before .before .before .before .before .before .before .before)) (c .before .before .put-other2 .ensures)
+    same-text _ _ _ _ _ (e ∙ known (c .before .before .before .before .before .before .before .before .before .before)) (c .before .before .put-other2 .ensures)
 
 -- where the first field spells a blob
-by-first : (c : tie.Else1) (x : List ℕ) → let k = c .before .before .before .before .before .before in x ≡ spelled (text k (hexBytes (first k))) (second k)
+by-first : (c : tie.Else1) (x : List ℕ) → let k = c .before .before .before .before .before .before in x ≡ fromHex (text k (hexBytes (first k))) (second k)
     → x ≡ askedBy (k .before .before .before .before .before .before .args .asked) (first k) (second k)
 by-first c x e = e ∙ spelled-whole _ _ (c .before .before .before .bytes .result) (c .before .before .before .bytes .ensures .0) (c .if1 .left) ∙ known (c .before .before .before .before .before .before)
 
@@ -48,7 +48,7 @@ returns-3 : tie.Need-returns-3
 returns-3 c =
     let s = c .before .before .before .before .before .before .before .bytes2 in
     let e = spelled-part _ _ (s .result) (s .ensures .0) (c .before .before .before .before .if2 .taken) in
-    answered _ _ _ _ _ (by-first (c .before .before .before .before .before .before .before .before .before) _ e) (c .before .before .put-other3 .ensures)
+    same-text _ _ _ _ _ (by-first (c .before .before .before .before .before .before .before .before .before) _ e) (c .before .before .put-other3 .ensures)
 
 -- the blobs, one after the other
 abbrev blobs : tie.Else2 → List ℕ
@@ -89,7 +89,7 @@ returns-4 c =
     let parts = parted (both e) (s .ensures .0) in
     let put = ap answerText (c .before .before .before .before .vector-distance .ensures) ∙ ap₂ (text k) (parts .0) (parts .1) in
     let x = put ∙ spelled-whole _ _ (t .result) (t .ensures .0) (e .if2 .left) in
-    answered _ _ _ _ _ (by-first (e .before .before .before .before .before) _ x) (c .before .before .put-answer .ensures)
+    same-text _ _ _ _ _ (by-first (e .before .before .before .before .before) _ x) (c .before .before .put-answer .ensures)
 
 pub answer-pair-spec : {M : Type 1} → statement M
 answer-pair-spec =

@@ -5,7 +5,7 @@ use mathlib.Core.List.{List, [], _∷_}
 use Prim.Native.Nat.{ℕ}
 use lib.ListN.{drop}
 use Rattle.lines.specs.Text.{word}
-use Rattle.lines.proofs.Fields.{named, told}
+use Rattle.lines.proofs.Fields.{firstNamed, word-tested}
 use Rattle.distance.specs.declared.Distance.the-variants.{Cos, L2, Dot, Jaccard}
 use Rattle.vecdist_lines.specs.Line.{askedOf}
 use Rattle.vecdist_lines.specs.declared.Asked.{Asked}
@@ -19,7 +19,7 @@ abbrev words : List (List ℕ × Asked)
 words = (word "cos", Known Cos) ∷ (word "l2", Known L2) ∷ (word "dot", Known Dot) ∷ (word "jac", Known Jaccard) ∷ []
 
 abbrev from : ℕ → List ℕ → Asked
-from n field = named (drop n words) Unknown field
+from n field = firstNamed (drop n words) Unknown field
 
 -- the field that is asked about, after each test that failed
 abbrev field1 : tie.Else1 → List ℕ
@@ -27,35 +27,35 @@ field1 c = c .before .before .before .before .args .field .now
 
 past1 : (c : tie.Else1) → askedOf (field1 c) ≡ from 1 (field1 c)
 unfolding askedOf
-past1 c = told false (c .before .same .ensures) (c .if1 .left) _ _
+past1 c = word-tested false (c .before .same .ensures) (c .if1 .left) _ _
 
 abbrev field2 : tie.Else2 → List ℕ
 field2 c = field1 (c .before .before .before)
 
 past2 : (c : tie.Else2) → askedOf (field2 c) ≡ from 2 (field2 c)
-past2 c = past1 (c .before .before .before) ∙ told false (c .before .same2 .ensures) (c .if2 .left) _ _
+past2 c = past1 (c .before .before .before) ∙ word-tested false (c .before .same2 .ensures) (c .if2 .left) _ _
 
 abbrev field3 : tie.Else3 → List ℕ
 field3 c = field2 (c .before .before .before)
 
 past3 : (c : tie.Else3) → askedOf (field3 c) ≡ from 3 (field3 c)
-past3 c = past2 (c .before .before .before) ∙ told false (c .before .same3 .ensures) (c .if3 .left) _ _
+past3 c = past2 (c .before .before .before) ∙ word-tested false (c .before .same3 .ensures) (c .if3 .left) _ _
 
 returns : tie.Need-returns
 unfolding askedOf
-returns c = sym (told true (c .before .same .ensures) (c .if1 .taken) _ _)
+returns c = sym (word-tested true (c .before .same .ensures) (c .if1 .taken) _ _)
 
 returns-2 : tie.Need-returns-2
-returns-2 c = sym (past1 (c .before .before .before) ∙ told true (c .before .same2 .ensures) (c .if2 .taken) _ _)
+returns-2 c = sym (past1 (c .before .before .before) ∙ word-tested true (c .before .same2 .ensures) (c .if2 .taken) _ _)
 
 returns-3 : tie.Need-returns-3
-returns-3 c = sym (past2 (c .before .before .before) ∙ told true (c .before .same3 .ensures) (c .if3 .taken) _ _)
+returns-3 c = sym (past2 (c .before .before .before) ∙ word-tested true (c .before .same3 .ensures) (c .if3 .taken) _ _)
 
 returns-4 : tie.Need-returns-4
-returns-4 c = sym (past3 (c .before .before .before) ∙ told true (c .before .same4 .ensures) (c .if4 .taken) _ _)
+returns-4 c = sym (past3 (c .before .before .before) ∙ word-tested true (c .before .same4 .ensures) (c .if4 .taken) _ _)
 
 returns-5 : tie.Need-returns-5
-returns-5 c = sym (past3 (c .before .before .before) ∙ told false (c .before .same4 .ensures) (c .if4 .left) _ _)
+returns-5 c = sym (past3 (c .before .before .before) ∙ word-tested false (c .before .same4 .ensures) (c .if4 .left) _ _)
 
 pub asked-of-spec : {M : Type 1} → statement M
 asked-of-spec =

@@ -1,6 +1,6 @@
 -- `put_answer` meets its contract: each arm puts its case of `answerText`.
 use mathlib.Core.Path.{_≡_}
-use Rattle.lines.proofs.Fields.{answered}
+use Rattle.lines.proofs.Fields.{same-text}
 use Rattle.vector_types.specs.declared.Refusal.{Refusal}
 use Rattle.distance.specs.declared.Which.{Which}
 use Rattle.distance.specs.declared.DistanceAnswer.{DistanceAnswer}
@@ -22,17 +22,17 @@ refused e f = rw (e, f)
 returns-2 : tie.Need-returns-2
 returns-2 c =
     let told = c .before .before .before .before .before in
-    answered _ _ _ _ _ (refused (told .before .before .before .answer2 .given .1) (told .enum-told .given .1)) (c .before .before .put-refusal .ensures)
+    same-text _ _ _ _ _ (refused (told .before .before .before .answer2 .given .1) (told .enum-told .given .1)) (c .before .before .put-refusal .ensures)
 
 returns-3 : tie.Need-returns-3
 returns-3 c =
     let told = c .before .before .before .before .before in
-    answered _ _ _ _ _ (refused (told .before .before .before .answer2 .given .1) (told .enum-told2 .given .1)) (c .before .before .put-refusal2 .ensures)
+    same-text _ _ _ _ _ (refused (told .before .before .before .answer2 .given .1) (told .enum-told2 .given .1)) (c .before .before .put-refusal2 .ensures)
 
 returns-4 : tie.Need-returns-4
 returns-4 c =
     let told = c .before .before .before .before .before in
-    answered _ _ _ _ _ (refused (told .before .before .before .answer2 .given .1) (told .enum-told3 .given .1)) (c .before .before .put-refusal3 .ensures)
+    same-text _ _ _ _ _ (refused (told .before .before .before .answer2 .given .1) (told .enum-told3 .given .1)) (c .before .before .put-refusal3 .ensures)
 
 pub put-answer-spec : {M : Type 1} → statement M
 put-answer-spec =

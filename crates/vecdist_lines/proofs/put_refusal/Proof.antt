@@ -5,7 +5,7 @@ use Prim.Native.Nat.{_+_}
 use Rattle.lines.specs.Text.{word}
 use Rattle.lines.specs.Printed.{headOf}
 use Rattle.promises.proofs.Onto.{copied}
-use Rattle.lines.proofs.Fields.{answered, puts-then}
+use Rattle.lines.proofs.Fields.{same-text, puts-then}
 use borrow.Author.Needs.{needs}
 use Rattle.vecdist_lines.proofs.put_refusal.Statement.{statement}
 use Rattle.vecdist_lines.proofs.put_refusal.Tie as tie
@@ -22,7 +22,7 @@ returns c =
     let m = copied name name _ (n .last .1 .0) (n .result) refl (n .ensures .0) (n .ensures .1) in
     let p = puts-then mark number (a .out .now) _ _ (h .result) _ (h .ensures) (d .ensures .0, d .ensures .1 .0) in
     let q = puts-then (mark ++ number) name (a .out .now) _ _ (h .result + d .result) _ p m in
-    answered _ _ (a .out .now) _ _ (append-assoc mark number name) q
+    same-text _ _ (a .out .now) _ _ (append-assoc mark number name) q
 
 pub put-refusal-spec : {M : Type 1} → statement M
 put-refusal-spec =

@@ -5,7 +5,7 @@ use Prim.Native.Nat.{ℕ}
 use Rattle.io.specs.Digits.{digits}
 use Rattle.promises.proofs.Onto.{copied}
 use Rattle.lines.proofs.Spelled.{length-digits}
-use Rattle.lines.proofs.Fields.{answered, puts-then}
+use Rattle.lines.proofs.Fields.{same-text, puts-then}
 use borrow.Author.Needs.{needs}
 use Rattle.vecdist_lines.proofs.put_value.Statement.{statement}
 use Rattle.vecdist_lines.proofs.put_value.Tie as tie
@@ -20,7 +20,7 @@ returns c =
     let text = digits 16 16 (n .result) in
     let m = copied mark mark (a .out .now) (h .last .1 .0) (h .result) refl (h .ensures .0) (h .ensures .1) in
     let put = puts-then mark text (a .out .now) _ _ (h .result) _ m (d .ensures .0 ∙ sym (length-digits 16 16 (n .result)), d .ensures .1) in
-    answered _ _ (a .out .now) _ _ (ap (λ (k : ℕ). mark ++ digits 16 16 k) (n .ensures)) put
+    same-text _ _ (a .out .now) _ _ (ap (λ (k : ℕ). mark ++ digits 16 16 k) (n .ensures)) put
 
 pub put-value-spec : {M : Type 1} → statement M
 put-value-spec =

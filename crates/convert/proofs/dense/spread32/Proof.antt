@@ -5,8 +5,8 @@ use borrow.Author.Needs.{needs}
 use native.Mathlib.Omega.{arith}
 use lib.Ieee.{binary32}
 use lib.ListN.{length}
-use Rattle.elements.specs.Bytes.{bytesOf}
-use Rattle.elements.proofs.Numbers.{bytesOf-numberAt}
+use Rattle.little_endian.specs.Bytes.{bytesOf}
+use Rattle.little_endian.proofs.Numbers.{bytesOf-numberAt}
 use Rattle.convert.specs.Dense.{count as entries, spread}
 use Rattle.convert.proofs.Pieces.{Filled}
 use Rattle.convert.proofs.Spread.{spread-none, spread-room, spread-next, spread-all}

@@ -3,7 +3,7 @@ use mathlib.Core.Path.{ap}
 use Prim.Native.Nat.{_-_}
 use borrow.Author.Needs.{needs}
 use lib.Ieee.{binary64}
-use Rattle.elements.specs.Bytes.{bytesOf}
+use Rattle.little_endian.specs.Bytes.{bytesOf}
 use Rattle.convert.specs.Dense.{count as entries, spread}
 use Rattle.convert.proofs.Pieces.{Filled}
 use Rattle.convert.proofs.Spread.{spread-none, spread-room, spread-next, spread-all}

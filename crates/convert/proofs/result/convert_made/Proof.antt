@@ -1,5 +1,5 @@
 -- The length decides whether there is room.
-use Rattle.vector_types.specs.Layout.{is, counted}
+use Rattle.vector_types.specs.Layout.{hasByte, hasTrailingCount}
 use Rattle.convert.specs.Result.{made}
 use Rattle.convert.proofs.ByKind.{and-first}
 use Rattle.convert.proofs.Answered.{too-long, put-whole}
@@ -10,7 +10,7 @@ use Rattle.convert.proofs.result.convert_made.Tie as tie
 made-length-requires : tie.Need-made-length-requires
 made-length-requires c κs =
     let a = c .before .before in
-    (a .pre .0, (a .pre .1 .0, (a .pre .1 .1 .0, and-first (is 9 (a .args .kind)) _ (counted (a .args .target)) (a .pre .1 .1 .1 .0))))
+    (a .pre .0, (a .pre .1 .0, (a .pre .1 .1 .0, and-first (hasByte 9 (a .args .kind)) _ (hasTrailingCount (a .args .target)) (a .pre .1 .1 .1 .0))))
 
 returns : tie.Need-returns
 returns c =

@@ -5,7 +5,7 @@ use Prim.Native.Nat.{_*_}
 use native.Mathlib.Omega.{arith}
 use lib.ListN.{length, take, length-take}
 use lib.Ieee.{binary32}
-use Rattle.vector_types.specs.Layout.{byteOf, is}
+use Rattle.vector_types.specs.Layout.{byteOf, hasByte}
 use Rattle.vector_types.specs.declared.VectorType.the-variants.{Float32Dense, Float32Sparse}
 use Rattle.convert.specs.Dense.{spreadBody}
 use Rattle.convert.specs.Result.{resultOf}
@@ -64,7 +64,7 @@ put-made-requires c κs =
     let test = s .before .before in
     let a = s .before .before .before .before .before .before .before .before in
     let need = whole (test .before) ∙ ap length (sparse-through (a .args .dims) (a .args .body .now) (a .pre .1 .1 .0) (a .args .target) (a .pre .1 .1 .1)) in
-    (a .pre .0, (rw (front s) (dense-fits (a .args .dims) (a .args .body .now) (a .pre .1 .1 .0)), (refl, (refl, (rw (front s) need, (test .if2 .left, counted-by (λ t. is (byteOf t) Float32Dense ≡ false) refl refl (a .args .target) (a .pre .1 .1 .1)))))))
+    (a .pre .0, (rw (front s) (dense-fits (a .args .dims) (a .args .body .now) (a .pre .1 .1 .0)), (refl, (refl, (rw (front s) need, (test .if2 .left, counted-by (λ t. hasByte (byteOf t) Float32Dense ≡ false) refl refl (a .args .target) (a .pre .1 .1 .1)))))))
 
 returns-3 : tie.Need-returns-3
 returns-3 c =

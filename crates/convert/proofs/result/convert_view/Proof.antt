@@ -5,11 +5,11 @@ use mathlib.Core.List.{List}
 use Prim.Native.Nat.{ℕ}
 use native.Mathlib.Omega.{arith}
 use lib.ListN.{length-take, take}
-use Rattle.vector_types.specs.Layout.{is, counted}
+use Rattle.vector_types.specs.Layout.{hasByte, hasTrailingCount}
 use Rattle.vector_types.specs.Read.{readOf}
 use Rattle.vector_types.specs.declared.View.{View}
-use Rattle.vector_types.specs.declared.ReadAnswer.the-variants.{View as Seen}
-use Rattle.vector_types.proofs.Views.{told}
+use Rattle.vector_types.specs.declared.ReadAnswer.the-variants.{Accepted}
+use Rattle.vector_types.proofs.Views.{view-facts}
 use Rattle.vector_types.proofs.Written.{Writable, writable}
 use Rattle.vector_types.proofs.Rewritten.{body-is, rewritable}
 use Rattle.convert.proofs.ByKind.{sparse-kind}
@@ -19,17 +19,17 @@ use Rattle.convert.proofs.result.convert_view.Statement.{statement}
 use Rattle.convert.proofs.result.convert_view.Tie as tie
 
 slice-aggregate-body : tie.Need-slice-aggregate-body
-slice-aggregate-body c = simp length-take (omega (arith, told _ _ (c .before .before .before .before .before .pre) .within))
+slice-aggregate-body c = simp length-take (omega (arith, view-facts _ _ (c .before .before .before .before .before .pre) .within))
 
-shown : (s : List ℕ) (v : View) → readOf s ≡ Seen v → Writable (v .kind) (v .dims .0) (take (v .length) s)
+shown : (s : List ℕ) (v : View) → readOf s ≡ Accepted v → Writable (v .kind) (v .dims .0) (take (v .length) s)
 shown s v e = rw (← (body-is s v e)) (writable _ _ _ (rewritable s v e))
 
 -- from sparse to 1-bit and Float8
 takes : (c : tie.Then1) → let a = c .before .before .before .before .before .before .before .args in
-    (is 9 (a .view .kind) ≡ true) × (counted (a .target) ≡ true)
+    (hasByte 9 (a .view .kind) ≡ true) × (hasTrailingCount (a .target) ≡ true)
 takes c =
     let a = c .before .before .before .before .before .before .before .args in
-    and-eq-true-iff (is 9 (a .view .kind)) (counted (a .target)) .0 (sym (c .before .is-scratched .ensures) ∙ c .if1 .taken)
+    and-eq-true-iff (hasByte 9 (a .view .kind)) (hasTrailingCount (a .target)) .0 (sym (c .before .is-scratched .ensures) ∙ c .if1 .taken)
 
 convert-through-requires : tie.Need-convert-through-requires
 convert-through-requires c κs =
@@ -45,7 +45,7 @@ returns c =
     rw (body-is (a .args .blob .now) (a .args .view) (a .pre), sparse-kind (a .args .view .kind) sparse) (c .before .before .before .before .convert-through .ensures)
 
 -- the other pairs
-plain : (c : tie.Else1) → let a = c .before .before .before .before .before .before .before .args in (is 9 (a .view .kind) && counted (a .target)) ≡ false
+plain : (c : tie.Else1) → let a = c .before .before .before .before .before .before .before .args in (hasByte 9 (a .view .kind) && hasTrailingCount (a .target)) ≡ false
 plain c = sym (c .before .is-scratched .ensures) ∙ c .if1 .left
 
 convert-body-requires : tie.Need-convert-body-requires

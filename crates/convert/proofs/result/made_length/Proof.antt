@@ -1,7 +1,7 @@
 -- Each arm is its row of `sizeOf`.
 use mathlib.Core.Path.{sym, ap}
 use native.Mathlib.Omega.{arith}
-use Rattle.vector_types.specs.Layout.{is}
+use Rattle.vector_types.specs.Layout.{hasByte}
 use Rattle.convert.specs.Sparse.{stored}
 use Rattle.convert.proofs.Places.{places-few}
 use Rattle.convert.proofs.ByKind.{and-left}
@@ -13,7 +13,7 @@ use Rattle.convert.proofs.result.made_length.Tie as tie
 count-stored-requires : tie.Need-count-stored-requires
 count-stored-requires c κs =
     let a = c .before .before .before in
-    (a .pre .0, (a .pre .1 .0, and-left _ _ (a .pre .1 .1 .1) (ap (is 9) (c .enum-told3 .given .1))))
+    (a .pre .0, (a .pre .1 .0, and-left _ _ (a .pre .1 .1 .1) (ap (hasByte 9) (c .enum-told3 .given .1))))
 
 mul-result-3 : tie.Need-mul-result-3
 mul-result-3 c =

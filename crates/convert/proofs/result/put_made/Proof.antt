@@ -4,7 +4,7 @@ use mathlib.Core.Bool.{true, false, _||_}
 use Prim.Native.Nat.{_≤_}
 use native.Mathlib.Omega.{arith}
 use lib.ListN.{length}
-use Rattle.vector_types.specs.Layout.{byteOf, is, counted}
+use Rattle.vector_types.specs.Layout.{byteOf, hasByte, hasTrailingCount}
 use Rattle.vector_types.specs.declared.VectorType.{VectorType}
 use Rattle.vector_types.specs.declared.VectorType.the-variants.{Float32Dense, Float64Dense, Float32Sparse, Float1Bit, Float8}
 use Rattle.convert.specs.Result.{made}
@@ -26,11 +26,11 @@ room : (c : tie.After-slice-known) (u : VectorType) → let a = c .before .befor
 room c u e = omega (arith, exact c u e, c .before .before .pre .1 .1 .1 .1 .1 .0)
 
 -- from another kind
-other : (c : tie.After-slice-known) (u : VectorType) → let a = c .before .before .args in a .target ≡ u → is (byteOf u) (a .kind) ≡ false
+other : (c : tie.After-slice-known) (u : VectorType) → let a = c .before .before .args in a .target ≡ u → hasByte (byteOf u) (a .kind) ≡ false
 other c u e = rw e at (c .before .before .pre .1 .1 .1 .1 .1 .1)
 
 -- to these kinds from no sparse body
-plain : (c : tie.After-slice-known) → let a = c .before .before .args in (is 9 (a .target) || counted (a .target)) ≡ true → is 9 (a .kind) ≡ false
+plain : (c : tie.After-slice-known) → let a = c .before .before .args in (hasByte 9 (a .target) || hasTrailingCount (a .target)) ≡ true → hasByte 9 (a .kind) ≡ false
 plain c h = and-left _ _ (c .before .before .pre .1 .1 .1 .0) h
 
 put-dense32-requires : tie.Need-put-dense32-requires

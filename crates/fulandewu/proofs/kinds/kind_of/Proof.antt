@@ -4,7 +4,7 @@ use mathlib.Core.List.{[], _∷_}
 use Prim.Native.Nat.{ℕ, _%_}
 use native.Mathlib.Omega.{arith}
 use lib.ListN.{length}
-use Rattle.vector_types.specs.Layout.{named}
+use Rattle.vector_types.specs.Layout.{namedKind}
 use Rattle.vector_types.specs.declared.VectorType.the-variants.{Float32Dense, Float64Dense, Float32Sparse, Float1Bit, Float8}
 use Rattle.vector_types.proofs.Ends.{named-kind, named-5, named-6, named-other}
 use Rattle.fulandewu.specs.Kinds.{chosenOf}
@@ -16,35 +16,35 @@ odd : (b : ℕ) → length (b ∷ []) % 2 ≡ 0 → ⊥
 odd b e = omega (arith, e)
 
 returns : tie.Need-returns
-unfolding named
+unfolding namedKind
 returns c = let b = c .before .args .byte in sym (ap chosenOf (named-kind (b ∷ []) (odd b) Float32Dense (c .match .keys1)))
 
 returns-2 : tie.Need-returns-2
-unfolding named
+unfolding namedKind
 returns-2 c = let b = c .before .args .byte in sym (ap chosenOf (named-kind (b ∷ []) (odd b) Float64Dense (c .match .keys2)))
 
 returns-3 : tie.Need-returns-3
-unfolding named
+unfolding namedKind
 returns-3 c = let b = c .before .args .byte in sym (ap chosenOf (named-kind (b ∷ []) (odd b) Float1Bit (c .match .keys3)))
 
 returns-4 : tie.Need-returns-4
-unfolding named
+unfolding namedKind
 returns-4 c = let b = c .before .args .byte in sym (ap chosenOf (named-kind (b ∷ []) (odd b) Float8 (c .match .keys4)))
 
 returns-5 : tie.Need-returns-5
-unfolding named
+unfolding namedKind
 returns-5 c = let b = c .before .before .args .byte in c .refuse .ensures ∙ sym (ap chosenOf (named-5 (b ∷ []) (odd b) (c .before .match .keys5)))
 
 returns-6 : tie.Need-returns-6
-unfolding named
+unfolding namedKind
 returns-6 c = let b = c .before .before .args .byte in c .refuse2 .ensures ∙ sym (ap chosenOf (named-6 (b ∷ []) (odd b) (c .before .match .keys6)))
 
 returns-7 : tie.Need-returns-7
-unfolding named
+unfolding namedKind
 returns-7 c = let b = c .before .args .byte in sym (ap chosenOf (named-kind (b ∷ []) (odd b) Float32Sparse (c .match .keys7)))
 
 returns-8 : tie.Need-returns-8
-unfolding named
+unfolding namedKind
 returns-8 c =
     let b = c .before .before .args .byte in
     let r = c .before .match .rest in

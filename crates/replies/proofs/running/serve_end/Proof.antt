@@ -6,7 +6,7 @@ use lib.ListN.{length}
 use lib.Seq.{length-take-le}
 use Rattle.lines.specs.Served.{lastSaid}
 use Rattle.promises.proofs.Onto.{onto-within}
-use Rattle.replies.specs.Program.{answerOf}
+use Rattle.replies.specs.Program.{programReply}
 use borrow.Author.Needs.{needs}
 use Rattle.replies.proofs.running.serve_end.Statement.{statement}
 use Rattle.replies.proofs.running.serve_end.Tie as tie
@@ -16,7 +16,7 @@ fits c =
     let a = c .before .before .before .before .before .before .before .before .before .before .args in
     let f = c .finish in
     let same = f .kept .1 .1 .1 .1 .1 .1 .0 in
-    omega (arith, f .ensures .0, same, onto-within (lastSaid (answerOf (a .program)) (a .kept .now) (a .held)) (a .out .now) (f .last .1 .1 .1 .1 .1 .1 .0) (f .ensures .1) same)
+    omega (arith, f .ensures .0, same, onto-within (lastSaid (programReply (a .program)) (a .kept .now) (a .held)) (a .out .now) (f .last .1 .1 .1 .1 .1 .1 .0) (f .ensures .1) same)
 
 slice-reshare-prefix-write-all : tie.Need-slice-reshare-prefix-write-all
 slice-reshare-prefix-write-all c = omega (arith, fits (c .before .before .before .before .before .before .before .before))

@@ -5,7 +5,7 @@ use lib.ListN.{length}
 use Rattle.lines.specs.Output.{Stepped}
 use Rattle.lines.specs.declared.output.Step.{Step}
 use Rattle.lines.proofs.Serving.{stepped}
-use Rattle.replies.specs.Program.{answerOf}
+use Rattle.replies.specs.Program.{programReply}
 use borrow.Author.Needs.{needs}
 use Rattle.replies.proofs.running.serve_from.Statement.{statement}
 use Rattle.replies.proofs.running.serve_from.Tie as tie
@@ -20,7 +20,7 @@ steps c =
     let s = c .serve in
     let start = c .before .before .before .before .before .before .before .before .before .before .before .before in
     let a = start .args in
-    stepped (answerOf (a .program)) (a .kept .now) (a .chunk .now) (a .out .now) (s .last .1 .1 .1 .1 .1 .1 .1 .1 .0) (a .at) (a .start) (a .held) (s .result)
+    stepped (programReply (a .program)) (a .kept .now) (a .chunk .now) (a .out .now) (s .last .1 .1 .1 .1 .1 .1 .1 .1 .0) (a .at) (a .start) (a .held) (s .result)
     (s .ensures .0) (s .ensures .1 .1) (s .kept .1 .1 .1 .1 .1 .1 .1 .1 .0) (omega (arith, start .pre)) (omega (arith, start .pre))
 
 add-filled : tie.Need-add-filled

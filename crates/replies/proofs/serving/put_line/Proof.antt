@@ -7,7 +7,7 @@ use lib.Seq.{length-take-le}
 use Rattle.lines.specs.Text.{newline}
 use Rattle.lines.specs.Served.{heldAnswer}
 use Rattle.promises.proofs.Onto.{Ended, onto-ended}
-use Rattle.replies.specs.Program.{answerOf}
+use Rattle.replies.specs.Program.{programReply}
 use borrow.Author.Needs.{needs}
 use Rattle.replies.proofs.serving.put_line.Statement.{statement}
 use Rattle.replies.proofs.serving.put_line.Tie as tie
@@ -21,7 +21,7 @@ answer-held-requires c κs =
     (omega arith, ((omega arith, omega arith, omega arith), omega (arith, length-take-le (length out - 1) out (omega arith))))
 
 line : (c : tie.After-slice-known8) → let a = c .before .before .before .before .before .before .before .before .before .before .before .before .before .before .before .before .before .before .args in let s = c .before .before .before .before .before .before .before .before .answer-held in
-    Ended (heldAnswer (answerOf (a .program)) (a .kept .now) (a .held)) (a .out .now) (s .last .1 .1 .1 .1 .1 .1 .0) newline (s .result) (length (a .out .now) - 1)
+    Ended (heldAnswer (programReply (a .program)) (a .kept .now) (a .held)) (a .out .now) (s .last .1 .1 .1 .1 .1 .1 .0) newline (s .result) (length (a .out .now) - 1)
 line c = let s = c .before .before .before .before .before .before .before .before .answer-held in onto-ended (s .ensures .0) (s .ensures .1) (s .kept .1 .1 .1 .1 .1 .1 .0) (omega arith)
 
 slice-write-out : tie.Need-slice-write-out

@@ -8,14 +8,14 @@ use Rattle.lines.specs.Text.{newline}
 use Rattle.lines.specs.Printed.{headOf, replyOf}
 use Rattle.lines.specs.Served.{heldAnswer}
 use Rattle.promises.proofs.Onto.{onto-then, tail-within}
-use Rattle.replies.specs.Program.{answerOf}
+use Rattle.replies.specs.Program.{programReply}
 use borrow.Author.Needs.{needs}
 use Rattle.replies.proofs.serving.reply.Statement.{statement}
 use Rattle.replies.proofs.serving.reply.Tie as tie
 
 -- the answer and its newline
 abbrev line : tie.After-slice-known9 → List ℕ
-line c = let a = c .before .before .before .before .before .before .before .before .before .before .before .before .before .before .before .before .before .before .before .before .before .before .before .args in heldAnswer (answerOf (a .program)) (a .kept .now) (a .held) ++ (newline ∷ [])
+line c = let a = c .before .before .before .before .before .before .before .before .before .before .before .before .before .before .before .before .before .before .before .before .before .before .before .args in heldAnswer (programReply (a .program)) (a .kept .now) (a .held) ++ (newline ∷ [])
 
 add-result : tie.Need-add-result
 add-result c =

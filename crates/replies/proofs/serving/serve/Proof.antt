@@ -5,7 +5,7 @@ use native.Mathlib.Omega.{arith}
 use lib.ListN.{length, drop}
 use Rattle.lines.proofs.Pieces.{taken-held}
 use Rattle.lines.proofs.Serving.{served-ended, served-open}
-use Rattle.replies.specs.Program.{answerOf}
+use Rattle.replies.specs.Program.{programReply}
 use borrow.Author.Needs.{needs}
 use Rattle.replies.proofs.serving.serve.Statement.{statement}
 use Rattle.replies.proofs.serving.serve.Tie as tie
@@ -35,7 +35,7 @@ returns c =
     let t = took .take in
     let a = took .before .before .before .before .before .before .before .before .args in
     let rest = drop (a .at) (a .chunk .now) in
-    let s = served-ended (answerOf (a .program)) (a .kept .now) rest (a .at) (a .held) (t .result) (t .ensures .0)
+    let s = served-ended (programReply (a .program)) (a .kept .now) rest (a .at) (a .held) (t .result) (t .ensures .0)
     (t .last .1 .1 .0) (r .last .1 .1 .1 .1 .1 .1 .0) (a .out .now) (r .result) (c .next .result) (test .if1 .taken) (t .ensures .1) (c .next .ensures) (r .ensures) in
     (s .0, (t .ensures .1, s .1))
 
@@ -44,7 +44,7 @@ returns-2 c =
     let took = c .before .before .before .before in
     let t = took .take in
     let a = took .before .before .before .before .before .before .before .before .args in
-    let s = served-open (answerOf (a .program)) (a .kept .now) (drop (a .at) (a .chunk .now)) (a .at) (a .held) (t .result) (t .ensures .0) (a .out .now) (c .if1 .left) in
+    let s = served-open (programReply (a .program)) (a .kept .now) (drop (a .at) (a .chunk .now)) (a .at) (a .held) (t .result) (t .ensures .0) (a .out .now) (c .if1 .left) in
     (s .0, (t .ensures .1, s .1))
 
 pub serve-spec : {M : Type 1} → statement M

@@ -3,7 +3,7 @@ use mathlib.Core.Path.{refl, sym, _∙_}
 use native.Mathlib.Omega.{arith}
 use lib.ListN.{length-take}
 use Rattle.vector_types.specs.Parts.{bodyOf}
-use Rattle.vector_types.proofs.Views.{told}
+use Rattle.vector_types.proofs.Views.{view-facts}
 use borrow.Author.Needs.{needs}
 use Rattle.vector_types.proofs.parts.body.Statement.{statement}
 use Rattle.vector_types.proofs.parts.body.Tie as tie
@@ -11,7 +11,7 @@ use Rattle.vector_types.proofs.parts.body.Tie as tie
 slice-aggregate-result : tie.Need-slice-aggregate-result
 slice-aggregate-result c =
     let e = sym (c .before .before .before .before .read .ensures) ∙ c .before .before .view .given .1 in
-    simp length-take (omega (arith, told _ _ e .within))
+    simp length-take (omega (arith, view-facts _ _ e .within))
 
 returns : tie.Need-returns
 unfolding bodyOf

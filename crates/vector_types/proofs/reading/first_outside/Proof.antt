@@ -3,7 +3,7 @@ use mathlib.Core.Path.{sym, _∙_, ap}
 use Prim.Native.Nat.{_-_}
 use lib.Dec.{leb}
 use borrow.Author.Tests.{le-leb, lt-leb}
-use Rattle.vector_types.specs.Layout.{outside}
+use Rattle.vector_types.specs.Layout.{isOutside}
 use Rattle.vector_types.proofs.Search.{Searched, search-start, search-hit, search-miss, search-end}
 use borrow.Author.Needs.{needs}
 use native.Mathlib.Omega.{arith}
@@ -11,7 +11,7 @@ use Rattle.vector_types.proofs.reading.first_outside.Statement.{stateme
 use Rattle.vector_types.proofs.reading.first_outside.Tie as tie
 
 abbrev Inv-loop : tie.InvT-loop
-Inv-loop s count dims j₀ j = Searched (outside s count dims) count j
+Inv-loop s count dims j₀ j = Searched (isOutside s count dims) count j
 
 abbrev μ-loop : tie.MeasureT-loop
 μ-loop s count dims j₀ j = count - j

@@ -6,7 +6,7 @@ use native.Mathlib.Numerals.{add-one}
 use lib.Dec.{ltb, leb·suc-zero}
 use borrow.Author.Tests.{lt-ltb, le-ltb}
 use Rattle.vector_types.specs.Layout.{indexAt}
-use Rattle.vector_types.specs.Read.{falls}
+use Rattle.vector_types.specs.Read.{isBelowPrevious}
 use Rattle.vector_types.proofs.Search.{Searched, search-start, search-hit, search-miss, search-end}
 use native.Mathlib.Omega.{arith}
 use Rattle.vector_types.proofs.strictness.first_fall.Statement.{statement}
@@ -16,19 +16,19 @@ abbrev indexBefore : List ℕ → ℕ → ℕ → ℕ
 indexBefore s k zero = 0
 indexBefore s k (suc j) = indexAt s k j
 
-falls-below : (s : List ℕ) (k j : ℕ) → falls s k j ≡ ltb (indexAt s k j) (indexBefore s k j)
+falls-below : (s : List ℕ) (k j : ℕ) → isBelowPrevious s k j ≡ ltb (indexAt s k j) (indexBefore s k j)
 falls-below s k zero = sym (leb·suc-zero (indexAt s k zero))
 falls-below s k (suc j) = refl
 
 -- what one turn compares
-compared : (s : List ℕ) (k j : ℕ) {index last : ℕ} → index ≡ indexAt s k j → last ≡ indexBefore s k j → falls s k j ≡ ltb index last
+compared : (s : List ℕ) (k j : ℕ) {index last : ℕ} → index ≡ indexAt s k j → last ≡ indexBefore s k j → isBelowPrevious s k j ≡ ltb index last
 compared s k j e f = falls-below s k j ∙ rw (← e, ← f)
 
 before-next : (s : List ℕ) (k j : ℕ) → indexAt s k j ≡ indexBefore s k (j + 1)
 before-next s k j = rw (add-one j)
 
 abbrev Inv-loop : tie.InvT-loop
-Inv-loop s count last₀ j₀ last j = (last ≡ indexBefore s count j) × Searched (falls s count) count j
+Inv-loop s count last₀ j₀ last j = (last ≡ indexBefore s count j) × Searched (isBelowPrevious s count) count j
 
 abbrev μ-loop : tie.MeasureT-loop
 μ-loop s count last₀ j₀ last j = count - j

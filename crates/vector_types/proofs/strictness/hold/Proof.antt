@@ -8,45 +8,45 @@ use lib.Dec.{ltb}
 use lib.ListN.{length}
 use borrow.Author.Tests.{lt-ltb, le-ltb, eqb-true}
 use Rattle.vector_types.specs.Answers.{refused, refusal}
-use Rattle.vector_types.specs.Search.{first, some}
-use Rattle.vector_types.specs.Layout.{ceil, is, entries, lengthOf, fits, rowOf}
-use Rattle.vector_types.specs.Read.{readOf, strictOf, falls, unusedSet}
+use Rattle.vector_types.specs.Search.{firstIndex, anyIndex}
+use Rattle.vector_types.specs.Layout.{ceil, hasByte, entryCount, lengthOf, bodyFits, layoutRow}
+use Rattle.vector_types.specs.Read.{readOf, strictOf, isBelowPrevious, unusedSet}
 use Rattle.vector_types.specs.declared.View.{View}
 use Rattle.vector_types.specs.declared.VectorType.the-variants.{Float32Sparse, Float1Bit}
-use Rattle.vector_types.specs.declared.ReadAnswer.the-variants.{View as Seen}
-use Rattle.vector_types.proofs.Views.{told}
+use Rattle.vector_types.specs.declared.ReadAnswer.the-variants.{Accepted}
+use Rattle.vector_types.proofs.Views.{view-facts}
 use Rattle.vector_types.proofs.Strict.{strict-sparse, strict-bits, strict-other}
 use borrow.Author.Needs.{needs}
 use Rattle.vector_types.proofs.strictness.hold.Statement.{statement}
 use Rattle.vector_types.proofs.strictness.hold.Tie as tie
 
 -- what the code takes from the view is what the definitions take from the blob
-module _ (s : List ℕ) (v : View) (e : readOf s ≡ Seen v) where
-  count-is : v .kind ≡ Float32Sparse → entries s ≡ v .length / 8
-  unfolding rowOf
-  count-is h = let long : v .length ≡ lengthOf Float32Sparse s = told s v e .long ∙ rw h in omega arith
+module _ (s : List ℕ) (v : View) (e : readOf s ≡ Accepted v) where
+  count-is : v .kind ≡ Float32Sparse → entryCount s ≡ v .length / 8
+  unfolding layoutRow
+  count-is h = let long : v .length ≡ lengthOf Float32Sparse s = view-facts s v e .long ∙ rw h in omega arith
 
   length-is : v .kind ≡ Float1Bit → v .length ≡ ceil (v .dims .0) 8
-  unfolding fits
-  length-is h = eqb-true (v .length) (ceil (v .dims .0) 8) (rw h at (told s v e .fit))
+  unfolding bodyFits
+  length-is h = eqb-true (v .length) (ceil (v .dims .0) 8) (rw h at (view-facts s v e .fit))
 
   bits-within : v .kind ≡ Float1Bit → ceil (v .dims .0) 8 ≤ length s
-  bits-within h = omega (arith, length-is h, told s v e .within)
+  bits-within h = omega (arith, length-is h, view-facts s v e .within)
 
   by-falls : v .kind ≡ Float32Sparse → (b : Bool) (place : ℕ) → let count = v .length / 8 in
-      place ≡ first (falls s count) count → ltb place count ≡ b → strictOf s ≡ cond b (refused (refusal 10)) (Seen v)
+      place ≡ firstIndex (isBelowPrevious s count) count → ltb place count ≡ b → strictOf s ≡ cond b (refused (refusal 10)) (Accepted v)
   by-falls h b place p q =
-      let test : some (falls s (entries s)) (entries s) ≡ b = rw (count-is h, ← p) q in
-      strict-sparse s v e h ∙ ap (λ (t : Bool). cond t (refused (refusal 10)) (Seen v)) test
+      let test : anyIndex (isBelowPrevious s (entryCount s)) (entryCount s) ≡ b = rw (count-is h, ← p) q in
+      strict-sparse s v e h ∙ ap (λ (t : Bool). cond t (refused (refusal 10)) (Accepted v)) test
 
-  by-bits : v .kind ≡ Float1Bit → (b : Bool) → some (unusedSet s (v .dims .0)) (8 * ceil (v .dims .0) 8 - v .dims .0) ≡ b
-      → strictOf s ≡ cond b (refused (refusal 11)) (Seen v)
+  by-bits : v .kind ≡ Float1Bit → (b : Bool) → anyIndex (unusedSet s (v .dims .0)) (8 * ceil (v .dims .0) 8 - v .dims .0) ≡ b
+      → strictOf s ≡ cond b (refused (refusal 11)) (Accepted v)
   by-bits h b q =
-      let test : some (unusedSet s (v .dims .0)) (8 * v .length - v .dims .0) ≡ b = rw (length-is h) q in
-      strict-bits s v e h ∙ ap (λ (t : Bool). cond t (refused (refusal 11)) (Seen v)) test
+      let test : anyIndex (unusedSet s (v .dims .0)) (8 * v .length - v .dims .0) ≡ b = rw (length-is h) q in
+      strict-bits s v e h ∙ ap (λ (t : Bool). cond t (refused (refusal 11)) (Accepted v)) test
 
 first-fall-requires : tie.Need-first-fall-requires
-first-fall-requires c κs = omega (arith, told _ _ (c .before .before .before .before .pre) .within)
+first-fall-requires c κs = omega (arith, view-facts _ _ (c .before .before .before .before .pre) .within)
 
 returns : tie.Need-returns
 returns c =
@@ -78,13 +78,13 @@ returns-4 c =
     (sym (c .before .unused-set .ensures) ∙ c .if2 .left))
 
 returns-5 : tie.Need-returns-5
-returns-5 c = sym (strict-other _ _ (c .before .before .before .pre) (ap (is 9) (c .enum-told3 .given .1)) (ap (is 3) (c .enum-told3 .given .1)))
+returns-5 c = sym (strict-other _ _ (c .before .before .before .pre) (ap (hasByte 9) (c .enum-told3 .given .1)) (ap (hasByte 3) (c .enum-told3 .given .1)))
 
 returns-6 : tie.Need-returns-6
-returns-6 c = sym (strict-other _ _ (c .before .before .before .pre) (ap (is 9) (c .enum-told4 .given .1)) (ap (is 3) (c .enum-told4 .given .1)))
+returns-6 c = sym (strict-other _ _ (c .before .before .before .pre) (ap (hasByte 9) (c .enum-told4 .given .1)) (ap (hasByte 3) (c .enum-told4 .given .1)))
 
 returns-7 : tie.Need-returns-7
-returns-7 c = sym (strict-other _ _ (c .before .before .before .pre) (ap (is 9) (c .enum-told5 .given .1)) (ap (is 3) (c .enum-told5 .given .1)))
+returns-7 c = sym (strict-other _ _ (c .before .before .before .pre) (ap (hasByte 9) (c .enum-told5 .given .1)) (ap (hasByte 3) (c .enum-told5 .given .1)))
 
 pub hold-spec : {M : Type 1} → statement M
 hold-spec =

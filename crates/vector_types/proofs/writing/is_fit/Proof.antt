@@ -1,27 +1,27 @@
 -- Each arm is its row.
-use Rattle.vector_types.specs.Layout.{fits}
+use Rattle.vector_types.specs.Layout.{bodyFits}
 use borrow.Author.Needs.{needs}
 use Rattle.vector_types.proofs.writing.is_fit.Statement.{statement}
 use Rattle.vector_types.proofs.writing.is_fit.Tie as tie
 
 returns : tie.Need-returns
-unfolding fits
+unfolding bodyFits
 returns c = rw (c .before .enum-told .given .1)
 
 returns-2 : tie.Need-returns-2
-unfolding fits
+unfolding bodyFits
 returns-2 c = rw (c .before .enum-told2 .given .1)
 
 returns-3 : tie.Need-returns-3
-unfolding fits
+unfolding bodyFits
 returns-3 c = rw (c .enum-told3 .given .1)
 
 returns-4 : tie.Need-returns-4
-unfolding fits
+unfolding bodyFits
 returns-4 c = rw (c .before .enum-told4 .given .1)
 
 returns-5 : tie.Need-returns-5
-unfolding fits
+unfolding bodyFits
 returns-5 c = rw (c .before .enum-told5 .given .1, c .align4 .ensures)
 
 pub is-fit-spec : {M : Type 1} → statement M

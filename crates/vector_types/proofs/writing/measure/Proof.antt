@@ -5,8 +5,8 @@ use Prim.Native.Nat.{_+_}
 use lib.Dec.{ltb}
 use lib.ListN.{length}
 use borrow.Author.Tests.{lt-ltb, le-ltb}
-use Rattle.vector_types.specs.Layout.{longest, mostDims, fits}
-use Rattle.vector_types.specs.Answers.{none, firstOf, needing, written, unwritten}
+use Rattle.vector_types.specs.Layout.{maxBlobLength, maxDims, bodyFits}
+use Rattle.vector_types.specs.Answers.{none, firstGiven, needing, written, writeRefused}
 use Rattle.vector_types.specs.Write.{blobOf, writeRefusals, writeOf}
 use Rattle.vector_types.proofs.Tails.{tail-short, length-blob}
 use Rattle.vector_types.proofs.Written.{clear-short, clear-whole}
@@ -20,14 +20,14 @@ unfolding writeRefusals writeOf
 returns c = c .refuse .ensures ∙ simp (lt-ltb _ _ (c .before .if1 .taken))
 
 -- a test that failed, here and below
-few : (c : tie.Else1) → ltb mostDims (c .before .before .before .args .dims .0) ≡ false
+few : (c : tie.Else1) → ltb maxDims (c .before .before .before .args .dims .0) ≡ false
 few c = le-ltb _ _ (c .if1 .left)
 
 returns-2 : tie.Need-returns-2
 unfolding writeRefusals writeOf
 returns-2 c = c .refuse2 .ensures ∙ simp (few (c .before .before .before), ap not (sym (c .before .before .is-fit .ensures)) ∙ c .before .if2 .taken)
 
-fit : (c : tie.Else2) → let a = c .before .before .before .before .before .args in not (fits (a .kind) (a .dims .0) (length (a .body .now))) ≡ false
+fit : (c : tie.Else2) → let a = c .before .before .before .before .before .args in not (bodyFits (a .kind) (a .dims .0) (length (a .body .now))) ≡ false
 fit c = ap not (sym (c .before .is-fit .ensures)) ∙ c .if2 .left
 
 add-length : tie.Need-add-length
@@ -47,8 +47,8 @@ returns-3 c =
     c .refuse3 .ensures ∙ simp (few (l .before .before .before), fit (l .before), ← whole l, lt-ltb _ _ (c .before .if3 .taken))
 
 short : (c : tie.Else3) → let a = c .before .before .before .before .before .before .before .args in
-    ltb longest (length (blobOf (a .kind) (a .dims .0) (a .body .now))) ≡ false
-short c = sym (ap (ltb longest) (whole (c .before))) ∙ le-ltb _ _ (c .if3 .left)
+    ltb maxBlobLength (length (blobOf (a .kind) (a .dims .0) (a .body .now))) ≡ false
+short c = sym (ap (ltb maxBlobLength) (whole (c .before))) ∙ le-ltb _ _ (c .if3 .left)
 
 returns-4 : tie.Need-returns-4
 unfolding writeRefusals writeOf
@@ -67,7 +67,7 @@ returns-5 c =
 
 -- no other test holds
 clear : (c : tie.Else5) → let a = c .before .before .before .before .before .before .before .before .before .before .before .args in
-    firstOf (writeRefusals (a .kind) (a .dims .0) (a .body .now)) ≡ none
+    firstGiven (writeRefusals (a .kind) (a .dims .0) (a .body .now)) ≡ none
 unfolding writeRefusals
 clear c =
     let o = c .before .before in

@@ -1,7 +1,7 @@
 -- The type byte is stored after the four bytes of the dims.
 use mathlib.Core.Path.{refl}
 use Rattle.promises.proofs.Onto.{onto-put}
-use Rattle.elements.specs.Bytes.{bytesOf, put}
+use Rattle.little_endian.specs.Bytes.{bytesOf, put}
 use Rattle.vector_types.specs.Write.{tailOf}
 use Rattle.vector_types.proofs.Tails.{length-sparse}
 use borrow.Author.Needs.{needs}

@@ -2,7 +2,7 @@
 use Rattle.vector_types.specs.Layout.{ceil}
 use Rattle.vector_types.specs.Write.{tailOf}
 use Rattle.vector_types.proofs.Tails.{length-filler}
-use Rattle.elements.proofs.Numbers.{length-bytesOf}
+use Rattle.little_endian.proofs.Numbers.{length-bytesOf}
 use lib.ListN.{length-append}
 use borrow.Author.Needs.{needs}
 use native.Mathlib.Omega.{arith}

@@ -1,0 +1,19 @@
+-- The two halves' bytes are the whole's.
+use borrow.Author.Needs.{needs}
+use Rattle.little_endian.proofs.Put.{put-halves}
+use Rattle.little_endian.proofs.put_u32.Statement.{statement}
+use Rattle.little_endian.proofs.put_u32.Tie as tie
+
+returns : tie.Need-returns
+returns c =
+    let low = c .before .before .before .before .before .before in
+    let a = low .before .before .before .args in
+    rw (c .before .before .put-u162 .ensures, low .put-u16 .ensures) (put-halves 2 2 (a .v) (a .out .now) (a .at) (search needs))
+
+pub put-u32-spec : {M : Type 1} → statement M
+put-u32-spec =
+    tie.close
+    (tie.spec
+    (λ c. search needs) (λ c κs. search needs)
+    (λ c. search needs) (λ c. search needs) (λ c κs. search needs)
+    (λ c. search needs) returns)
