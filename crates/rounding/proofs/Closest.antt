@@ -1,4 +1,4 @@
--- A fraction's nearest whole number, `closest`: by one division, with a whole part taken off, and how large it is. Nothing here is about floats.
+-- `closest`, a fraction's nearest whole number, in whole numbers only: it is one division (`closest-by-division`), an even whole part may be taken off, and it has an upper bound. By cases of the comparison with one half.
 use mathlib.Core.Path.{_≡_, refl, sym, ap, _∙_}
 use Prim.Native.Nat.{ℕ, zero, suc, _+_, _-_, _*_, _/_, _%_, _≤_, _<_, compare, Ordering, Ordering·lt, Ordering·eq, Ordering·gt}
 use native.Mathlib.Nat.{le-trans, add-zero, add-assoc, add-suc, mul-comm, mul-add-div, mul-add-mod-self-left, mod-lt, mod-eq-of-lt, div-eq-of-lt, div-eq-of-lt-le, div-add-mod', div-lt-iff-lt-mul}
@@ -14,7 +14,7 @@ closest-le a d n p h = le-trans (nearest-le (a / d) (compare (a % d * 2) d)) (di
 pub closest-zero : (a d : ℕ) → a * 2 < d → closest a d ≡ 0
 closest-zero a d h = let l : a < d = omega arith in rw (div-eq-of-lt l, mod-eq-of-lt l, compare-lt (a * 2) d h)
 
--- ---- an even number more goes through the rounding
+-- ---- adding an even number commutes with rounding
 pub nearest-add-even : (n w : ℕ) (o : Ordering) → nearest (2 * n + w) o ≡ 2 * n + nearest w o
 nearest-add-even n w Ordering·lt = refl
 nearest-add-even n w Ordering·gt = sym (add-suc (2 * n) w)

@@ -1,4 +1,4 @@
--- What `compare` says of two whole numbers, and what it answers.
+-- `compare` on whole numbers: what each answer says, when it is given, and that both numbers may be scaled alike. By cases of the answer.
 use mathlib.Core.Path.{_≡_, refl, sym, ap, _∙_, subst}
 use Prim.Native.Nat.{ℕ, _*_, _≤_, _<_, compare, Ordering, Ordering·lt, Ordering·eq, Ordering·gt}
 use native.Mathlib.Nat.{le-of-eq, lt-of-le-of-lt, lt-of-lt-of-le, mul-lt-mul-of-pos-right, lt-of-mul-lt-mul-right, eq-of-mul-eq-mul-right}

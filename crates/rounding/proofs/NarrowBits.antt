@@ -1,4 +1,4 @@
--- Narrowing from pattern to pattern: the sign is carried over, and the pattern without it is `IsNarrowedPattern`'s; a NaN's pattern gives one pattern, and no other does.
+-- Narrowing from pattern to pattern: the sign is carried over, and the pattern without it is narrowed (`IsNarrowedPattern`). Every NaN's pattern gives that of `nan`, and no other pattern does.
 use mathlib.Core.Path.{_≡_, refl, sym, ap, _∙_, subst}
 use Prim.Native.Nat.{ℕ, _+_, _-_, _*_, _/_, _%_, _<_}
 use native.Mathlib.Nat.{zero-add, add-sub-of-le, le-of-suc-le-suc, lt-of-not-le}

@@ -2,7 +2,7 @@
 use mathlib.Core.Path.{_≡_, refl, sym, ap, _∙_, subst}
 use mathlib.Core.Logic.{_⊎_, inl, inr}
 use Prim.Native.Nat.{ℕ, zero, suc, _+_, _-_, _*_, _%_, _^_, _≤_, _<_, zero-le, compare, Ordering, Ordering·lt, Ordering·eq, Ordering·gt}
-use native.Mathlib.Nat.{add-comm, add-assoc, add-zero, two-pow-succ, le-refl, le-trans, le-of-eq, le-of-lt, le-of-suc-le-suc, le-antisymm, lt-irrefl, lt-of-lt-of-le, lt-of-le-of-lt, lt-of-not-le, eq-or-lt-of-le, mul-lt-mul-of-pos-right, lt-of-mul-lt-mul-right, eq-of-mul-eq-mul-right}
+use native.Mathlib.Nat.{add-le-add, add-comm, add-assoc, add-zero, two-pow-succ, le-refl, le-trans, le-of-eq, le-of-lt, le-of-suc-le-suc, le-antisymm, lt-irrefl, lt-of-lt-of-le, lt-of-le-of-lt, lt-of-not-le, eq-or-lt-of-le, mul-lt-mul-of-pos-right, lt-of-mul-lt-mul-right, eq-of-mul-eq-mul-right}
 use native.Mathlib.Numerals.{add-one}
 use native.Mathlib.Omega.{arith}
 use mathlib.Core.Bool.{Bool, true, false, not, _&&_, cond}
@@ -54,9 +54,6 @@ less-or-tie-antisym E F a b (inl l) k = absurd (lt-irrefl a (lt-of-lt-of-le l (l
 less-or-tie-antisym E F a b (inr t) (inl k) = absurd (lt-irrefl b (lt-of-lt-of-le k (le-of-eq (t .0))))
 less-or-tie-antisym E F a b (inr t) (inr u) = (t .0, t .1, u .1)
 
-add-le : (a b c : ℕ) → b ≤ c → a + b ≤ a + c
-add-le a b c h = omega arith
-
 odd-suc : (b r : ℕ) → b % 2 ≡ suc r → suc b % 2 ≡ 0
 odd-suc b r e = omega arith
 
@@ -85,7 +82,7 @@ module _ (f : Format) (s : Bool) (v : ℕ) (mid : ℕ → ℕ) (rising : Rising 
   midway a b = mid (count f a + count f b)
 
   midway-le : (a b c : ℕ) → b ≤ c → midway a b ≤ midway a c
-  midway-le a b c h = rising-le mid rising (count f a + count f b) (count f a + count f c) (add-le (count f a) (count f b) (count f c) (count-le f b c h))
+  midway-le a b c h = rising-le mid rising (count f a + count f b) (count f a + count f c) (add-le-add (le-refl (count f a)) (count-le f b c h))
 
   midway-lt : (a b c : ℕ) → b < c → midway a b < midway a c
   midway-lt a b c h = rising (count f a + count f b) (count f a + count f c) (add-lt (count f a) (count f b) (count f c) (count-lt f b c h))
@@ -226,7 +223,7 @@ module _ (f : Format) (s : Bool) (v : ℕ) (mid : ℕ → ℕ) (rising : Rising 
   unfolding pick
   pick-nearest = let a = last isNearer 64 0 in nearest-at a (between a (last-is 64 0 (inl refl) fails-beyond))
 
-  -- ---- the number lies from the pattern b's value on and below the next one's: the nearer of the two, midway the even one
+  -- ---- if the number lies from the value of the pattern b up to that of b + 1, the nearer of the two, at the midpoint the even one, is nearest
   lower-nearest : (b : ℕ) → b < ones f * hid f → midway b b ≤ v → v ≤ midway b (suc b) → (v ≡ midway b (suc b) → b % 2 ≡ 0) → Nearest f s v mid (signed f s b)
   lower-nearest b l from h e =
       nearest-at b (record {

@@ -1,4 +1,4 @@
--- A format's patterns, without their sign, from 0 to an infinity's: `count` rises from each to the next, and each value of the format has one. Over the format.
+-- A format's patterns, without their sign, from 0 to an infinity's: `count` is strictly increasing, and each value of the format has exactly one pattern. By a pattern's exponent and digits, for both formats at once.
 use mathlib.Core.Path.{_≡_, refl, sym, ap, _∙_}
 use mathlib.Core.Logic.{_⊎_, inl, inr}
 use Prim.Native.Nat.{ℕ, zero, suc, _+_, _-_, _*_, _/_, _%_, _^_, _≤_, _<_}
@@ -15,7 +15,7 @@ use lib.Ieee.Bits.{ofBits-fits, ofBits-toBits, toBits-ofBits, is-true, is-false}
 use lib.Ieee.Digits.{size-le}
 use lib.Ieee.Fits.{two, down-pos, kept-lt}
 use lib.Ieee.Exact.{HasValue, odd-sign}
-use Rattle.float_laws.proofs.Value.{held}
+use Rattle.float_laws.proofs.Value.{canonical}
 use Rattle.rounding.specs.Nearest.{HasSize}
 use Rattle.rounding.specs.Pick.{digitsOf, count}
 
@@ -105,8 +105,8 @@ digits-pos h b p q = go (eqb (b / h) 0) (eqb→eq (b / h) 0)
     go true z = let e : 0 * h + b % h ≡ b = rw (z tt) at (div-add-mod' b h) in omega arith
     go false z = omega arith
 
--- ---- patterns rise with their values
--- every pattern is such a k * hid + q, with room for one more in q
+-- ---- patterns are ordered as their values
+-- every pattern is a k * hid + q of this form, with q below 2 * hid
 pub record Decomposed (h b : ℕ) : Type 0 where
   pub k : ℕ
   pub q : ℕ
@@ -191,7 +191,7 @@ value-not-nan nan s a c v = absurd v
 value-not-nan (inf t) s a c v = tt
 value-not-nan (fin t m e) s a c v = tt
 
--- a pattern up to an infinity's is a value, of as many smallest values as it counts
+-- a pattern up to an infinity's has the size that it counts
 size-of-value : (f : Format) (s : Bool) (x : Float) (Z : ℕ) → T (fits f x) → HasValue x s Z (2 ^ low f) → HasSize f s x Z
 size-of-value f s nan Z t v = v
 size-of-value f s (inf u) Z t v = absurd v
@@ -235,7 +235,7 @@ finitePattern-lt f m e high =
 
 fits-lt : (f : Format) (s : Bool) (m : ℕ) (e : ℤ) → T (fits f (fin s m e)) → m * up e < 2 ^ suc (emax f) * down e
 fits-lt f s zero e t = rw (zero-mul (up e)) (mul-pos (pow-pos (suc (emax f))) (down-pos e))
-fits-lt f s (suc m) e t = held f s m e t .high
+fits-lt f s (suc m) e t = canonical f s m e t .high
 
 -- so a finite value above zero has a pattern below an infinity's
 pub toBits-lt : (f : Format) (m : ℕ) (e : ℤ) → T (fits f (fin false m e)) → toBits f (fin false m e) < ones f * hid f

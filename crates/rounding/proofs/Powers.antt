@@ -1,4 +1,4 @@
--- Powers of two in products and in shifts.
+-- Powers of two in products and in shifts: by adding exponents.
 use mathlib.Core.Path.{_≡_, refl, sym, ap, _∙_}
 use Prim.Native.Nat.{ℕ, zero, suc, _+_, _*_, _%_, _^_, _<_}
 use native.Mathlib.Nat.{one-mul, mul-assoc, pow-suc}
@@ -16,7 +16,7 @@ four-pow (suc j) = pow-suc 4 j ∙ ap (λ (x : ℕ). x * 4) (four-pow j) ∙ dou
 pub one-shl : (j : ℕ) → j < 64 → (1 * 2 ^ j) % 2 ^ 64 ≡ 2 ^ j
 one-shl j h = shl-exact {a = 1} 1 j 64 (lit≤ tt) (omega arith) ∙ one-mul (2 ^ j)
 
--- two products of powers with the same exponents in all
+-- two products of powers of two with the same sum of exponents
 pub pow-regroup : (m a b c d e : ℕ) → a + b + c ≡ d + e → m * 2 ^ a * 2 ^ b * 2 ^ c ≡ m * 2 ^ d * 2 ^ e
 pow-regroup m a b c d e h =
     regroup m (2 ^ a) (2 ^ b) (2 ^ c)

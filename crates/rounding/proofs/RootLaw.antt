@@ -102,7 +102,7 @@ module _ (f : Format) (m e w r : ℕ) (full : hid f ≤ m) (less : m < 2 * hid f
       let halves : e ≡ t + (k + k) = omega arith in
       ap (λ (x : ℕ). m * 2 ^ x) halves ∙ rw (pow-add 2 t (k + k), pow-add 2 k k) (sym (mul-assoc m (2 ^ t) (U * U)))
 
-  -- 2 ^ t is from 4 * h to 8 * h, so A is from the square of 2 * h on and below that of 4 * h
+  -- 4 * h ≤ 2 ^ t ≤ 8 * h, so (2 * h)² ≤ A < (4 * h)²
   A-ge : 2 * h * (2 * h) ≤ A
   A-ge =
       let power : 4 * h ≤ 2 ^ t = rw (four-hid f) (pow-mono {i = suc (prec f)} {j = t} (omega arith)) in
@@ -122,7 +122,7 @@ module _ (f : Format) (m e w r : ℕ) (full : hid f ≤ m) (less : m < 2 * hid f
   pub w-lt : w < 4 * h
   w-lt = root-lt (4 * h) root A-lt
 
-  -- the pattern from which on the root lies
+  -- the pattern of the largest value that is not above the root
   abbrev floor : ℕ
   floor = suc k * h + w / 2
 
@@ -150,7 +150,7 @@ module _ (f : Format) (m e w r : ℕ) (full : hid f ≤ m) (less : m < 2 * hid f
       high : (q U : ℕ) → A < 2 * q * (2 * q) → 0 < U * U → 4 * (A * (U * U)) < mid (q * (2 * U) + q * (2 * U))
       high q U l p = let g : A * (U * U) < 2 * q * (2 * q) * (U * U) = mul-lt-mul-of-pos-right l p in omega arith
 
-  -- the point midway is mean * U: an even w is below it, and an odd one would meet it only if A were odd
+  -- the midpoint is mean * U: the root is below it if w is even, above it if w is odd, and never at it, since A is even
   abbrev mean : ℕ
   mean = 2 * (w / 2) + 1
 

@@ -1,4 +1,4 @@
--- The root where nothing is to be rounded: zeros, infinities, numbers below zero, NaN; and which patterns are a NaN's. Over the format.
+-- The root of special values, which are not rounded: zeros, infinities, numbers below zero, NaN. By cases of the value, for both formats at once.
 use mathlib.Core.Path.{_≡_, refl, sym, ap, _∙_, subst}
 use mathlib.Core.Logic.{_⊎_, inl, inr}
 use Prim.Native.Nat.{ℕ, zero, suc, _*_, _≤_, _<_}

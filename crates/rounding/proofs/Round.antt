@@ -1,8 +1,8 @@
--- A fraction rounded to nearest: the value nearest to a / d * 2 ^ k smallest values is `closest a d` of them, 2 ^ k times, and `round`, by which sums and products round, is the nearest value. Over the format.
+-- A fraction rounded to nearest, for both formats at once: the value nearest to a / d * 2 ^ k smallest values is `closest a d` of them, 2 ^ k times, by the law of the two neighbours (`floor-nearest`). So `round`, by which sums and products round, gives the nearest value.
 use mathlib.Core.Path.{_≡_, sym, ap, _∙_, subst}
 use mathlib.Core.Logic.{_⊎_, inl, inr}
 use Prim.Native.Nat.{ℕ, suc, _+_, _-_, _*_, _/_, _%_, _^_, _≤_, _<_, compare, Ordering, Ordering·lt, Ordering·eq, Ordering·gt}
-use native.Mathlib.Nat.{add-suc, mul-pos, mul-le-mul-right, mul-lt-mul-of-pos-right, lt-of-mul-lt-mul-right, le-of-mul-le-mul-right, le-trans, le-antisymm, lt-of-not-le, le-of-lt, le-of-suc-le-suc, lt-of-le-of-lt, lt-suc-self, mod-lt, div-add-mod', div-div-eq-div-mul, le-div-iff-mul-le, eq-zero-or-pos}
+use native.Mathlib.Nat.{add-suc, add-le-add, le-refl, mul-pos, mul-le-mul-right, mul-lt-mul-of-pos-right, lt-of-mul-lt-mul-right, le-of-mul-le-mul-right, le-trans, le-antisymm, lt-of-not-le, le-of-lt, le-of-suc-le-suc, lt-of-le-of-lt, lt-suc-self, mod-lt, div-add-mod', div-div-eq-div-mul, le-div-iff-mul-le, eq-zero-or-pos}
 use native.Mathlib.Decide.{decLt}
 use native.Mathlib.Omega.{arith}
 use mathlib.Core.Bool.{Bool, cond}
@@ -23,13 +23,7 @@ use Rattle.rounding.proofs.Closest.{nearest-add-even}
 use Rattle.rounding.proofs.Patterns.{Full, full-suc, signed, signed-infinity, signed-value, hid-even, twice-hid, count-at, count-top, count-lt, count-le}
 use Rattle.rounding.proofs.Nearest.{Rising, floor-nearest, top-nearest}
 
-add-le : (a b c : ℕ) → b ≤ c → a + b ≤ a + c
-add-le a b c h = omega arith
-
-add-both : (a b : ℕ) → a ≤ b → a + a ≤ b + b
-add-both a b h = omega arith
-
--- ---- q digits kept, 2 ^ k times: the pattern k * hid + q, or an infinity's from there on
+-- ---- q * 2 ^ k smallest values are the pattern k * hid + q; from an infinity's pattern on, the infinity
 module _ (f : Format) (s : Bool) (q k : ℕ) (full : Full (hid f) k q) (most : q ≤ 2 * hid f) where
   signed-units : k * hid f + q < ones f * hid f → signed f s (k * hid f + q) ≡ units f s q k
   unfolding units
@@ -55,7 +49,7 @@ module _ (f : Format) (s : Bool) (N C a d k : ℕ) (pC : 0 < C) (pd : 0 < d) (sa
   abbrev U : ℕ
   U = 2 ^ k
 
-  -- the pattern of the value from which on N / C lies
+  -- the pattern of the largest value that is not above N / C
   abbrev floor : ℕ
   floor = k * hid f + a / d
 
@@ -127,18 +121,18 @@ module _ (f : Format) (s : Bool) (N C a d k : ℕ) (pC : 0 < C) (pd : 0 < d) (sa
       (floor-nearest f s (2 * N) mid rising floor l floor-le lt-next)
 
   pub nearest-finite : nearestPattern < ones f * hid f → Nearest f s (2 * N) mid (signed f s nearestPattern)
-  nearest-finite l = nearest-signed (lt-of-le-of-lt (add-le (k * hid f) (a / d) (closest a d) (nearest-ge (a / d) (compare (a % d * 2) d))) l)
+  nearest-finite l = nearest-signed (lt-of-le-of-lt (add-le-add (le-refl (k * hid f)) (nearest-ge (a / d) (compare (a % d * 2) d))) l)
 
   pub nearest-overflow : ones f * hid f ≤ nearestPattern → Nearest f s (2 * N) mid (inf s)
   nearest-overflow h = go (decLt floor (ones f * hid f))
     where
       go : Dec (floor < ones f * hid f) → Nearest f s (2 * N) mid (inf s)
       go (yes l) =
-          let most : nearestPattern ≤ suc floor = rw (← add-suc (k * hid f) (a / d)) (add-le (k * hid f) (closest a d) (suc (a / d)) (nearest-le (a / d) (compare (a % d * 2) d))) in
+          let most : nearestPattern ≤ suc floor = rw (← add-suc (k * hid f) (a / d)) (add-le-add (le-refl (k * hid f)) (nearest-le (a / d) (compare (a % d * 2) d))) in
           subst (λ (y : Float). Nearest f s (2 * N) mid y) (ap (signed f s) (le-antisymm (le-trans most l) h) ∙ signed-infinity f s) (nearest-signed l)
       go (no n) =
           let high = count-le f (ones f * hid f) floor (le-of-suc-le-suc (lt-of-not-le n)) in
-          top-nearest f s (2 * N) mid rising (le-trans (mul-le-mul-right C (add-both (count f (ones f * hid f)) (count f floor) high)) floor-le)
+          top-nearest f s (2 * N) mid rising (le-trans (mul-le-mul-right C (add-le-add high high)) floor-le)
 
   units-nearest : Nearest f s (2 * N) mid (units f s (closest a d) k)
   units-nearest = go (decLt nearestPattern (ones f * hid f))

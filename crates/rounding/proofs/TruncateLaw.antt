@@ -1,4 +1,4 @@
--- A float cut to a whole number from 0 to 255: by whether it is below 1, below 256, or neither.
+-- Truncation to 0..255: a float below 1 gives 0, one from 256 on 255, and between them the digits before the point are the answer. By comparing `count` with that of 1 and of 256.
 use mathlib.Core.Path.{_≡_, refl, sym, ap, _∙_, subst}
 use mathlib.Core.Logic.{inr}
 use Prim.Native.Nat.{ℕ, _+_, _-_, _*_, _/_, _%_, _^_, _≤_, _<_, min}

@@ -1,4 +1,4 @@
--- What `IsWholeRoot`, the contract of the whole root, says: w is the whole part of n's root. All that lies outside `whole` goes by these laws.
+-- What `IsWholeRoot` says: w * w ≤ n < (w + 1) * (w + 1), and what bounds w. By arithmetic. All that lies outside of `whole` cites these laws only.
 use Prim.Native.Nat.{ℕ, suc, _*_, _≤_, _<_}
 use native.Mathlib.Nat.{le-trans, le-of-suc-le-suc, lt-of-not-le, not-le-of-lt, mul-le-mul}
 use native.Mathlib.Omega.{arith}
@@ -10,7 +10,7 @@ square-le u = omega (arith, u .is)
 pub lt-next-square : {n w r : ℕ} → IsWholeRoot n w r → n < suc w * suc w
 lt-next-square u = omega (arith, u .is, u .small)
 
--- a root is at least p where p * p is within n, and below p where p * p is beyond it
+-- the root is at least p if p * p ≤ n, and below p if n < p * p
 pub root-ge : {n w r : ℕ} (p : ℕ) → IsWholeRoot n w r → p * p ≤ n → p ≤ w
 root-ge p u h = le-of-suc-le-suc (lt-of-not-le (λ g. not-le-of-lt (lt-next-square u) (le-trans (mul-le-mul g g) h)))
 

@@ -1,4 +1,4 @@
--- The inside of `whole`, in whole numbers: Newton's step stays at the root or above it and comes down, and one division gives as many digits again.
+-- The steps inside `whole`, in whole numbers: Newton's step never goes below the root and decreases, by the arithmetic-geometric mean; one division gives the remaining digits.
 use mathlib.Core.Path.{_≡_, ap, subst}
 use Prim.Native.Nat.{ℕ, zero, suc, _+_, _-_, _*_, _/_, _%_, _^_, _≤_, _<_}
 use native.Mathlib.Nat.{le-trans, le-of-eq, le-of-lt, lt-of-lt-of-le, lt-of-not-le, not-suc-le-zero, lt-suc-self, zero-lt-suc, mul-comm, mul-pos, mul-le-mul, mul-le-mul-left, mul-le-mul-right, le-of-mul-le-mul-right, div-lt-iff-lt-mul, div-add-mod', mod-lt}
@@ -23,7 +23,7 @@ product-le-mean a b m h = go (decLe a m)
     go (yes l) = below a b m l h
     go (no l) = let g = lt-of-not-le l in le-trans (le-of-eq (mul-comm a b)) (below b a m (omega arith) (omega arith))
 
--- from any guess r above 0 it is at the root or above it: one more than it, squared, is above n
+-- from any guess r above 0 it is not below the root: one more than it, squared, is above n
 pub newton-not-below : (n r : ℕ) → 0 < r → n < ((r + n / r) / 2 + 1) * ((r + n / r) / 2 + 1)
 newton-not-below n r h =
     let below-next : n < suc (n / r) * r = div-lt-iff-lt-mul h .0 (lt-suc-self (n / r)) in
@@ -33,7 +33,7 @@ pub sq-pos : (n r : ℕ) → n < r * r → 0 < r
 sq-pos n zero h = absurd (not-suc-le-zero h)
 sq-pos n (suc k) h = zero-lt-suc k
 
--- from a guess whose square is above n it is lower
+-- from a guess whose square is above n it is smaller than the guess
 pub newton-decreases : (n r : ℕ) → n < r * r → (r + n / r) / 2 < r
 newton-decreases n r h = let q : n / r < r = div-lt-iff-lt-mul (sq-pos n r h) .1 h in omega arith
 
@@ -42,7 +42,7 @@ newton-decreases n r h = let q : n / r < r = div-lt-iff-lt-mul (sq-pos n r h) .1
 pub extended-square : (s r b q u : ℕ) → q * (s * 2) + u ≡ r * b → (s * b + q) * (s * b + q) + u * b ≡ (s * s + r) * (b * b) + q * q
 extended-square s r b q u h = let e : (q * (s * 2) + u) * b ≡ r * b * b = ap (λ (x : ℕ). x * b) h in omega arith
 
--- the sizes of what it computes
+-- bounds of what it computes
 pub record ExtendBounds (s r b q u : ℕ) : Type 0 where
   pub product : r * b ≤ 2 ^ 55
   pub root-le : s * b ≤ 2 ^ 54

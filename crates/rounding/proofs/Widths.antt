@@ -1,4 +1,4 @@
--- The root's laws for a format's numbers as the code is handed them, and that every number on the way fits 64 digits.
+-- The root's laws for a format's numbers as the code is given them, by replacing them with the format's own, and that every number on the way fits 64 bits.
 use mathlib.Core.Path.{_≡_, refl, sym, ap, _∙_, subst}
 use Prim.Native.Nat.{ℕ, _+_, _-_, _*_, _/_, _%_, _^_, _≤_, _<_}
 use native.Mathlib.Nat.{le-trans, le-of-eq, lt-of-lt-of-le, mul-assoc, mul-le-mul, mul-lt-mul-of-pos-right}
@@ -13,7 +13,7 @@ use Rattle.rounding.specs.inner.Parts.{IsWholeRoot, IsNormalized, Widths
 use Rattle.rounding.proofs.Powers.{four-pow}
 use Rattle.rounding.proofs.RootLaw.{rootShift, shift-le-exponent, root-pattern-of, w-lt}
 
--- what holds of a format's own numbers holds of those handed over
+-- what holds of a format's own numbers holds of the numbers given
 with-widths : {f : Format} {p h l n : ℕ} (P : ℕ → ℕ → ℕ → Type 0) → Widths f p h l n → P (prec f) (hid f) (low f) → P p h l
 with-widths {f} {p} {h} {l} P W x = subst (λ (y : ℕ). P y h l) (sym (W .digits)) (subst (λ (y : ℕ). P (prec f) y l) (sym (W .lead)) (subst (λ (y : ℕ). P (prec f) (hid f) y) (sym (W .least)) x))
 
@@ -37,7 +37,7 @@ module _ {f : Format} {p h l n : ℕ} (W : Widths f p h l n) (b m e : ℕ) (some
   pub shift-le : rootShift p e ≤ e
   shift-le = with-widths (λ p h l. IsNormalized (digitsOf h b) (b / h - 1 + l) h m e → rootShift p e ≤ e) W (shift-le-exponent f b m e some) norm
 
-  -- ---- the number that is handed to the whole root
+  -- ---- the number of which the whole root is taken
   abbrev pub shifted : ℕ
   shifted = m * 2 ^ (rootShift p e - n * 2)
 
@@ -76,7 +76,7 @@ module _ {f : Format} {p h l n : ℕ} (W : Widths f p h l n) (b m e : ℕ) (some
   whole-root-lt w r root =
       with-widths (λ p h l. h ≤ m → m < 2 * h → rootShift p e ≤ e → IsWholeRoot (m * 2 ^ rootShift p e) w r → w < 4 * h) W (w-lt f m e w r) (norm .at-least) (norm .less-than) shift-le root
 
--- a finite value's pattern is a number of 64 digits
+-- a finite value's pattern fits 64 bits
 pub pattern-lt : {f : Format} {b r : ℕ} → IsRootPattern f b r → r < 2 ^ 64
 pattern-lt {f} R = lt-of-lt-of-le (R .finite) (most f)
   where
@@ -84,6 +84,6 @@ pattern-lt {f} R = lt-of-lt-of-le (R .finite) (most f)
     most binary32 = lit≤ tt
     most binary64 = lit≤ tt
 
--- and its value the root of the value that the pattern was written for
+-- and its value is the root of the value whose pattern it was taken of
 pub root-of-bits : {f : Format} {r : ℕ} (x : Float) → T (fits f x) → IsRootPattern f (toBits f x) r → IsRoot f x (ofBits f r)
 root-of-bits {f} {r} x t R = subst (λ (y : Float). IsRoot f y (ofBits f r)) (ofBits-toBits f x t) (R .is)

@@ -1,4 +1,4 @@
--- `rounding::truncate` meets its contract: below 1, below 256, or neither (`TruncateLaw`).
+-- `rounding::truncate` meets its contract: by whether x is below 1, below 256, or neither (`TruncateLaw`).
 use Rattle.rounding.proofs.TruncateLaw.{InRange, in-range, in-range-number, field-ge, field-lt, shifted-lt, shifted-truncated, truncated-above, truncated-below}
 use borrow.Author.Needs.{needs}
 use native.Mathlib.Omega.{arith}

@@ -1,4 +1,4 @@
--- `rounding::narrowing::narrow` meets its contract: NaN to NaN, and the pattern by `narrow_bits`, which is no NaN's then.
+-- `rounding::narrowing::narrow` meets its contract: a NaN gives NaN; else `narrow_bits` gives the pattern, which is no NaN's.
 use mathlib.Core.Path.{_≡_, ap, _∙_}
 use lib.Ieee.{binary32, binary64, toBits}
 use lib.Ieee.Bits.{ofBits-toBits}

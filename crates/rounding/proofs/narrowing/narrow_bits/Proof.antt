@@ -1,4 +1,4 @@
--- `rounding::narrowing::narrow_bits` meets its contract: by whether the f32 is normal, or the pattern a NaN's (`NarrowBits`).
+-- `rounding::narrowing::narrow_bits` meets its contract: by whether the f32 is normal, and whether the pattern is a NaN's (`NarrowBits`).
 use mathlib.Core.Logic.{inl, inr, ⊎-elim}
 use borrow.Author.Tests.{ltb-false}
 use Rattle.rounding.proofs.NarrowBits.{narrow-nan-bits, narrow-number-bits}

@@ -1,4 +1,4 @@
--- `rounding::narrowing::narrow_edge` meets its contract: an infinity's pattern where b is too large for an f32 (`NarrowLaw`); else by `narrow_small`.
+-- `rounding::narrowing::narrow_edge` meets its contract: an infinity's pattern where b is too large for an f32 (`narrow-large`); else by `narrow_small`.
 use mathlib.Core.Logic.{⊎-elim}
 use native.Mathlib.Nat.{not-le-of-lt}
 use Rattle.rounding.proofs.NarrowLaw.{narrow-large}

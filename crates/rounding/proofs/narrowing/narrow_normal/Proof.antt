@@ -1,4 +1,4 @@
--- `rounding::narrowing::narrow_normal` meets its contract: the law of a normal f32 (`NarrowLaw`).
+-- `rounding::narrowing::narrow_normal` meets its contract: the law of a normal f32 (`narrow-normal`).
 use mathlib.Core.Path.{sym, subst}
 use Rattle.rounding.specs.inner.Parts.{IsNarrowedPattern}
 use Rattle.rounding.proofs.NarrowLaw.{narrow-normal}

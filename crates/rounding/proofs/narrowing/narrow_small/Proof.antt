@@ -1,4 +1,4 @@
--- `rounding::narrowing::narrow_small` meets its contract: the place of the pattern's digits (`NarrowLaw`). Below 2 ^ 871 of the smallest values of an f64 nothing is left.
+-- `rounding::narrowing::narrow_small` meets its contract: the law of a small f32 (`narrow-small`). Below 2 ^ 871 of an f64's smallest values the answer is 0.
 use mathlib.Core.Path.{_≡_, sym, ap, _∙_, subst}
 use Prim.Native.Nat.{ℕ, _-_, _*_, _/_, _^_, _<_}
 use native.Mathlib.Nat.{div-lt-iff-lt-mul}

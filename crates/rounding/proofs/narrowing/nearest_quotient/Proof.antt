@@ -1,4 +1,4 @@
--- `rounding::narrowing::nearest_quotient` meets its contract: it is the one division of `closest-by-division`.
+-- `rounding::narrowing::nearest_quotient` meets its contract: it is the division of `closest-by-division`.
 use Rattle.rounding.proofs.Closest.{closest-by-division}
 use borrow.Author.Needs.{needs}
 use Rattle.rounding.proofs.narrowing.nearest_quotient.Statement.{statement}

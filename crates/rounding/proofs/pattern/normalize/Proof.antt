@@ -7,7 +7,7 @@ use native.Mathlib.Omega.{arith}
 use Rattle.rounding.proofs.pattern.normalize.Statement.{statement}
 use Rattle.rounding.proofs.pattern.normalize.Tie as tie
 
--- a number below hid, where m * 2 ^ e has hid as a part, is not m * 2 ^ e itself
+-- while a is below h and a * 2 ^ d is at least h, d is not 0
 exponent-pos : (a d m e h : ℕ) → a * 2 ^ d ≡ m * 2 ^ e → 0 < m → h ≤ 2 ^ e → a < h → 1 ≤ d
 exponent-pos a zero m e h i p l k =
     absurd (lt-irrefl a (lt-of-lt-of-le k (le-trans l (le-trans (le-of-eq (sym (one-mul (2 ^ e)))) (le-trans (mul-le-mul-right (2 ^ e) p) (le-of-eq (sym i ∙ mul-one a)))))))
