@@ -1,4 +1,4 @@
--- The root where nothing is to be rounded: zeros, infinities, numbers below zero, NaN; and which patterns are a NaN's. Over the format.
+-- The root of special values, which are not rounded: zeros, infinities, numbers below zero, NaN. By cases of the value, for both formats at once.
 use mathlib.Core.Path.{_≡_, refl, sym, ap, _∙_, subst}
 use mathlib.Core.Logic.{_⊎_, inl, inr}
 use Prim.Native.Nat.{ℕ, zero, suc, _*_, _≤_, _<_}
@@ -14,10 +14,10 @@ use Rattle.float_laws.proofs.Nan.{zero-by-zero, number-pattern}
 use Rattle.rounding.specs.Root.{IsRoot}
 use Rattle.rounding.proofs.Patterns.{toBits-lt}
 
-pub zero-is : (f : Format) → ofBits f 0 ≡ fin false 0 (pos 0)
+pub ofBits-zero : (f : Format) → ofBits f 0 ≡ fin false 0 (pos 0)
 unfolding ofBits
-zero-is binary32 = refl
-zero-is binary64 = refl
+ofBits-zero binary32 = refl
+ofBits-zero binary64 = refl
 
 -- ---- above zero: an infinity, or a finite number
 abbrev Above : Float → Type 0
@@ -34,7 +34,7 @@ above-zero (fin false (suc n) d) h = inr (n, d, refl)
 
 module _ (f : Format) (x : Float) (h : lt (ofBits f 0) x ≡ true) where
   above : Above x
-  above = above-zero x (rw (zero-is f) at h)
+  above = above-zero x (rw (ofBits-zero f) at h)
 
   pub above-number : T (not (isNan x))
   unfolding isNan
@@ -50,7 +50,7 @@ module _ (f : Format) (x : Float) (h : lt (ofBits f 0) x ≡ true) where
     where
       go : (toBits f x ≡ 0) ⊎ (0 < toBits f x) → 0 < toBits f x
       go (inr p) = p
-      go (inl z) = let e : x ≡ fin false 0 (pos 0) = sym (ofBits-toBits f x t) ∙ ap (ofBits f) z ∙ zero-is f in absurd (false≢true (rw (zero-is f, e) at h))
+      go (inl z) = let e : x ≡ fin false 0 (pos 0) = sym (ofBits-toBits f x t) ∙ ap (ofBits f) z ∙ ofBits-zero f in absurd (false≢true (rw (ofBits-zero f, e) at h))
 
   -- a pattern that is no finite number's is an infinity's
   pub infinite-root : T (fits f x) → ones f * hid f ≤ toBits f x → IsRoot f x x
@@ -64,21 +64,21 @@ module _ (f : Format) (x : Float) (h : lt (ofBits f 0) x ≡ true) where
 -- ---- a zero is its own root
 pub zero-root : (f : Format) (x : Float) → eq x (ofBits f 0) ≡ true → IsRoot f x x
 unfolding eq
-zero-root f x h = go x (rw (zero-is f) at h)
+zero-root f x h = go x (rw (ofBits-zero f) at h)
   where
-    some : (m : ℕ) (e : ℤ) → suc m * up e * 1 ≡ 0 * 1 * down e → ⊥
-    some m e h = lt-irrefl 0 (subst (λ (y : ℕ). 0 < y) (h ∙ zero-mul (down e)) (mul-pos (mul-pos (zero-lt-suc m) (up-pos e)) (zero-lt-suc 0)))
+    nonzero : (m : ℕ) (e : ℤ) → suc m * up e * 1 ≡ 0 * 1 * down e → ⊥
+    nonzero m e h = lt-irrefl 0 (subst (λ (y : ℕ). 0 < y) (h ∙ zero-mul (down e)) (mul-pos (mul-pos (zero-lt-suc m) (up-pos e)) (zero-lt-suc 0)))
 
     go : (x : Float) → eq x (fin false 0 (pos 0)) ≡ true → IsRoot f x x
     go nan h = refl
     go (inf s) h = absurd (false≢true h)
     go (fin s zero e) h = refl
-    go (fin s (suc m) e) h = absurd (some m e (eqb→eq (suc m * up e * 1) (0 * 1 * down e) (and-l (eqb (suc m * up e * 1) (0 * 1 * down e)) _ (subst T (sym h) tt))))
+    go (fin s (suc m) e) h = absurd (nonzero m e (eqb→eq (suc m * up e * 1) (0 * 1 * down e) (and-l (eqb (suc m * up e * 1) (0 * 1 * down e)) _ (subst T (sym h) tt))))
 
 -- ---- elsewhere it is NaN
-pub no-root : (f : Format) (x : Float) → lt (ofBits f 0) x ≡ false → eq x (ofBits f 0) ≡ false → IsRoot f x (div f (ofBits f 0) (ofBits f 0))
+pub nan-root : (f : Format) (x : Float) → lt (ofBits f 0) x ≡ false → eq x (ofBits f 0) ≡ false → IsRoot f x (div f (ofBits f 0) (ofBits f 0))
 unfolding lt eq
-no-root f x h k = rw (zero-by-zero f) (go x (rw (zero-is f) at h) (rw (zero-is f) at k))
+nan-root f x h k = rw (zero-by-zero f) (go x (rw (ofBits-zero f) at h) (rw (ofBits-zero f) at k))
   where
     level-zero : (s : Bool) (a b : ℕ) → a ≡ 0 → b ≡ 0 → level s a false b ≡ true
     level-zero true a b p q = rw (p, q)
@@ -94,5 +94,5 @@ no-root f x h k = rw (zero-by-zero f) (go x (rw (zero-is f) at h) (rw (zero-is f
     go (fin s zero e) h k = absurd (true≢false (sym (level-zero s (0 * up e * 1) (0 * 1 * down e) (ap (λ (y : ℕ). y * 1) (zero-mul (up e))) (zero-mul (down e))) ∙ k))
 
 -- ---- a pattern up to an infinity's is no NaN's
-pub no-nan : (f : Format) (b : ℕ) → b ≤ ones f * hid f → T (not (nanBits f b))
-no-nan f b h = number-pattern f b (le-trans (mod-le b (top f)) h)
+pub not-nan-bits : (f : Format) (b : ℕ) → b ≤ ones f * hid f → T (not (nanBits f b))
+not-nan-bits f b h = number-pattern f b (le-trans (mod-le b (top f)) h)
