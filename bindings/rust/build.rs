@@ -38,9 +38,9 @@ fn refuse_other_targets() {
     let (processor, width, system) = (about("ARCH"), about("POINTER_WIDTH"), about("OS"));
     if (&processor[..], &width[..], &system[..]) != ("x86_64", "64", "linux") {
         eprintln!(
-            "{} is for 64-bit x86-64 Linux, and this build is for {} of {} bits, {}.\n\
-             `--target x86_64-unknown-linux-gnu` builds for the former.",
-            ARCHIVE, processor, width, system
+            "{} is for 64-bit x86-64 Linux, and this build is for {}-bit {} {}.\n\
+             `cargo build --target x86_64-unknown-linux-gnu` builds for the former.",
+            ARCHIVE, width, processor, system
         );
         std::process::exit(1);
     }

@@ -38,14 +38,15 @@ static struct answer expect(struct request request, uint32_t refusal) {
     return a;
 }
 
+static void expect_field(const struct answer *a, enum field field, uint64_t value) {
+    if (a->field[field] != value)
+        fail("field %d is %llx and not %llx", (int)field, (unsigned long long)a->field[field],
+             (unsigned long long)value);
+}
+
 static void expect_which(struct request request, uint32_t refusal, uint64_t which) {
     struct answer a = expect(request, refusal);
     expect_field(&a, WHICH, which);
-}
-
-static void expect_field(const struct answer *a, enum field field, uint64_t value) {
-    if (a->field[field] != value) fail("field %d is %llx and not %llx", (int)field, (unsigned long long)a->field[field],
-                                       (unsigned long long)value);
 }
 
 static struct request on(enum export export, struct bytes a, struct bytes b, struct bytes c) {

@@ -229,6 +229,7 @@ struct replayed replay(const char *folder) {
     struct replayed counts = {0, 0, 0};
     struct text asked = contents(folder, "stdin"), stored = contents(folder, "stdout");
     char from[64];
+    snprintf(from, sizeof from, "%.60s", folder);
     now_from = from;
     for (unsigned long number = 1; asked.length > 0; number++) {
         struct text line = cut(&asked, '\n'), answer = cut(&stored, '\n');
@@ -241,7 +242,7 @@ struct replayed replay(const char *folder) {
         else counts.lines++;
     }
     if (stored.length > 0) fail("more answers than lines");
-    if (counts.lines == 0) fail("no line of %s was replayed", folder);
+    if (counts.lines == 0) fail("no line was replayed");
     now_from = "no input";
     return counts;
 }

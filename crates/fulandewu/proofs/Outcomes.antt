@@ -1,9 +1,12 @@
 -- What follows from an export's outcome: a field that is not written keeps every bit, no export writes a reserved field, and NaN is
 -- written as one pattern.
 use mathlib.Core.Path.{_≡_, refl, ap, _∙_}
+use mathlib.Core.Bool.{true, and-eq-true-iff}
 use mathlib.Core.List.{List, [], _∷_}
 use Prim.Native.Nat.{ℕ, _≤_}
 use native.Mathlib.Omega.{arith}
+use borrow.Author.Tests.{ltb-true}
+use lib.Dec.{ltb}
 use lib.ListN.{getD}
 use lib.Seq.{getD-set-other}
 use lib.Ieee.{nan, toBits}
@@ -19,10 +22,8 @@ use Rattle.distance.specs.declared.DistanceAnswer.{DistanceAnswer}
 use Rattle.distance.specs.declared.DistanceAnswer.the-variants.{Measured, Refused as DistanceRefused}
 use Rattle.nearer.specs.declared.NearerAnswer.{NearerAnswer}
 use Rattle.nearer.specs.declared.NearerAnswer.the-variants.{Nearer, Refused as NearerRefused}
-use Rattle.vector_types.specs.Write.{WriteOutcome}
-use Rattle.convert.specs.Convert.{ConvertOutcome}
-use Rattle.fulandewu.specs.Fields.{distanceField, firstReserved, setFields, Unwritten, ExportOutcome, exportOutcome}
-use Rattle.fulandewu.specs.Exported.{detailFields, readFields, writeFields, convertFields, distanceFields, nearerFields, readExport, writeExport, convertExport, distanceExport, nearerExport}
+use Rattle.fulandewu.specs.Fields.{distanceField, firstReserved, setFields, Unwritten, unreserved, ExportOutcome, exportOutcome}
+use Rattle.fulandewu.specs.Exported.{detailFields, readFields, writeFields, convertFields, distanceFields, nearerFields}
 
 -- equal outcomes of a function that is lent no buffer are equal beside buffers
 pub with-buffers : (buffers : List (List ℕ)) {x y : ExportOutcome} → x ≡ y → exportOutcome (x .number) (x .answer) buffers ≡ exportOutcome (y .number) (y .answer) buffers
@@ -32,44 +33,38 @@ pub unwritten-kept : (fs : List (ℕ × ℕ)) (before : List ℕ) (i : ℕ) → 
 unwritten-kept [] before i u = refl
 unwritten-kept (f ∷ fs) before i u = unwritten-kept fs _ i (u .1) ∙ getD-set-other before (f .0) i (f .1) 0 (u .0)
 
-detail-unreserved : (d : Detail) (i : ℕ) → firstReserved ≤ i → Unwritten i (detailFields d)
-detail-unreserved Nothing i r = tt
-detail-unreserved (Needs n) i r = (λ e. omega (arith, r, e), tt)
+apart : (fs : List (ℕ × ℕ)) → unreserved fs ≡ true → (i : ℕ) → firstReserved ≤ i → Unwritten i fs
+apart [] u i r = tt
+apart (f ∷ fs) u i r =
+    let (below, others) = and-eq-true-iff (ltb (f .0) firstReserved) (unreserved fs) .0 u in
+    (λ e. omega (arith, ltb-true (f .0) firstReserved below, r, e), apart fs others i r)
 
-read-unreserved : (a : ReadAnswer) (i : ℕ) → firstReserved ≤ i → Unwritten i (readFields a)
-read-unreserved (Accepted v) i r = (λ e. omega (arith, r, e), (λ e. omega (arith, r, e), (λ e. omega (arith, r, e), tt)))
-read-unreserved (ReadRefused x) i r = detail-unreserved (x .detail) i r
+pub reserved-kept : (fs : List (ℕ × ℕ)) → unreserved fs ≡ true → (before : List ℕ) (i : ℕ) → firstReserved ≤ i → getD (setFields fs before) i 0 ≡ getD before i 0
+reserved-kept fs u before i r = unwritten-kept fs before i (apart fs u i r)
 
-write-unreserved : (a : WriteAnswer) (i : ℕ) → firstReserved ≤ i → Unwritten i (writeFields a)
-write-unreserved (Written n) i r = (λ e. omega (arith, r, e), tt)
-write-unreserved (WriteRefused x) i r = detail-unreserved (x .detail) i r
+detail-unreserved : (d : Detail) → unreserved (detailFields d) ≡ true
+detail-unreserved Nothing = refl
+detail-unreserved (Needs n) = refl
 
-convert-unreserved : (a : ConvertAnswer) (i : ℕ) → firstReserved ≤ i → Unwritten i (convertFields a)
-convert-unreserved (Converted v) i r = (λ e. omega (arith, r, e), (λ e. omega (arith, r, e), tt))
-convert-unreserved (ConvertRefused x) i r = detail-unreserved (x .detail) i r
+pub read-unreserved : (a : ReadAnswer) → unreserved (readFields a) ≡ true
+read-unreserved (Accepted v) = refl
+read-unreserved (ReadRefused r) = detail-unreserved (r .detail)
 
-distance-unreserved : (a : DistanceAnswer) (i : ℕ) → firstReserved ≤ i → Unwritten i (distanceFields a)
-distance-unreserved (Measured x) i r = (λ e. omega (arith, r, e), tt)
-distance-unreserved (DistanceRefused x w) i r = (λ e. omega (arith, r, e), detail-unreserved (x .detail) i r)
+pub write-unreserved : (a : WriteAnswer) → unreserved (writeFields a) ≡ true
+write-unreserved (Written n) = refl
+write-unreserved (WriteRefused r) = detail-unreserved (r .detail)
 
-nearer-unreserved : (a : NearerAnswer) (i : ℕ) → firstReserved ≤ i → Unwritten i (nearerFields a)
-nearer-unreserved (Nearer n) i r = (λ e. omega (arith, r, e), (λ e. omega (arith, r, e), tt))
-nearer-unreserved (NearerRefused x w) i r = (λ e. omega (arith, r, e), detail-unreserved (x .detail) i r)
+pub convert-unreserved : (a : ConvertAnswer) → unreserved (convertFields a) ≡ true
+convert-unreserved (Converted v) = refl
+convert-unreserved (ConvertRefused r) = detail-unreserved (r .detail)
 
-pub read-reserved-kept : (a : ReadAnswer) (before : List ℕ) (i : ℕ) → firstReserved ≤ i → getD (readExport a before .answer) i 0 ≡ getD before i 0
-read-reserved-kept a before i r = unwritten-kept (readFields a) before i (read-unreserved a i r)
+pub distance-unreserved : (a : DistanceAnswer) → unreserved (distanceFields a) ≡ true
+distance-unreserved (Measured x) = refl
+distance-unreserved (DistanceRefused r w) = detail-unreserved (r .detail)
 
-pub write-reserved-kept : (o : WriteOutcome) (before : List ℕ) (i : ℕ) → firstReserved ≤ i → getD (writeExport o before .answer) i 0 ≡ getD before i 0
-write-reserved-kept o before i r = unwritten-kept (writeFields (o .answer)) before i (write-unreserved (o .answer) i r)
-
-pub convert-reserved-kept : (o : ConvertOutcome) (before : List ℕ) (i : ℕ) → firstReserved ≤ i → getD (convertExport o before .answer) i 0 ≡ getD before i 0
-convert-reserved-kept o before i r = unwritten-kept (convertFields (o .answer)) before i (convert-unreserved (o .answer) i r)
-
-pub distance-reserved-kept : (a : DistanceAnswer) (before : List ℕ) (i : ℕ) → firstReserved ≤ i → getD (distanceExport a before .answer) i 0 ≡ getD before i 0
-distance-reserved-kept a before i r = unwritten-kept (distanceFields a) before i (distance-unreserved a i r)
-
-pub nearer-reserved-kept : (a : NearerAnswer) (before : List ℕ) (i : ℕ) → firstReserved ≤ i → getD (nearerExport a before .answer) i 0 ≡ getD before i 0
-nearer-reserved-kept a before i r = unwritten-kept (nearerFields a) before i (nearer-unreserved a i r)
+pub nearer-unreserved : (a : NearerAnswer) → unreserved (nearerFields a) ≡ true
+nearer-unreserved (Nearer n) = refl
+nearer-unreserved (NearerRefused r w) = detail-unreserved (r .detail)
 
 pub nan-pattern : distanceFields (Measured nan) ≡ (distanceField, 0x7ff8_0000_0000_0000) ∷ []
 unfolding toBits

@@ -1,10 +1,12 @@
 -- What an export leaves of what it is lent. The lent answer is 32 numbers of 8 bytes, `struct fulandewu_answer` in C; a field is a place in it.
 use Prim.Native.Nat.{ℕ}
 use mathlib.Core.Path.{_≡_}
+use mathlib.Core.Bool.{Bool, true, _&&_}
 use mathlib.Core.List.{List, [], _∷_}
+use lib.Dec.{ltb}
 use lib.ListN.{set}
 
--- the fields, in an order that never changes; places 7 to 31 are for later
+-- the fields, in an order that never changes; those from `firstReserved` on are for later exports
 abbrev pub distanceField : ℕ
 distanceField = 0
 
@@ -34,10 +36,15 @@ abbrev pub setFields : List (ℕ × ℕ) → List ℕ → List ℕ
 setFields [] before = before
 setFields (f ∷ fs) before = setFields fs (set before (f .0) (f .1))
 
--- no value is set at a place
+-- a place is not among those of some fields
 abbrev pub Unwritten : ℕ → List (ℕ × ℕ) → Type 0
 Unwritten i [] = Unit {0}
 Unwritten i (f ∷ fs) = (i ≡ f .0 → ⊥) × Unwritten i fs
+
+-- no reserved place is among them
+abbrev pub unreserved : List (ℕ × ℕ) → Bool
+unreserved [] = true
+unreserved (f ∷ fs) = ltb (f .0) firstReserved && unreserved fs
 
 -- the outcome of a call: the number returned, and the answer and the lent buffers afterwards
 pub record ExportOutcome : Type 0 where

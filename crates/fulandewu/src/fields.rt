@@ -1,5 +1,5 @@
 // The answer that a caller lends, `struct fulandewu_answer` in C: 32 fields of 8 bytes each, in an order
-// that never changes. Those from 7 on are for later.
+// that never changes. Those from 7 on are for later exports: include/fulandewu.h names six of them.
 pub type Answer = [u64; 32];
 
 pub(crate) const DISTANCE: usize = 0;
