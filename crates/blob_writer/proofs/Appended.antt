@@ -1,13 +1,13 @@
 -- Reading from a body with more bytes after it: what stands in the body is read as from the body alone, and what follows it by its own places.
 use mathlib.Core.Path.{_≡_, refl, ap, _∙_}
 use mathlib.Core.List.{List, _++_}
-use Prim.Native.Nat.{ℕ, zero, suc, _+_, _-_, _*_, _/_, _%_, _<_, _≤_}
+use Prim.Native.Nat.{ℕ, zero, suc, _+_, _-_, _*_, _/_, _%_, _<_}
 use native.Mathlib.Omega.{arith}
 use lib.Dec.{leb}
 use lib.ListN.{length, getD, length-append, List·getD-append}
 use lib.Seq.{getD-append-add}
 use Rattle.vector_types.specs.Search.{anyIndex}
-use Rattle.vector_types.specs.Layout.{namedKind, byByte, lengthBeforeType, indexAt, isOutside}
+use Rattle.vector_types.specs.Layout.{namedKind, byByte, lengthBeforeType, isOutside}
 use Rattle.vector_types.specs.Read.{isBelowPrevious, unusedSet}
 use Rattle.vector_types.proofs.Bodies.{index-appended}
 use Rattle.vector_types.proofs.Ends.{odd-typed}

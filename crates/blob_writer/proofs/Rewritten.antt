@@ -23,7 +23,7 @@ use Rattle.vector_types.specs.declared.VectorType.{VectorType}
 use Rattle.vector_types.specs.declared.Named.the-variants.{Kind}
 use Rattle.vector_types.specs.declared.VectorType.the-variants.{Float32Dense, Float64Dense, Float32Sparse, Float1Bit, Float8}
 use Rattle.vector_types.specs.declared.ReadAnswer.the-variants.{Accepted, Refused}
-use Rattle.vector_types.proofs.Bodies.{length-body, body-inside, view-has-elements}
+use Rattle.vector_types.proofs.Bodies.{length-body, body-facts}
 use Rattle.vector_types.proofs.Views.{view-facts}
 use Rattle.vector_types.proofs.Bools.{and-three}
 use Rattle.vector_types.proofs.Ends.{named-typed, before-within}
@@ -88,14 +88,14 @@ module _ (s : List ℕ) (v : View) (e : readOf s ≡ Accepted v) where
 
   pub rewritable : firstGiven (writeRefusals (v .kind) (v .dims .0) (bodyOf s)) ≡ none
   rewritable =
-      let t = view-facts s v e in
+      let b = body-facts s v e in
       unrefused (v .kind) (v .dims .0) (bodyOf s)
       (record {
-        few = t .few;
-        fit = rw (length-body s v e) (t .fit);
-        short = omega (arith, blob-no-longer, t .short);
-        inside = body-inside s v e;
-        elements = view-has-elements s v e;
+        few = b .few;
+        fit = b .fit;
+        short = omega (arith, blob-no-longer, view-facts s v e .short);
+        inside = b .inside;
+        elements = b .elements;
       })
 
   pub blob-same : (readOf (blobFor v s) ≡ Accepted v) × (bodyOf (blobFor v s) ≡ bodyOf s)

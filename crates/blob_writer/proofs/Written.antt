@@ -11,7 +11,6 @@ use borrow.Author.Tests.{lt-ltb, le-ltb, ltb-false, eqb-true, eqb-false, not-fal
 use Rattle.little_endian.specs.Bytes.{bytesOf, u32At}
 use Rattle.little_endian.proofs.Numbers.{numberAt-left, numberAt-right, numberAt-bytesOf}
 use Rattle.vector_types.specs.Answers.{Given, none, given, firstGiven, unless, acceptedAs, needing}
-use Rattle.vector_types.specs.Search.{anyIndex}
 use Rattle.vector_types.specs.Layout.{maxBlobLength, maxDims, ceil, hasTrailingCount, bodyFits, byByte, hasIndexOutside}
 use Rattle.vector_types.specs.Read.{readOf}
 use Rattle.vector_types.specs.Parts.{bodyOf}

@@ -11,7 +11,7 @@ use Rattle.vector_types.specs.Layout.{namedKind, byByte, lengthBeforeType, body
 use Rattle.vector_types.specs.Read.{readOf, refusals, shown}
 use Rattle.vector_types.specs.Parts.{bodyOf}
 use Rattle.blob_writer.specs.Answers.{written, writeRefused}
-use Rattle.blob_writer.specs.Write.{tailOf, blobOf, writeRefusals, writeOf, WriteOutcome, outcome, writeOutcome}
+use Rattle.blob_writer.specs.Write.{tailOf, blobOf, writeRefusals, writeOf, outcome, writeOutcome}
 use Rattle.blob_writer.specs.Rewritten.{rewritten}
 use Rattle.vector_types.specs.declared.VectorType.{VectorType}
 use Rattle.vector_types.specs.declared.VectorType.the-variants.{Float32Dense, Float64Dense, Float32Sparse, Float1Bit, Float8}

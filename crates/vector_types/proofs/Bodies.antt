@@ -1,6 +1,6 @@
 -- What a view tells of its body, as bytes of their own: which they are, how many, that every index is below dims, and that it has elements
 -- where its kind must.
-use mathlib.Core.Path.{_≡_, refl, sym, ap, _∙_}
+use mathlib.Core.Path.{_≡_, refl, ap, _∙_}
 use mathlib.Core.Bool.{true, false, not, _&&_, and-eq-true-iff}
 use mathlib.Core.List.{List, _++_}
 use Prim.Native.Nat.{ℕ, _+_, _-_, _*_, _/_, _%_, _<_, _≤_}
@@ -8,10 +8,10 @@ use native.Mathlib.Omega.{arith}
 use lib.Dec.{leb, eqb}
 use lib.ListN.{length, take, drop, take-append-drop}
 use lib.Seq.{length-take-le}
-use borrow.Author.Tests.{eqb-true, leb-true, ne-eqb, not-true}
+use borrow.Author.Tests.{leb-true, ne-eqb, not-true}
 use Rattle.little_endian.proofs.Numbers.{numberAt-left}
 use Rattle.vector_types.specs.Search.{anyIndex}
-use Rattle.vector_types.specs.Layout.{hasTrailingCount, lengthBeforeType, trailingCount, entryCount, sparseDims, rowAccepts, dimsOf, indexAt, isOutside, hasIndexOutside, layoutRow}
+use Rattle.vector_types.specs.Layout.{maxDims, hasTrailingCount, lengthBeforeType, trailingCount, entryCount, sparseDims, rowAccepts, dimsOf, indexAt, isOutside, hasIndexOutside, bodyFits, layoutRow}
 use Rattle.vector_types.specs.Read.{readOf}
 use Rattle.vector_types.specs.Parts.{bodyOf, shownLength}
 use Rattle.vector_types.specs.Statements.{IndicesBelow}
@@ -49,6 +49,13 @@ has-elements Float8 s row =
     let tests = and-three (leb 14 n) (eqb ((n - 10) % 4) 0) (leb t 3) row in
     ne-eqb (dimsOf Float8 s) 0 (omega (arith, leb-true))
 
+-- what is known of the body of a view of kind k and dims d
+pub record BodyFacts (k : VectorType) (d : ℕ) (body : List ℕ) : Type 0 where
+  pub few : d ≤ maxDims
+  pub fit : bodyFits k d (length body) ≡ true
+  pub inside : hasIndexOutside k d body ≡ false
+  pub elements : (hasTrailingCount k && eqb d 0) ≡ false
+
 module _ (s : List ℕ) (v : View) (e : readOf s ≡ Accepted v) where
   facts : ViewFacts s v
   facts = view-facts s v e
@@ -60,9 +67,6 @@ module _ (s : List ℕ) (v : View) (e : readOf s ≡ Accepted v) where
   pub length-body : length (bodyOf s) ≡ v .length
   length-body = rw body-is (length-take-le (v .length) s (facts .within))
 
-  pub view-has-elements : (hasTrailingCount (v .kind) && eqb (v .dims .0) 0) ≡ false
-  view-has-elements = rw (facts .sized) (has-elements (v .kind) s (facts .accepts))
-
   -- ---- of a sparse blob
   pub view-indices-below : v .kind ≡ Float32Sparse → IndicesBelow s (entryCount s) (v .dims .0)
   unfolding layoutRow
@@ -71,7 +75,7 @@ module _ (s : List ℕ) (v : View) (e : readOf s ≡ Accepted v) where
       let (_, inside) = and-eq-true-iff (eqb (lengthBeforeType s) (4 + 8 * entryCount s)) (not outside) .0 (rw h at (facts .accepts)) in
       none-outside s (entryCount s) (v .dims .0) .0 (rw (facts .sized, h) (not-true outside inside))
 
-  pub entries-within : v .kind ≡ Float32Sparse → (v .length ≡ 8 * entryCount s) × (8 * entryCount s ≤ length s)
+  entries-within : v .kind ≡ Float32Sparse → (v .length ≡ 8 * entryCount s) × (8 * entryCount s ≤ length s)
   unfolding layoutRow
   entries-within h =
       let long : v .length ≡ 8 * entryCount s = facts .long ∙ rw h in
@@ -85,7 +89,7 @@ module _ (s : List ℕ) (v : View) (e : readOf s ≡ Accepted v) where
       let less : j < k = omega (arith, length-body) in
       rw (length-body, count, body-is, long, ← index-taken s k room j less) (view-indices-below h j less)
 
-  pub body-inside : hasIndexOutside (v .kind) (v .dims .0) (bodyOf s) ≡ false
+  body-inside : hasIndexOutside (v .kind) (v .dims .0) (bodyOf s) ≡ false
   body-inside = by-kind (v .kind) refl
     where
       by-kind : (k : VectorType) → v .kind ≡ k → hasIndexOutside k (v .dims .0) (bodyOf s) ≡ false
@@ -94,3 +98,11 @@ module _ (s : List ℕ) (v : View) (e : readOf s ≡ Accepted v) where
       by-kind Float32Sparse h = none-outside (bodyOf s) (length (bodyOf s) / 8) (v .dims .0) .1 (body-indices-below h)
       by-kind Float1Bit h = refl
       by-kind Float8 h = refl
+
+  pub body-facts : BodyFacts (v .kind) (v .dims .0) (bodyOf s)
+  body-facts = record {
+    few = facts .few;
+    fit = rw length-body (facts .fit);
+    inside = body-inside;
+    elements = rw (facts .sized) (has-elements (v .kind) s (facts .accepts));
+  }

@@ -1,7 +1,6 @@
 -- Kinds are told apart by their type bytes: each byte names its kind back.
 use mathlib.Core.Path.{_≡_, refl, sym, ap, _∙_}
 use mathlib.Core.Bool.{true}
-use Prim.Native.Nat.{ℕ}
 use borrow.Author.Tests.{eqb-true}
 use Rattle.vector_types.specs.Layout.{byteOf, hasByte, byByte}
 use Rattle.vector_types.specs.declared.VectorType.{VectorType}

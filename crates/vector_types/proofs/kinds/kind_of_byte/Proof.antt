@@ -37,8 +37,13 @@ unfolding byByte
 returns-8 c =
     let none = c .match .rest in
     simp (
-      ne-eqb _ 1 (none .0 .0 .0 .0 .0 .0 .1), ne-eqb _ 2 (none .0 .0 .0 .0 .0 .1), ne-eqb _ 3 (none .0 .0 .0 .0 .1), ne-eqb _ 4 (none .0 .0 .0 .1),
-      ne-eqb _ 5 (none .0 .0 .1), ne-eqb _ 6 (none .0 .1), ne-eqb _ 9 (none .1)
+      ne-eqb _ 1 (none .0 .0 .0 .0 .0 .0 .1),
+      ne-eqb _ 2 (none .0 .0 .0 .0 .0 .1),
+      ne-eqb _ 3 (none .0 .0 .0 .0 .1),
+      ne-eqb _ 4 (none .0 .0 .0 .1),
+      ne-eqb _ 5 (none .0 .0 .1),
+      ne-eqb _ 6 (none .0 .1),
+      ne-eqb _ 9 (none .1),
     )
 
 pub kind-of-byte-spec : {M : Type 1} → statement M

@@ -22,27 +22,27 @@ use Rattle.vector_types.proofs.strictness.check_strict.Tie as tie
 
 -- what the code takes from the view is what the definitions take from the blob
 module _ (s : List ℕ) (v : View) (e : readOf s ≡ Accepted v) where
-  count-is : v .kind ≡ Float32Sparse → entryCount s ≡ v .length / 8
+  count-by-length : v .kind ≡ Float32Sparse → entryCount s ≡ v .length / 8
   unfolding layoutRow
-  count-is h = let long : v .length ≡ lengthOf Float32Sparse s = view-facts s v e .long ∙ rw h in omega arith
+  count-by-length h = let long : v .length ≡ lengthOf Float32Sparse s = view-facts s v e .long ∙ rw h in omega arith
 
-  length-is : v .kind ≡ Float1Bit → v .length ≡ ceil (v .dims .0) 8
+  length-by-dims : v .kind ≡ Float1Bit → v .length ≡ ceil (v .dims .0) 8
   unfolding bodyFits
-  length-is h = eqb-true (v .length) (ceil (v .dims .0) 8) (rw h at (view-facts s v e .fit))
+  length-by-dims h = eqb-true (v .length) (ceil (v .dims .0) 8) (rw h at (view-facts s v e .fit))
 
   bits-within : v .kind ≡ Float1Bit → ceil (v .dims .0) 8 ≤ length s
-  bits-within h = omega (arith, length-is h, view-facts s v e .within)
+  bits-within h = omega (arith, length-by-dims h, view-facts s v e .within)
 
   by-order : v .kind ≡ Float32Sparse → (b : Bool) (place : ℕ) → let count = v .length / 8 in
       place ≡ firstIndex (isBelowPrevious s count) count → ltb place count ≡ b → strictOf s ≡ cond b (refused (refusal 10)) (Accepted v)
   by-order h b place p q =
-      let test : anyIndex (isBelowPrevious s (entryCount s)) (entryCount s) ≡ b = rw (count-is h, ← p) q in
+      let test : anyIndex (isBelowPrevious s (entryCount s)) (entryCount s) ≡ b = rw (count-by-length h, ← p) q in
       strict-sparse s v e h ∙ ap (λ (t : Bool). cond t (refused (refusal 10)) (Accepted v)) test
 
   by-bits : v .kind ≡ Float1Bit → (b : Bool) → anyIndex (unusedSet s (v .dims .0)) (8 * ceil (v .dims .0) 8 - v .dims .0) ≡ b
       → strictOf s ≡ cond b (refused (refusal 11)) (Accepted v)
   by-bits h b q =
-      let test : anyIndex (unusedSet s (v .dims .0)) (8 * v .length - v .dims .0) ≡ b = rw (length-is h) q in
+      let test : anyIndex (unusedSet s (v .dims .0)) (8 * v .length - v .dims .0) ≡ b = rw (length-by-dims h) q in
       strict-bits s v e h ∙ ap (λ (t : Bool). cond t (refused (refusal 11)) (Accepted v)) test
 
 first-below-previous-requires : tie.Need-first-below-previous-requires
