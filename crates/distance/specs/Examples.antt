@@ -137,5 +137,5 @@ unfolding distanceOf readOf bodyOf namedKind byByte lengthBeforeType bodyFits re
 document-table-holds = refl
 
 pub further-table-holds : Holds furtherTable
-unfolding distanceOf readOf bodyOf namedKind byByte lengthBeforeType bodyFits refusals shown firstFrom numberAt layoutRow running total merged add sub mul div neg eq lt ofInt ofBits
+unfolding distanceOf readOf bodyOf namedKind byByte lengthBeforeType bodyFits refusals shown firstFrom numberAt layoutRow running total root merged add sub mul div neg eq lt ofInt ofBits
 further-table-holds = refl

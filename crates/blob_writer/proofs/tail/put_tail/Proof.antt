@@ -23,8 +23,8 @@ put-count-requires : tie.Need-put-count-requires
 unfolding tailOf
 put-count-requires c κs =
     let d = c .before .before in
-    let told = d .before .before in
-    rw (d .trailing-bits .ensures) (rw (told .enum-told4 .given .1) at (told .before .before .before .pre .1))
+    let arm = d .before .before in
+    rw (d .trailing-bits .ensures) (rw (arm .enum-told4 .given .1) at (arm .before .before .before .pre .1))
 
 put-count-requires-2 : tie.Need-put-count-requires-2
 unfolding tailOf
