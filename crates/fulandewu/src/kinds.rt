@@ -24,7 +24,7 @@ pub(crate) fn kind_of(byte: u8) -> Chosen
     ensures { λ r. ⌜ r ≡ chosenOf (byByte byte) ⌝ }
 {
     match kind_of_byte(byte) {
-        Named::Kind(kind) => Chosen::Kind(kind),
+        Named::Kind(named) => Chosen::Kind(named),
         Named::Unsupported => refuse(2),
         Named::Unknown => refuse(3),
     }

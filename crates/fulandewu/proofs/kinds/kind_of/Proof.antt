@@ -4,7 +4,7 @@ use Rattle.fulandewu.proofs.kinds.kind_of.Statement.{statement}
 use Rattle.fulandewu.proofs.kinds.kind_of.Tie as tie
 
 returns : tie.Need-returns
-returns c = rw (← c .before .before .before .kind-of-byte .ensures, c .before .kind .given .1)
+returns c = rw (← c .before .before .before .kind-of-byte .ensures, c .before .named .given .1)
 
 returns-2 : tie.Need-returns-2
 returns-2 c = rw (← c .before .before .before .kind-of-byte .ensures, c .before .enum-told .given .1) (c .refuse .ensures)
