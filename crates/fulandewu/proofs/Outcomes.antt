@@ -14,8 +14,8 @@ use Rattle.vector_types.specs.declared.Detail.{Detail}
 use Rattle.vector_types.specs.declared.Detail.the-variants.{Nothing, Needs}
 use Rattle.vector_types.specs.declared.ReadAnswer.{ReadAnswer}
 use Rattle.vector_types.specs.declared.ReadAnswer.the-variants.{Accepted, Refused as ReadRefused}
-use Rattle.vector_types.specs.declared.WriteAnswer.{WriteAnswer}
-use Rattle.vector_types.specs.declared.WriteAnswer.the-variants.{Written, Refused as WriteRefused}
+use Rattle.blob_writer.specs.declared.WriteAnswer.{WriteAnswer}
+use Rattle.blob_writer.specs.declared.WriteAnswer.the-variants.{Written, Refused as WriteRefused}
 use Rattle.convert.specs.declared.ConvertAnswer.{ConvertAnswer}
 use Rattle.convert.specs.declared.ConvertAnswer.the-variants.{Converted, Refused as ConvertRefused}
 use Rattle.distance.specs.declared.DistanceAnswer.{DistanceAnswer}

@@ -3,15 +3,16 @@
 use Prim.Native.Nat.{ℕ}
 use mathlib.Core.List.{List, [], _∷_}
 use lib.Ieee.{toBits, binary64}
-use Rattle.vector_types.specs.Answers.{readNumber, writeNumber}
+use Rattle.vector_types.specs.Answers.{readNumber}
+use Rattle.blob_writer.specs.Answers.{writeNumber}
 use Rattle.vector_types.specs.Layout.{byteOf, byByte}
-use Rattle.vector_types.specs.Write.{WriteOutcome, outcome, writeOutcome}
+use Rattle.blob_writer.specs.Write.{WriteOutcome, outcome, writeOutcome}
 use Rattle.vector_types.specs.declared.Detail.{Detail}
 use Rattle.vector_types.specs.declared.Detail.the-variants.{Nothing, Needs}
 use Rattle.vector_types.specs.declared.ReadAnswer.{ReadAnswer}
 use Rattle.vector_types.specs.declared.ReadAnswer.the-variants.{Accepted, Refused as ReadRefused}
-use Rattle.vector_types.specs.declared.WriteAnswer.{WriteAnswer}
-use Rattle.vector_types.specs.declared.WriteAnswer.the-variants.{Written, Refused as WriteRefused}
+use Rattle.blob_writer.specs.declared.WriteAnswer.{WriteAnswer}
+use Rattle.blob_writer.specs.declared.WriteAnswer.the-variants.{Written, Refused as WriteRefused}
 use Rattle.convert.specs.Convert.{convertNumber, ConvertOutcome, outcome as leaving, convertOutcome}
 use Rattle.convert.specs.declared.ConvertAnswer.{ConvertAnswer}
 use Rattle.convert.specs.declared.ConvertAnswer.the-variants.{Converted, Refused as ConvertRefused}

@@ -11,18 +11,19 @@ use lib.ListN.{length, take, drop}
 use lib.Seq.{take-at}
 use lib.Ieee.{binary32}
 use borrow.Author.Tests.{eqb-true, eqb-false, eq-eqb, le-ltb}
-use Rattle.vector_types.specs.Answers.{none, firstGiven, acceptedAs, written}
+use Rattle.vector_types.specs.Answers.{none, firstGiven, acceptedAs}
 use Rattle.vector_types.specs.Layout.{bodyFits, hasIndexOutside, byteOf}
 use Rattle.vector_types.specs.Read.{readOf}
 use Rattle.vector_types.specs.Parts.{bodyOf}
-use Rattle.vector_types.specs.Write.{blobOf, tailOf, writeRefusals, writeOf, writeOutcome}
 use Rattle.vector_types.specs.declared.View.{View}
 use Rattle.vector_types.specs.declared.VectorType.{VectorType}
 use Rattle.vector_types.specs.declared.VectorType.the-variants.{Float32Dense, Float32Sparse}
 use Rattle.vector_types.specs.declared.ReadAnswer.the-variants.{Accepted}
 use Rattle.vector_types.proofs.Views.{view-facts}
-use Rattle.vector_types.proofs.Written.{clear-whole, writable, unrefused, reads-back, written-blob}
-use Rattle.vector_types.proofs.Rewritten.{rewritable}
+use Rattle.vector_types.proofs.Bodies.{body-facts}
+use Rattle.blob_writer.specs.Answers.{written}
+use Rattle.blob_writer.specs.Write.{blobOf, tailOf, writeRefusals, writeOf, writeOutcome}
+use Rattle.blob_writer.proofs.Written.{clear-whole, unrefused, reads-back, written-blob}
 use Rattle.convert.specs.Elements.{element, denseBody}
 use Rattle.convert.specs.Result.{resultOf, made}
 use Rattle.convert.specs.Convert.{convertedTo, answerOf, bodyOutcome, convertOf, convertOutcome}
@@ -67,7 +68,7 @@ module _ (s : List ℕ) (v : View) (e : readOf s ≡ Accepted v) (k : v .kind �
   d = v .dims .0
 
   inside : hasIndexOutside Float32Sparse d (bodyOf s) ≡ false
-  inside = subst (λ (k : VectorType). hasIndexOutside k d (bodyOf s) ≡ false) k (writable (v .kind) d (bodyOf s) (rewritable s v e) .inside)
+  inside = subst (λ (k : VectorType). hasIndexOutside k d (bodyOf s) ≡ false) k (body-facts s v e .inside)
 
   length-made : length (newBody s v) ≡ 4 * d
   unfolding resultOf made
@@ -82,7 +83,7 @@ module _ (s : List ℕ) (v : View) (e : readOf s ≡ Accepted v) (k : v .kind �
         fit = eq-eqb (length (newBody s v)) (4 * d) length-made;
         short = rw append-nil (omega (arith, length-made, view-facts s v e .few));
         inside = refl;
-        filled = refl;
+        elements = refl;
       })
 
   densely-read : (readOf (denseForm s v) ≡ acceptedAs Float32Dense d (length (newBody s v))) × (bodyOf (denseForm s v) ≡ newBody s v)

@@ -3,7 +3,7 @@ use mathlib.Core.Path.{_≡_, sym, _∙_}
 use mathlib.Core.Bool.{true}
 use Rattle.vector_types.specs.Layout.{byteOf, hasByte}
 use Rattle.vector_types.proofs.Views.{view-facts}
-use Rattle.vector_types.proofs.Rewritten.{body-is}
+use Rattle.vector_types.proofs.Bodies.{body-is}
 use Rattle.distance.proofs.Paired.{dims-differ, kinds-differ, unmeasured, measured, body-length, body-fits, other-fits}
 use borrow.Author.Tests.{not-true, not-false}
 use borrow.Author.Needs.{needs}
