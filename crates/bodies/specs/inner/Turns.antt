@@ -2,9 +2,9 @@
 use mathlib.Core.Path.{_≡_}
 use Prim.Native.Nat.{ℕ, _≤_, _<_}
 use mathlib.Core.Logic.{_⊎_}
-use Rattle.distance_sums.specs.Merged.{Entries}
-use Rattle.distance_sums.specs.declared.sparse.Turn.{Turn}
-use Rattle.distance_sums.specs.declared.sparse.Turn.the-variants.{Both, Left, Right, Done}
+use Rattle.bodies.specs.Entries.{Entries}
+use Rattle.bodies.specs.declared.sparse.Turn.{Turn}
+use Rattle.bodies.specs.declared.sparse.Turn.the-variants.{Both, Left, Right, Done}
 
 -- entry i of v and entry j of w are the next, where there are so many
 abbrev pub Next : Entries → Entries → ℕ → ℕ → Turn → Type 0

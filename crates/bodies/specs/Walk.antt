@@ -1,10 +1,11 @@
 -- Two sparse vectors walked index by index, by the rule of a merge: what stands at each index in either is looked up.
-use Prim.Native.Nat.{ℕ, zero, suc, _<_}
+use Prim.Native.Nat.{ℕ, zero, suc}
 use mathlib.Core.Bool.{cond}
 use mathlib.Core.Option.{Option, none, some}
 use lib.Dec.{eqb}
 use lib.Ieee.{Float}
-use Rattle.distance_sums.specs.Merged.{Entries, Rule}
+use Rattle.bodies.specs.Entries.{Entries}
+use Rattle.bodies.specs.Merged.{Rule}
 
 -- the value at the index t, if there is one: of the first n entries, the last that stands there
 unfoldable pub lookup : Entries → ℕ → ℕ → Option Float
@@ -22,10 +23,3 @@ turn r s (some x) (some y) = r .both s x y
 unfoldable pub walked : {S : Type 0} → Rule S → Entries → Entries → S → ℕ → S
 walked r v w s zero = s
 walked r v w s (suc t) = turn r (walked r v w s t) (lookup v (v .count) t) (lookup w (w .count) t)
-
--- each index is above the one before it, and all are below d
-abbrev pub Rising : Entries → Type 0
-Rising v = (i : ℕ) → suc i < v .count → v .index i < v .index (suc i)
-
-abbrev pub Below : Entries → ℕ → Type 0
-Below v d = (i : ℕ) → i < v .count → v .index i < d

@@ -3,12 +3,7 @@ use Prim.Native.Nat.{ℕ, zero, suc, _-_}
 use mathlib.Core.Bool.{cond}
 use lib.Dec.{eqb, ltb}
 use lib.Ieee.{Float}
-
--- entry i stands at the index `index i` and has `value i`, for i below the count
-pub record Entries : Type 0 where
-  pub count : ℕ
-  pub index : ℕ → ℕ
-  pub value : ℕ → Float
+use Rattle.bodies.specs.Entries.{Entries}
 
 -- what is added to the state at an index that both vectors have, that only the first has, and that only the second has
 pub record Rule (S : Type 0) : Type 0 where

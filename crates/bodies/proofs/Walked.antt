@@ -9,10 +9,11 @@ use mathlib.Core.Bool.{Bool, true, false}
 use mathlib.Core.Option.{none, some}
 use lib.Dec.{eqb, ltb}
 use borrow.Author.Tests.{eqb-true, eqb-false, ltb-true, ltb-false, eq-eqb, ne-eqb}
-use Rattle.distance_sums.specs.Merged.{Entries, Rule, merge, merged}
-use Rattle.distance_sums.specs.declared.sparse.Turn.the-variants.{Done}
-use Rattle.distance_sums.proofs.Merging.{Merging, merging-none, merging-done, merging-both, merging-left, merging-right}
-use Rattle.vector_laws.specs.Walk.{lookup, walked, Rising, Below}
+use Rattle.bodies.specs.Entries.{Entries, Rising, Below}
+use Rattle.bodies.specs.Merged.{Rule, merge, merged}
+use Rattle.bodies.specs.declared.sparse.Turn.the-variants.{Done}
+use Rattle.bodies.proofs.Merging.{Merging, merging-none, merging-done, merging-both, merging-left, merging-right}
+use Rattle.bodies.specs.Walk.{lookup, walked}
 
 -- ---- looking an index up
 module _ (v : Entries) (t : ℕ) where

@@ -1,8 +1,7 @@
 // Two sparse bodies, merged by index with two cursors in stored order.
 ghost use mathlib.Core.Path.{_≡_};
-ghost use Rattle.convert.specs.Dense.{count};
-ghost use Rattle.distance_sums.specs.Sparse.{entriesOf};
-ghost use Rattle.distance_sums.specs.Turns.{Next};
+ghost use Rattle.bodies.specs.Entries.{storedCount, entriesOf};
+ghost use Rattle.bodies.specs.inner.Turns.{Next};
 
 // What comes next, with its values: an index of both bodies, of the first or of the second alone, or none.
 pub enum Turn {
@@ -14,8 +13,8 @@ pub enum Turn {
 
 // The turn at entry i of the `left` of a and entry j of the `right` of b.
 pub fn next_turn(a: &[u8], left: usize, i: usize, b: &[u8], right: usize, j: usize) -> Turn
-    requires { ⌜ left ≡ count (now a) ⌝ }
-    requires { ⌜ right ≡ count (now b) ⌝ }
+    requires { ⌜ left ≡ storedCount (now a) ⌝ }
+    requires { ⌜ right ≡ storedCount (now b) ⌝ }
     ensures { λ r. ⌜ Next (entriesOf (now (a .entry))) (entriesOf (now (b .entry))) i j r ⌝ }
 {
     if left <= i {

@@ -5,10 +5,11 @@ use native.Mathlib.Omega.{arith}
 use mathlib.Core.Logic.{_⊎_, inl, inr}
 use lib.Ieee.{Float}
 use borrow.Author.Tests.{eq-eqb, ne-eqb, lt-ltb, le-ltb}
-use Rattle.distance_sums.specs.Merged.{Entries, Rule, merged}
-use Rattle.distance_sums.specs.Turns.{Next}
-use Rattle.distance_sums.specs.declared.sparse.Turn.{Turn}
-use Rattle.distance_sums.specs.declared.sparse.Turn.the-variants.{Both, Left, Right, Done}
+use Rattle.bodies.specs.Entries.{Entries}
+use Rattle.bodies.specs.Merged.{Rule, merged}
+use Rattle.bodies.specs.inner.Turns.{Next}
+use Rattle.bodies.specs.declared.sparse.Turn.{Turn}
+use Rattle.bodies.specs.declared.sparse.Turn.the-variants.{Both, Left, Right, Done}
 
 -- ---- what is known then leaves one turn only
 pub next-unique : (v w : Entries) (i j : ℕ) (t u : Turn) → Next v w i j t → Next v w i j u → t ≡ u

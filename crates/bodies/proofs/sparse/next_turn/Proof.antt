@@ -1,8 +1,8 @@
 -- What the tests have found is what is known at each turn.
 use mathlib.Core.Logic.{inl, inr}
 use borrow.Author.Needs.{needs}
-use Rattle.distance_sums.proofs.sparse.next_turn.Statement.{statement}
-use Rattle.distance_sums.proofs.sparse.next_turn.Tie as tie
+use Rattle.bodies.proofs.sparse.next_turn.Statement.{statement}
+use Rattle.bodies.proofs.sparse.next_turn.Tie as tie
 
 returns-2 : tie.Need-returns-2
 returns-2 c = (search needs, inl (search needs), c .f32-at .ensures)
