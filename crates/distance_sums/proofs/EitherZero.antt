@@ -12,9 +12,10 @@ use Rattle.float_laws.specs.Zero.{plusZero, FromZero}
 use Rattle.float_laws.specs.Running.{running, AllFit}
 use Rattle.float_laws.proofs.Order.{nan-lt, lt-nan, lt-asym, eq-self, nan-self, Alike, level}
 use Rattle.float_laws.proofs.Running.{plusZero-fromZero, add-fromZero, add-zero-term}
+use Rattle.bodies.specs.Entries.{Entries}
+use Rattle.bodies.specs.Merged.{Rule, merged}
 use Rattle.distance_sums.specs.Extremes.{lesser, greater, Chosen, IsLesser, IsGreater}
 use Rattle.distance_sums.specs.Dense.{Shares, noShares, sharesBy, shares, sharesWith}
-use Rattle.distance_sums.specs.Merged.{Entries, Rule, merged}
 use Rattle.distance_sums.specs.Sparse.{sharesRuleBy, sharesRule}
 
 abbrev Order : Type 0

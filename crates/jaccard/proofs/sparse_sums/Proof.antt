@@ -5,14 +5,14 @@ use native.Mathlib.Omega.{arith}
 use borrow.Author.Needs.{needs}
 use lib.Dec.{T}
 use lib.Ieee.{Float, binary32, fits}
-use Rattle.convert.specs.Dense.{count}
+use Rattle.bodies.specs.Entries.{storedCount, entriesOf}
 use Rattle.distance_sums.specs.Extremes.{lesser, greater}
 use Rattle.distance_sums.specs.Dense.{Shares, noShares, sharesWith}
-use Rattle.distance_sums.specs.Sparse.{entriesOf, sharesRule, sparseShares}
-use Rattle.jaccard.specs.Sums.{shares32}
+use Rattle.distance_sums.specs.Sparse.{sharesRule, sparseShares}
+use Rattle.jaccard.specs.inner.Sums.{shares32}
 use Rattle.float_laws.proofs.Running.{plusZero-fromZero}
 use Rattle.distance_sums.proofs.EitherZero.{BothFromZero, one-more, ours-are}
-use Rattle.distance_sums.proofs.Merging.{Merging, merging-none, merging-done, merging-both, merging-left, merging-right}
+use Rattle.bodies.proofs.Merging.{Merging, merging-none, merging-done, merging-both, merging-left, merging-right}
 use Rattle.jaccard.proofs.sparse_sums.Statement.{statement}
 use Rattle.jaccard.proofs.sparse_sums.Tie as tie
 
@@ -26,7 +26,7 @@ Inv-loop a b left right sums₀ i₀ j₀ sums i j =
     Merging (sharesRule binary32) (entriesOf a) (entriesOf b) noShares (shares32 sums) i j × BothFromZero binary32 (shares32 sums)
 
 abbrev μ-loop : tie.MeasureT-loop
-μ-loop a b left right sums₀ i₀ j₀ sums i j = (count a - i) + (count b - j)
+μ-loop a b left right sums₀ i₀ j₀ sums i j = (storedCount a - i) + (storedCount b - j)
 
 loop-holds : tie.Need-loop-holds Inv-loop μ-loop
 loop-holds c =
