@@ -1,5 +1,6 @@
 -- Each return is a path of `chosen`, told by the comparisons.
-use mathlib.Core.Path.{refl, sym, _∙_}
+use mathlib.Core.Path.{refl, sym, ap, _∙_}
+use Rattle.nearer.specs.Nearer.{refusedNamingNone}
 use Rattle.nearer.proofs.Compared.{chosen-by}
 use borrow.Author.Needs.{needs}
 use Rattle.nearer.proofs.choose.Statement.{statement}
@@ -23,8 +24,9 @@ returns-3 c =
 
 returns-4 : tie.Need-returns-4
 returns-4 c =
-    let a = c .before .before .before .args in
-    sym (chosen-by (a .x) (a .y) (c .before .before .if1 .left) (c .before .if2 .left) (c .if3 .left))
+    let a = c .before .before .before .before .args in
+    ap refusedNamingNone (c .plain .ensures)
+    ∙ sym (chosen-by (a .x) (a .y) (c .before .before .before .if1 .left) (c .before .before .if2 .left) (c .before .if3 .left))
 
 pub choose-spec : {M : Type 1} → statement M
 choose-spec =
@@ -32,4 +34,5 @@ choose-spec =
     (tie.spec
     (λ c κs. search needs) returns
     (λ c κs. search needs) returns-2
-    (λ c κs. search needs) returns-3 returns-4)
+    (λ c κs. search needs) returns-3
+    (λ c κs. search needs) returns-4)
