@@ -13,12 +13,13 @@ use Rattle.float_laws.proofs.Running.{plusZero-fromZero}
 use Rattle.float_laws.proofs.Squared.{sub-squared}
 use Rattle.float_laws.proofs.Swap.{mul-comm}
 use Rattle.little_endian.proofs.Floats.{floatAt-fits}
+use Rattle.bodies.specs.Entries.{Entries, entriesOf}
+use Rattle.bodies.specs.Merged.{Rule, merged, merge}
 use Rattle.distance_sums.specs.Extremes.{lesser, greater}
 use Rattle.distance_sums.specs.Dense.{noProducts, productsWith, squaresWith, dotsWith, Shares, noShares, sharesWith}
-use Rattle.distance_sums.specs.Merged.{Entries, Rule, merged, merge}
-use Rattle.distance_sums.specs.Sparse.{entriesOf, productsRule, squaresRule, dotsRule, sharesRule, sparseProducts, sparseSquares, sparseDots, sparseShares}
-use Rattle.distance_sums.proofs.EitherZero.{BothFromZero, one-more, ours-are}
-use Rattle.vector_laws.proofs.SwappedSums.{crossed, turned-are}
+use Rattle.distance_sums.specs.Sparse.{productsRule, squaresRule, dotsRule, sharesRule, sparseProducts, sparseSquares, sparseDots, sparseShares}
+use Rattle.distance_sums.proofs.EitherZero.{BothFromZero, one-more, ours-are-choices}
+use Rattle.vector_laws.proofs.SwappedSums.{crossed, exchanged-are-choices}
 
 -- a value that f32 holds
 abbrev Single : Float → Type 0
@@ -91,20 +92,20 @@ dots-turn = always (λ s x y. rw (mul-comm binary64 x y)) (λ s x. refl) (λ s y
 zero-from : FromZero binary32 plusZero
 zero-from = plusZero-fromZero binary32
 
-shares-kept : (s : Shares) (x y : Float) → Single x → Single y → BothFromZero binary32 s
+shares-from-zero : (s : Shares) (x y : Float) → Single x → Single y → BothFromZero binary32 s
     → BothFromZero binary32 (sharesWith lesser greater binary32 s x y)
-shares-kept s x y h k z = one-more binary32 lesser greater (ours-are binary32) x y h k s z .0
+shares-from-zero s x y h k z = one-more binary32 lesser greater (ours-are-choices binary32) x y h k s z .0
 
 shares-turned : (s : Shares) (x y : Float) → Single x → Single y → BothFromZero binary32 s
     → sharesWith lesser greater binary32 s x y ≡ sharesWith lesser greater binary32 s y x
 unfolding sharesWith
-shares-turned s x y h k z = sym (one-more binary32 (λ x y. lesser y x) (λ x y. greater y x) (turned-are binary32) x y h k s z .1)
+shares-turned s x y h k z = sym (one-more binary32 (λ x y. lesser y x) (λ x y. greater y x) (exchanged-are-choices binary32) x y h k s z .1)
 
 shares-turn : Turns (sharesRule binary32) (λ s. s) (BothFromZero binary32)
 shares-turn = record {
-  both = λ s x y h k z. (shares-kept s x y h k z, shares-turned s x y h k z);
-  left = λ s x h z. (shares-kept s x plusZero h (zero-from .fitting) z, refl);
-  right = λ s y h z. (shares-kept s y plusZero h (zero-from .fitting) z, refl);
+  both = λ s x y h k z. (shares-from-zero s x y h k z, shares-turned s x y h k z);
+  left = λ s x h z. (shares-from-zero s x plusZero h (zero-from .fitting) z, refl);
+  right = λ s y h z. (shares-from-zero s y plusZero h (zero-from .fitting) z, refl);
 }
 
 -- ---- two bodies

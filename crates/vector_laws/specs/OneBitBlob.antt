@@ -9,10 +9,10 @@ use Rattle.vector_types.specs.Parts.{bodyOf}
 use Rattle.vector_types.specs.declared.VectorType.the-variants.{Float1Bit}
 use Rattle.distance_sums.specs.OneBit.{differing, wholeBits}
 
-pub record Packed (d : ℕ) (s : List ℕ) : Type 0 where
+pub record OneBitBlob (d : ℕ) (s : List ℕ) : Type 0 where
   pub bytes : AreBytes s
-  pub long : ℕ
-  pub read : readOf s ≡ acceptedAs Float1Bit d long
+  pub bodyLength : ℕ
+  pub read : readOf s ≡ acceptedAs Float1Bit d bodyLength
 
 abbrev pub bitsApart : ℕ → List ℕ → List ℕ → ℕ
 bitsApart d s t = differing (bodyOf s) (bodyOf t) (wholeBits d)
