@@ -1,4 +1,4 @@
--- What the code's tests decide is what `comparedOf` and `chosen` say.
+-- What the code's tests decide is what `comparedOf` and `nearerBy` say.
 use mathlib.Core.Path.{_≡_, refl, sym, ap, _∙_}
 use mathlib.Core.Bool.{Bool, true, false, cond, false≢true}
 use mathlib.Core.List.{List, _++_}
@@ -17,7 +17,7 @@ use Rattle.distance.specs.declared.Pairing.{Pairing}
 use Rattle.distance.specs.declared.Pairing.the-variants.{Alike, Mismatched}
 use Rattle.distance.specs.declared.DistanceAnswer.{DistanceAnswer}
 use Rattle.distance.specs.declared.DistanceAnswer.the-variants.{Measured, Refused as Unmeasured}
-use Rattle.nearer.specs.Nearer.{near, refusedNamingNone, chosen, decided, comparedOf}
+use Rattle.nearer.specs.Nearer.{near, refusedNamingNone, nearerBy, decided, comparedOf}
 use Rattle.nearer.specs.declared.NearerAnswer.{NearerAnswer}
 use Rattle.nearer.specs.declared.Candidate.the-variants.{First, Second}
 
@@ -46,7 +46,7 @@ abbrev pub unlessUnmeasured : DistanceAnswer → (Float → NearerAnswer) → Ne
 unlessUnmeasured (Measured x) next = next x
 unlessUnmeasured (Unmeasured r w) next = refusedNamingNone r
 
-decided-by : (o q : Option Float) → decided o q ≡ unlessUnmeasured (distanceAnswer o) (λ x. unlessUnmeasured (distanceAnswer q) (chosen x))
+decided-by : (o q : Option Float) → decided o q ≡ unlessUnmeasured (distanceAnswer o) (λ x. unlessUnmeasured (distanceAnswer q) (nearerBy x))
 decided-by none q = refl
 decided-by (some x) none = refl
 decided-by (some x) (some y) = refl
@@ -54,7 +54,7 @@ decided-by (some x) (some y) = refl
 pub compared-by : (m : Distance) (v w u : View) (p a b : List ℕ) → comparedOf m v w u p a b
     ≡ unlessMismatched (pairingsOf v w u) refusedNamingNone
     (unlessUnmeasured (distanceAnswer (valueOf m (v .kind) (v .dims .0) p a))
-    (λ x. unlessUnmeasured (distanceAnswer (valueOf m (v .kind) (v .dims .0) p b)) (chosen x)))
+    (λ x. unlessUnmeasured (distanceAnswer (valueOf m (v .kind) (v .dims .0) p b)) (nearerBy x)))
 unfolding comparedOf
 compared-by m v w u p a b =
     let x = valueOf m (v .kind) (v .dims .0) p a in
@@ -67,12 +67,12 @@ compared-by m v w u p a b =
 abbrev byTests : Bool → Bool → Bool → Float → Float → NearerAnswer
 byTests a b c x y = cond a (near First x) (cond b (near Second y) (cond c (near First x) (refusedNamingNone (refusal 18))))
 
-by-nan : (x y : Float) (a b : Bool) → isNan x ≡ a → isNan y ≡ b → chosen x y ≡ byTests (le x y) (eq y y) (eq x x) x y
-unfolding chosen
+by-nan : (x y : Float) (a b : Bool) → isNan x ≡ a → isNan y ≡ b → nearerBy x y ≡ byTests (le x y) (eq y y) (eq x x) x y
+unfolding nearerBy
 by-nan x y true true p q = rw (p, q, nan-self x p, nan-self y q, nan-le x y p)
 by-nan x y true false p q = rw (p, q, eq-self y q, nan-le x y p)
 by-nan x y false true p q = rw (p, q, nan-self y q, eq-self x p, le-nan x y q)
 by-nan x y false false p q = rw (p, q, eq-self y q)
 
-pub chosen-by : (x y : Float) {a b c : Bool} → le x y ≡ a → eq y y ≡ b → eq x x ≡ c → chosen x y ≡ byTests a b c x y
-chosen-by x y p q r = rw (← p, ← q, ← r) (by-nan x y (isNan x) (isNan y) refl refl)
+pub nearer-by-tests : (x y : Float) {a b c : Bool} → le x y ≡ a → eq y y ≡ b → eq x x ≡ c → nearerBy x y ≡ byTests a b c x y
+nearer-by-tests x y p q r = rw (← p, ← q, ← r) (by-nan x y (isNan x) (isNan y) refl refl)

@@ -7,7 +7,7 @@ ghost use Rattle.vector_types.specs.Parts.{bodyOf};
 ghost use Rattle.vector_types.specs.declared.ReadAnswer.the-variants.{Accepted};
 ghost use Rattle.distance.specs.Answer.{mismatches};
 ghost use Rattle.distance.specs.declared.Pairing.the-variants.{Alike, Mismatched};
-ghost use Rattle.nearer.specs.Nearer.{near, chosen, comparedOf, nearerOf, partOf, placeOf};
+ghost use Rattle.nearer.specs.Nearer.{near, nearerBy, comparedOf, nearerOf, partOf, placeOf};
 use distance::Distance;
 use distance::DistanceAnswer;
 use distance::Pairing;
@@ -50,7 +50,7 @@ fn answer(candidate: Candidate, distance: f64) -> NearerAnswer
 
 // The lesser of two distances: a tie gives the first, and NaN loses to all else.
 fn choose(x: f64, y: f64) -> NearerAnswer
-    ensures { λ r. ⌜ r ≡ chosen x y ⌝ }
+    ensures { λ r. ⌜ r ≡ nearerBy x y ⌝ }
 {
     if x <= y {
         return answer(Candidate::First, x);

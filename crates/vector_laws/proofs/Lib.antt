@@ -5,3 +5,6 @@ pub mod SwappedBits
 pub mod Swapped
 pub mod OneBitLaws
 pub mod Summed
+pub mod Spreading
+pub mod DenseFormSums
+pub mod DenseForm
