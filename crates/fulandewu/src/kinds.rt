@@ -27,7 +27,7 @@ pub(crate) fn kind_of(byte: u8) -> Chosen
         3 => Chosen::Kind(VectorType::Float1Bit),
         4 => Chosen::Kind(VectorType::Float8),
         5 => refuse(2),
-        6 => refuse(3),
+        6 => refuse(2),
         9 => Chosen::Kind(VectorType::Float32Sparse),
         _ => refuse(3),
     }

@@ -4,25 +4,24 @@ use mathlib.Core.Path.{_≡_, refl, sym, ap, subst, _∙_}
 use mathlib.Core.Bool.{Bool, true, false}
 use mathlib.Core.List.{List, append-nil}
 use mathlib.Core.Option.{some}
-use Prim.Native.Nat.{ℕ, _*_, _≤_}
+use Prim.Native.Nat.{ℕ, _*_}
 use native.Mathlib.Omega.{arith}
 use lib.Dec.{eqb}
-use lib.ListN.{length, take, drop}
-use lib.Seq.{take-at}
+use lib.ListN.{length}
 use lib.Ieee.{binary32}
-use borrow.Author.Tests.{eqb-true, eqb-false, eq-eqb, ne-eqb, le-ltb}
-use Rattle.vector_types.specs.Answers.{none, firstGiven, acceptedAs, written}
+use borrow.Author.Tests.{eqb-true, eqb-false, eq-eqb, ne-eqb}
+use Rattle.vector_types.specs.Answers.{none, firstGiven, acceptedAs}
 use Rattle.vector_types.specs.Layout.{bodyFits, hasIndexOutside, byteOf}
 use Rattle.vector_types.specs.Read.{readOf}
 use Rattle.vector_types.specs.Parts.{bodyOf}
-use Rattle.vector_types.specs.Write.{blobOf, tailOf, writeRefusals, writeOf, writeOutcome}
 use Rattle.vector_types.specs.declared.View.{View}
 use Rattle.vector_types.specs.declared.VectorType.{VectorType}
 use Rattle.vector_types.specs.declared.VectorType.the-variants.{Float32Dense, Float32Sparse}
 use Rattle.vector_types.specs.declared.ReadAnswer.the-variants.{Accepted}
 use Rattle.vector_types.proofs.Views.{view-facts}
-use Rattle.vector_types.proofs.Written.{clear-whole, writable, unrefused, reads-back, written-blob}
-use Rattle.vector_types.proofs.Rewritten.{rewritable}
+use Rattle.vector_types.proofs.Bodies.{body-facts}
+use Rattle.blob_writer.specs.Write.{blobOf, tailOf, writeRefusals}
+use Rattle.blob_writer.proofs.Written.{unrefused, reads-back}
 use Rattle.bodies.specs.Entries.{Rising, storedCount, entriesOf}
 use Rattle.convert_parts.specs.Dense.{singles}
 use Rattle.convert_parts.specs.Result.{resultOf}
@@ -65,7 +64,7 @@ module _ (s : List ℕ) (v : View) (e : readOf s ≡ Accepted v) (k : v .kind �
   d = v .dims .0
 
   inside : hasIndexOutside Float32Sparse d (bodyOf s) ≡ false
-  inside = subst (λ (k : VectorType). hasIndexOutside k d (bodyOf s) ≡ false) k (writable (v .kind) d (bodyOf s) (rewritable s v e) .inside)
+  inside = subst (λ (k : VectorType). hasIndexOutside k d (bodyOf s) ≡ false) k (body-facts s v e .inside)
 
   pub length-made : length (denseFormBody s v) ≡ 4 * d
   unfolding resultOf singles
@@ -80,7 +79,7 @@ module _ (s : List ℕ) (v : View) (e : readOf s ≡ Accepted v) (k : v .kind �
         fit = eq-eqb (length (denseFormBody s v)) (4 * d) length-made;
         short = rw append-nil (omega (arith, length-made, view-facts s v e .few));
         inside = refl;
-        filled = refl;
+        elements = refl;
       })
 
   dense-form-read : (readOf (denseForm s v) ≡ acceptedAs Float32Dense d (length (denseFormBody s v))) × (bodyOf (denseForm s v) ≡ denseFormBody s v)

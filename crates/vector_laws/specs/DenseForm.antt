@@ -7,7 +7,7 @@ use lib.Dec.{T}
 use lib.Ieee.Scale.{finite}
 use Rattle.little_endian.specs.Bytes.{f32At}
 use Rattle.vector_types.specs.Parts.{bodyOf}
-use Rattle.vector_types.specs.Write.{blobOf}
+use Rattle.blob_writer.specs.Write.{blobOf}
 use Rattle.vector_types.specs.declared.View.{View}
 use Rattle.vector_types.specs.declared.VectorType.the-variants.{Float32Dense, Float32Sparse}
 use Rattle.bodies.specs.Entries.{storedCount}

@@ -3,7 +3,7 @@ use mathlib.Core.Path.{sym, _∙_}
 use borrow.Author.Tests.{not-true, not-false}
 use borrow.Author.Needs.{needs}
 use Rattle.vector_types.proofs.Views.{view-facts}
-use Rattle.vector_types.proofs.Rewritten.{body-is}
+use Rattle.vector_types.proofs.Bodies.{body-is}
 use Rattle.distance.proofs.Existing.{absent}
 use Rattle.distance.proofs.Paired.{alike-same, body-length, body-fits, other-fits}
 use Rattle.distance.proofs.measure_pair.Statement.{statement}

@@ -10,8 +10,7 @@ use Rattle.vector_types.specs.Read.{readOf}
 use Rattle.vector_types.specs.declared.View.{View}
 use Rattle.vector_types.specs.declared.ReadAnswer.the-variants.{Accepted}
 use Rattle.vector_types.proofs.Views.{view-facts}
-use Rattle.vector_types.proofs.Written.{Writable, writable}
-use Rattle.vector_types.proofs.Rewritten.{body-is, rewritable}
+use Rattle.vector_types.proofs.Bodies.{BodyFacts, body-is, body-facts}
 use Rattle.convert.proofs.ByKind.{sparse-kind}
 use Rattle.convert.proofs.Answered.{plainly}
 use borrow.Author.Needs.{needs}
@@ -21,8 +20,8 @@ use Rattle.convert.proofs.result.convert_view.Tie as tie
 slice-aggregate-body : tie.Need-slice-aggregate-body
 slice-aggregate-body c = simp length-take (omega (arith, view-facts _ _ (c .before .before .before .before .before .pre) .within))
 
-shown : (s : List ℕ) (v : View) → readOf s ≡ Accepted v → Writable (v .kind) (v .dims .0) (take (v .length) s)
-shown s v e = rw (← (body-is s v e)) (writable _ _ _ (rewritable s v e))
+shown : (s : List ℕ) (v : View) → readOf s ≡ Accepted v → BodyFacts (v .kind) (v .dims .0) (take (v .length) s)
+shown s v e = rw (← (body-is s v e)) (body-facts s v e)
 
 -- from sparse to 1-bit and Float8
 takes : (c : tie.Then1) → let a = c .before .before .before .before .before .before .before .args in
