@@ -6,7 +6,7 @@ mod strictness;
 mod writing;
 
 ghost use mathlib.Core.Path.{_≡_};
-ghost use Rattle.vector_types.specs.Answers.{refusal};
+ghost use Rattle.vector_types.specs.Answers.{refusal, needing};
 pub use kinds::is_same_kind;
 pub use kinds::type_byte;
 pub use parts::body;
@@ -61,6 +61,16 @@ impl Refusal {
         Refusal {
             number,
             detail: Detail::Nothing,
+        }
+    }
+
+    // One that carries how long a buffer would have to be.
+    pub fn needing(number: u8, need: usize) -> Self
+        ensures { λ r. ⌜ r ≡ needing number need ⌝ }
+    {
+        Refusal {
+            number,
+            detail: Detail::Needs(need),
         }
     }
 }
