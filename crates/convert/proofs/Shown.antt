@@ -1,0 +1,16 @@
+-- What the reader promises of the body that it shows: all that a conversion asks.
+use mathlib.Core.Path.{_≡_}
+use mathlib.Core.List.{List}
+use Prim.Native.Nat.{ℕ}
+use Rattle.vector_types.specs.Read.{readOf}
+use Rattle.vector_types.specs.Parts.{bodyOf}
+use Rattle.vector_types.specs.declared.View.{View}
+use Rattle.vector_types.specs.declared.ReadAnswer.the-variants.{Accepted}
+use Rattle.vector_types.proofs.Written.{writable}
+use Rattle.vector_types.proofs.Rewritten.{rewritable}
+use Rattle.convert_parts.specs.inner.Fitting.{Fitting}
+
+pub shown-fitting : (s : List ℕ) (v : View) → readOf s ≡ Accepted v → Fitting (v .kind) (v .dims .0) (bodyOf s)
+shown-fitting s v e =
+    let w = writable (v .kind) (v .dims .0) (bodyOf s) (rewritable s v e) in
+    record { few = w .few; fit = w .fit; inside = w .inside }
