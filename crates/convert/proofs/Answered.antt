@@ -17,7 +17,7 @@ use Rattle.vector_types.specs.declared.ReadAnswer.{ReadAnswer}
 use Rattle.vector_types.specs.declared.ReadAnswer.the-variants.{Accepted, Refused as Unread}
 use Rattle.vector_types.specs.declared.VectorType.{VectorType}
 use Rattle.convert_parts.specs.Result.{resultOf, scratchBody}
-use Rattle.convert.specs.Convert.{convertedTo, Conversion, conversion, refusing, bodyConversion, readConversion, conversionOf, outcome, outcomeOf}
+use Rattle.convert.specs.Convert.{convertedTo, Conversion, conversion, refusing, bodyConversion, readConversion, conversionOf, ConvertOutcome, outcome, outcomeOf, convertOutcome}
 use Rattle.convert.specs.declared.ConvertAnswer.{ConvertAnswer}
 use Rattle.convert.specs.declared.ConvertAnswer.the-variants.{Converted, Refused}
 
@@ -55,6 +55,12 @@ conversion-put s t v e scratch room h l =
     let dense = scratchBody (v .kind) t (v .dims .0) (bodyOf s) in
     let new = resultOf (v .kind) t (v .dims .0) (bodyOf s) in
     rw (e, le-ltb scratch (length dense) h, le-ltb room (length new) l)
+
+-- ---- an outcome, part by part: the answer, and the output
+pub outcome-parts : (s : List ℕ) (t : VectorType) (scratch out : List ℕ) (r : ConvertAnswer) (left o : List ℕ) → outcome r left o ≡ convertOutcome s t scratch out
+    → let c = conversionOf s t (length scratch) (length out) in (r ≡ c .answer) × (o ≡ onto (c .out) out)
+unfolding convertOutcome
+outcome-parts s t scratch out r left o e = (ap (λ (x : ConvertOutcome). x .answer) e, ap (λ (x : ConvertOutcome). x .out) e)
 
 -- ---- where a body was made, it has the length that is told, and there was room for it
 abbrev reach : ConvertAnswer → ℕ
