@@ -4,12 +4,13 @@ use mathlib.Core.Path.{_≡_, refl, sym, ap, subst, _∙_}
 use mathlib.Core.Bool.{Bool, true, false}
 use mathlib.Core.List.{List, append-nil}
 use mathlib.Core.Option.{some}
-use Prim.Native.Nat.{ℕ, _*_}
+use Prim.Native.Nat.{ℕ, _*_, _≤_}
 use native.Mathlib.Omega.{arith}
 use lib.Dec.{eqb}
-use lib.ListN.{length}
+use lib.ListN.{length, take, drop}
+use lib.Seq.{take-at}
 use lib.Ieee.{binary32}
-use borrow.Author.Tests.{eqb-true, eqb-false, eq-eqb, ne-eqb}
+use borrow.Author.Tests.{eqb-true, eqb-false, eq-eqb, ne-eqb, le-ltb}
 use Rattle.vector_types.specs.Answers.{none, firstGiven, acceptedAs}
 use Rattle.vector_types.specs.Layout.{bodyFits, hasIndexOutside, byteOf}
 use Rattle.vector_types.specs.Read.{readOf}
@@ -20,12 +21,14 @@ use Rattle.vector_types.specs.declared.VectorType.the-variants.{Float32Dense, F
 use Rattle.vector_types.specs.declared.ReadAnswer.the-variants.{Accepted}
 use Rattle.vector_types.proofs.Views.{view-facts}
 use Rattle.vector_types.proofs.Bodies.{body-facts}
-use Rattle.blob_writer.specs.Write.{blobOf, tailOf, writeRefusals}
-use Rattle.blob_writer.proofs.Written.{unrefused, reads-back}
+use Rattle.blob_writer.specs.Answers.{written}
+use Rattle.blob_writer.specs.Write.{blobOf, tailOf, writeRefusals, writeOf, writeOutcome}
+use Rattle.blob_writer.proofs.Written.{clear-whole, unrefused, reads-back, written-blob}
 use Rattle.bodies.specs.Entries.{Rising, storedCount, entriesOf}
 use Rattle.convert_parts.specs.Dense.{singles}
-use Rattle.convert_parts.specs.Result.{resultOf}
+use Rattle.convert_parts.specs.Result.{resultOf, scratchBody}
 use Rattle.convert_parts.proofs.Spread.{length-spread}
+use Rattle.convert.specs.Convert.{convertedTo, bodyConversion, conversionOf, convertOutcome}
 use Rattle.distance_sums.specs.Dense.{Products, denseCosine, l2By, dotBy, jaccardBy}
 use Rattle.distance_sums.specs.Sparse.{sparseProducts, sparseCosine}
 use Rattle.distance_sums.specs.Values.{cosineOf, l2Of, dotOf, jaccardOf}
@@ -66,11 +69,11 @@ module _ (s : List ℕ) (v : View) (e : readOf s ≡ Accepted v) (k : v .kind �
   inside : hasIndexOutside Float32Sparse d (bodyOf s) ≡ false
   inside = subst (λ (k : VectorType). hasIndexOutside k d (bodyOf s) ≡ false) k (body-facts s v e .inside)
 
-  pub length-made : length (denseFormBody s v) ≡ 4 * d
+  length-made : length (denseFormBody s v) ≡ 4 * d
   unfolding resultOf singles
   length-made = length-spread binary32 d (bodyOf s) inside (storedCount (bodyOf s)) (omega arith)
 
-  pub unrefusing : firstGiven (writeRefusals Float32Dense d (denseFormBody s v)) ≡ none
+  unrefusing : firstGiven (writeRefusals Float32Dense d (denseFormBody s v)) ≡ none
   unfolding blobOf tailOf bodyFits
   unrefusing =
       unrefused Float32Dense d (denseFormBody s v)
@@ -84,6 +87,24 @@ module _ (s : List ℕ) (v : View) (e : readOf s ≡ Accepted v) (k : v .kind �
 
   dense-form-read : (readOf (denseForm s v) ≡ acceptedAs Float32Dense d (length (denseFormBody s v))) × (bodyOf (denseForm s v) ≡ denseFormBody s v)
   dense-form-read = reads-back Float32Dense d (denseFormBody s v) unrefusing
+
+  -- with so much room the converter leaves that body at the start of its output, and the writer makes that blob of it
+  pub dense-form-made : (scratch out blob : List ℕ) → 4 * d ≤ length out → 4 * d ≤ length blob
+      → (convertOutcome s Float32Dense scratch out .answer ≡ convertedTo Float32Dense d (4 * d))
+      × (take (4 * d) (convertOutcome s Float32Dense scratch out .out) ≡ denseFormBody s v)
+      × (writeOf Float32Dense d (denseFormBody s v) (length blob) ≡ written (4 * d))
+      × (take (4 * d) (writeOutcome Float32Dense d (denseFormBody s v) blob .out) ≡ denseForm s v)
+  unfolding convertOutcome conversionOf bodyConversion scratchBody blobOf tailOf
+  dense-form-made scratch out blob h l =
+      let new = denseFormBody s v in
+      let none-needed = le-ltb (length scratch) 0 (omega arith) in
+      let room = le-ltb (length out) (4 * d) h in
+      let goes : writeOf Float32Dense d new (length blob) ≡ written (4 * d) = sym (clear-whole Float32Dense d new (length blob) unrefusing (4 * d) (rw (append-nil, length-made)) l) in (
+        rw (e, k, none-needed, length-made, room),
+        rw (e, k, none-needed, length-made, room) (take-at new (drop (length new) out) (4 * d) length-made),
+        goes,
+        written-blob Float32Dense d new blob (4 * d) goes .2,
+      )
 
 -- ---- two blobs
 accepted-pair : (m : Distance) (s t : List ℕ) (v w : View) (a b : List ℕ) → readOf s ≡ Accepted v → readOf t ≡ Accepted w → bodyOf s ≡ a → bodyOf t ≡ b
