@@ -27,7 +27,7 @@ pub fn measure_l2(kind: VectorType, dims: usize, a: &[u8], b: &[u8]) -> f64
         VectorType::Float32Dense => vector_f32_distance_l2(dims, a, b),
         VectorType::Float64Dense => vector_f64_distance_l2(dims, a, b),
         VectorType::Float32Sparse => vector_f32_sparse_distance_l2(a, b),
-        // Float8: Float1Bit, which has no L2, is none of those that come here
+        // Float8, since Float1Bit has no L2 and is not passed
         _ => vector_f8_distance_l2(dims, a, b),
     }
 }
