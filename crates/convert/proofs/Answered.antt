@@ -1,5 +1,5 @@
 -- What a conversion of a body answers and leaves, outcome by outcome; and, for callers, what a conversion that is not refused puts.
-use mathlib.Core.Path.{_≡_, refl, ap, _∙_}
+use mathlib.Core.Path.{_≡_, refl, ap}
 use mathlib.Core.Bool.{Bool, true, false, cond}
 use mathlib.Core.List.{List}
 use Prim.Native.Nat.{ℕ, suc, _<_, _≤_}

@@ -14,7 +14,7 @@ use Rattle.little_endian.specs.Bytes.{numberAt, width, floatAt, floatBytes, put
 use Rattle.little_endian.proofs.Numbers.{numberAt-drop, numberAt-take, length-bytesOf}
 use Rattle.little_endian.proofs.Floats.{floatAt-put}
 use Rattle.bodies.specs.Elements.{denseElement}
-use Rattle.convert_parts.specs.Pieces.{pieces, placesOf, each}
+use Rattle.convert_parts.specs.Pieces.{pieces}
 use Rattle.convert_parts.specs.Dense.{floatsOf}
 use Rattle.convert_parts.specs.Sparse.{isNonzero, storedBody, valueBytes, sparseBody}
 use Rattle.convert_parts.specs.Bits.{isPositive, packedBits, bitBody}

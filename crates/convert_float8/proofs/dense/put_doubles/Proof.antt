@@ -1,5 +1,4 @@
 -- The loop fills, float by float, by the body's alpha and shift, widened.
-use mathlib.Core.Path.{_∙_}
 use Prim.Native.Nat.{_-_}
 use borrow.Author.Needs.{needs}
 use lib.Ieee.{binary64}
