@@ -1,87 +1,92 @@
--- What a conversion answers and leaves, outcome by outcome.
-use mathlib.Core.Path.{_≡_, refl, ap, _∙_}
+-- What a conversion of a body answers and leaves, outcome by outcome; and, for callers, what a conversion that is not refused puts.
+use mathlib.Core.Path.{_≡_, refl, ap}
 use mathlib.Core.Bool.{Bool, true, false, cond}
 use mathlib.Core.List.{List}
-use Prim.Native.Nat.{ℕ, _*_, _<_, _≤_}
+use Prim.Native.Nat.{ℕ, suc, _<_, _≤_}
 use native.Mathlib.Omega.{arith}
 use lib.Dec.{ltb}
 use lib.ListN.{length}
-use lib.Ieee.{binary32}
-use borrow.Author.Tests.{lt-ltb, le-ltb}
+use borrow.Author.Tests.{lt-ltb, le-ltb, ltb-false}
 use Rattle.promises.specs.Onto.{onto}
-use Rattle.vector_types.specs.Layout.{hasTrailingCount}
+use Rattle.vector_types.specs.Answers.{needing, given, none, unless}
 use Rattle.vector_types.specs.Read.{readOf}
 use Rattle.vector_types.specs.Parts.{bodyOf}
+use Rattle.vector_types.specs.declared.Refusal.{Refusal}
+use Rattle.vector_types.specs.declared.View.{View}
 use Rattle.vector_types.specs.declared.ReadAnswer.{ReadAnswer}
 use Rattle.vector_types.specs.declared.ReadAnswer.the-variants.{Accepted, Refused as Unread}
 use Rattle.vector_types.specs.declared.VectorType.{VectorType}
-use Rattle.vector_types.specs.declared.VectorType.the-variants.{Float32Sparse}
-use Rattle.convert.specs.Dense.{spreadBody}
-use Rattle.convert.specs.Result.{resultOf}
-use Rattle.convert.specs.Convert.{shortScratch, shortOut, convertedTo, answerWith, outWith, isConverted, scratched, answerOf, ConvertOutcome, outcome, bodyOutcome, convertIn, convertOf, outcomeIn, convertOutcome}
+use Rattle.convert_parts.specs.Result.{resultOf, scratchBody}
+use Rattle.convert.specs.Convert.{convertedTo, Conversion, conversion, refusing, bodyConversion, readConversion, conversionOf, ConvertOutcome, outcome, outcomeOf, convertOutcome}
 use Rattle.convert.specs.declared.ConvertAnswer.{ConvertAnswer}
+use Rattle.convert.specs.declared.ConvertAnswer.the-variants.{Converted, Refused}
 
--- ---- a new body of so many bytes: the output is too short for it, or it is put there
-abbrev Put : VectorType → ℕ → (new out : List ℕ) → ConvertAnswer → List ℕ → Type 0
-Put t d new out r o = (r ≡ answerWith t d new (length out)) × (o ≡ outWith new out)
+-- ---- the three outcomes for a body
+module _ (k t : VectorType) (d : ℕ) (body scratch out : List ℕ) where
+  abbrev dense : List ℕ
+  dense = scratchBody k t d body
 
-module _ (t : VectorType) (d : ℕ) (new out : List ℕ) (need : ℕ) (long : need ≡ length new) where
-  pub too-long : length out < need → Put t d new out (shortOut need) out
-  too-long h =
-      let e = lt-ltb (length out) (length new) (omega arith) in
-      (rw (e, long), rw e)
+  abbrev new : List ℕ
+  new = resultOf k t d body
 
-  pub put-whole : need ≤ length out → (r : ConvertAnswer) (o : List ℕ) → r ≡ convertedTo t d need → o ≡ onto new out → Put t d new out r o
-  put-whole h r o answer left =
-      let e = le-ltb (length out) (length new) (omega arith) in
-      (answer ∙ rw (e, long), left ∙ rw e)
+  abbrev Leaves : ConvertAnswer → (s o : List ℕ) → Type 0
+  Leaves r s o = outcome r s o ≡ outcomeOf (bodyConversion k t d body (length scratch) (length out)) scratch out
 
--- ---- what the answers leave
-abbrev Left : VectorType → ℕ → List ℕ → VectorType → (scratch out : List ℕ) → ConvertAnswer → (s o : List ℕ) → Type 0
-Left k d body t scratch out r s o = outcome r s o ≡ bodyOutcome k d body t scratch out
+  module _ (whole : ℕ) (long : whole ≡ length dense) where
+    pub scratch-short : length scratch < whole → (r : ConvertAnswer) → r ≡ Refused (needing 17 whole) → Leaves r scratch out
+    unfolding bodyConversion
+    scratch-short h r answer = rw (answer, lt-ltb (length scratch) (length dense) (omega arith), long)
 
--- a pair that takes no scratch: the answer is that of the new body
-out-left : (t : VectorType) (d : ℕ) (new scratch out : List ℕ) (b : Bool) → let r = cond b (shortOut (length new)) (convertedTo t d (length new)) in
-    outcome r scratch (cond b out (onto new out)) ≡ cond (isConverted r) (outcome r scratch (onto new out)) (outcome r scratch out)
-out-left t d new scratch out true = refl
-out-left t d new scratch out false = refl
+    module _ (enough : whole ≤ length scratch) (need : ℕ) (size : need ≡ length new) where
+      pub out-short : length out < need → (r : ConvertAnswer) → r ≡ Refused (needing 15 need) → Leaves r scratch out
+      unfolding bodyConversion
+      out-short h r answer = rw (answer, le-ltb (length scratch) (length dense) (omega arith), lt-ltb (length out) (length new) (omega arith), size)
 
-pub plainly : (k : VectorType) (d : ℕ) (body : List ℕ) (t : VectorType) (scratch out : List ℕ) (r : ConvertAnswer) (o : List ℕ) → scratched k t ≡ false
-    → Put t d (resultOf k t d body) out r o → Left k d body t scratch out r scratch o
-unfolding answerOf bodyOutcome
-plainly k d body t scratch out r o h (answer, left) =
-    let new = resultOf k t d body in
-    rw (answer, left, h) (out-left t d new scratch out (ltb (length out) (length new)))
+      pub both-put : need ≤ length out → (r : ConvertAnswer) (s o : List ℕ) → r ≡ convertedTo t d need → s ≡ onto dense scratch → o ≡ onto new out → Leaves r s o
+      unfolding bodyConversion
+      both-put h r s o answer left put = rw (answer, left, put, le-ltb (length scratch) (length dense) (omega arith), le-ltb (length out) (length new) (omega arith), size)
 
--- a pair that does
-module _ (t : VectorType) (takes : hasTrailingCount t ≡ true) (d : ℕ) (body scratch out : List ℕ) where
-  pub scratch-short : length scratch < 4 * d → Left Float32Sparse d body t scratch out (shortScratch (4 * d)) scratch out
-  unfolding answerOf bodyOutcome
-  scratch-short h = rw (takes, lt-ltb (length scratch) (4 * d) h)
+-- ---- a blob that is read, with room enough
+pub conversion-put : (s : List ℕ) (t : VectorType) (v : View) → readOf s ≡ Accepted v → (scratch room : ℕ)
+    → let dense = scratchBody (v .kind) t (v .dims .0) (bodyOf s) in let new = resultOf (v .kind) t (v .dims .0) (bodyOf s) in
+    length dense ≤ scratch → length new ≤ room → conversionOf s t scratch room ≡ conversion (convertedTo t (v .dims .0) (length new)) dense new
+unfolding conversionOf
+conversion-put s t v e scratch room h l =
+    let dense = scratchBody (v .kind) t (v .dims .0) (bodyOf s) in
+    let new = resultOf (v .kind) t (v .dims .0) (bodyOf s) in
+    rw (e, le-ltb scratch (length dense) h, le-ltb room (length new) l)
 
-  module _ (enough : 4 * d ≤ length scratch) (need : ℕ) (long : need ≡ length (resultOf Float32Sparse t d body)) where
-    pub out-short : length out < need → Left Float32Sparse d body t scratch out (shortOut need) scratch out
-    unfolding answerOf bodyOutcome
-    out-short h = rw (takes, le-ltb (length scratch) (4 * d) enough, lt-ltb (length out) (length (resultOf Float32Sparse t d body)) (omega arith), long)
+-- ---- an outcome, part by part: the answer, and the output
+pub outcome-parts : (s : List ℕ) (t : VectorType) (scratch out : List ℕ) (r : ConvertAnswer) (left o : List ℕ) → outcome r left o ≡ convertOutcome s t scratch out
+    → let c = conversionOf s t (length scratch) (length out) in (r ≡ c .answer) × (o ≡ onto (c .out) out)
+unfolding convertOutcome
+outcome-parts s t scratch out r left o e = (ap (λ (x : ConvertOutcome). x .answer) e, ap (λ (x : ConvertOutcome). x .out) e)
 
-    pub both-written : need ≤ length out → (r : ConvertAnswer) (s o : List ℕ) → r ≡ convertedTo t d need → s ≡ onto (spreadBody binary32 d body) scratch
-        → o ≡ onto (resultOf Float32Sparse t d body) out → Left Float32Sparse d body t scratch out r s o
-    unfolding answerOf bodyOutcome
-    both-written h r s o answer left made =
-        rw (answer, left, made, takes, le-ltb (length scratch) (4 * d) enough, le-ltb (length out) (length (resultOf Float32Sparse t d body)) (omega arith), long)
+-- ---- where a body was made, it has the length that is told, and there was room for it
+abbrev reach : ConvertAnswer → ℕ
+reach (Converted v) = suc (v .length)
+reach (Refused r) = 0
 
--- ---- an outcome, part by part
-picked : (b : Bool) (r : ConvertAnswer) (s s′ o o′ : List ℕ) → cond b (outcome r s o) (outcome r s′ o′) .answer ≡ r
-picked true r s s′ o o′ = refl
-picked false r s s′ o o′ = refl
+pub conversion-fits : (s : List ℕ) (t : VectorType) (scratch room : ℕ) (v : View) → conversionOf s t scratch room .answer ≡ Converted v
+    → (length (conversionOf s t scratch room .out) ≡ v .length) × (v .length ≤ room)
+unfolding conversionOf
+conversion-fits s t scratch room v = by (readOf s)
+  where
+    Made : Conversion → Type 0
+    Made c = c .answer ≡ Converted v → (length (c .out) ≡ v .length) × (v .length ≤ room)
 
-module _ (s : List ℕ) (t : VectorType) (scratch out : List ℕ) where
-  answer-in : (w : ReadAnswer) (body : List ℕ) → outcomeIn w body t scratch out .answer ≡ convertIn w body t (length scratch) (length out)
-  unfolding bodyOutcome
-  answer-in (Accepted v) body = picked (isConverted (answerOf (v .kind) (v .dims .0) body t (length scratch) (length out))) _ _ _ _ _
-  answer-in (Unread r) body = refl
+    tests : (few over : Bool) (a b : Refusal) (d : ℕ) (dense new : List ℕ) → ltb room (length new) ≡ over
+        → Made (unless (cond few (given a) (cond over (given b) none)) refusing (conversion (convertedTo t d (length new)) dense new))
+    tests true over a b d dense new h e = let z = ap reach e in absurd (omega arith)
+    tests false true a b d dense new h e = let z = ap reach e in absurd (omega arith)
+    tests false false a b d dense new h e =
+        let z = ap reach e in
+        let size : length new ≡ v .length = omega arith in
+        (size, omega (arith, ltb-false room (length new) h))
 
-  pub outcome-parts : (r : ConvertAnswer) (left o : List ℕ) → outcome r left o ≡ convertOutcome s t scratch out
-      → (r ≡ convertOf s t (length scratch) (length out)) × (o ≡ convertOutcome s t scratch out .out)
-  unfolding convertOutcome convertOf
-  outcome-parts r left o e = (ap (λ (x : ConvertOutcome). x .answer) e ∙ answer-in (readOf s) (bodyOf s), ap (λ (x : ConvertOutcome). x .out) e)
+    by : (w : ReadAnswer) → Made (readConversion w (bodyOf s) t scratch room)
+    by (Accepted w) =
+        let dense = scratchBody (w .kind) t (w .dims .0) (bodyOf s) in
+        let new = resultOf (w .kind) t (w .dims .0) (bodyOf s) in
+        tests (ltb scratch (length dense)) (ltb room (length new)) (needing 17 (length dense)) (needing 15 (length new)) (w .dims .0) dense new refl
+    by (Unread r) = λ e. let z = ap reach e in absurd (omega arith)

@@ -1,4 +1,4 @@
--- The public contract determines its outcome, the answer and every byte of scratch and of out: stated over the contract's own reading, so it changes with the contract.
+-- Determinism of the public contract, the answer and every byte of scratch and of out: stated over the contract's own reading, so it changes with the contract.
 use mathlib.Core.Path.{_∙_, sym}
 use denote.Ref.{now}
 use Rattle.promises.specs.Determined.{Determined}

@@ -13,8 +13,8 @@ use Rattle.vector_types.specs.Read.{readOf, refusals, shown}
 use Rattle.vector_types.specs.Parts.{bodyOf}
 use Rattle.vector_types.specs.declared.VectorType.the-variants.{Float32Dense, Float1Bit, Float8}
 use Rattle.vector_types.specs.declared.ReadAnswer.{ReadAnswer}
-use Rattle.distance_sums.specs.Merged.{merged}
-use Rattle.distance_sums.specs.Examples.{zero, one, nan}
+use Rattle.bodies.specs.Merged.{merged}
+use Rattle.distance_sums.specs.Examples.{zeroBytes as zero, oneBytes as one, nanPattern as nan}
 use Rattle.distance.specs.Answer.{distanceOf, pairRefused}
 use Rattle.distance.specs.declared.Distance.{Distance}
 use Rattle.distance.specs.declared.Distance.the-variants.{Cos, L2, Dot, Jaccard}

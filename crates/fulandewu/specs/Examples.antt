@@ -13,7 +13,7 @@ use Rattle.vector_types.specs.Read.{readOf, strictOf, refusals, strictRefusals,
 use Rattle.vector_types.specs.Parts.{bodyOf}
 use Rattle.blob_writer.specs.Write.{writeOf, writeOutcome, writeRefusals, tailOf, blobOf}
 use Rattle.vector_types.specs.declared.ReadAnswer.{ReadAnswer}
-use Rattle.convert.specs.Convert.{convertOf, convertOutcome}
+use Rattle.convert.specs.Convert.{convertOutcome}
 use Rattle.distance.specs.Answer.{distanceOf}
 use Rattle.distance.specs.declared.Distance.{Distance}
 use Rattle.distance.specs.declared.Distance.the-variants.{Cos, L2, Dot, Jaccard}
@@ -122,5 +122,5 @@ table =
     ∷ []
 
 pub table-holds : map (λ (e : Example). e .defined) table ≡ map (λ (e : Example). e .expected) table
-unfolding readOf strictOf bodyOf namedKind byByte lengthBeforeType bodyFits refusals strictRefusals shown firstFrom numberAt layoutRow writtenBy writeOf writeOutcome writeRefusals tailOf blobOf bytesOf convertedBy convertOf convertOutcome distanceOf nearerOf running total root add sub mul div neg eq lt le isNan ofInt ofBits toBits
+unfolding readOf strictOf bodyOf namedKind byByte lengthBeforeType bodyFits refusals strictRefusals shown firstFrom numberAt layoutRow writtenBy writeOf writeOutcome writeRefusals tailOf blobOf bytesOf convertedBy convertOutcome distanceOf nearerOf running total root add sub mul div neg eq lt le isNan ofInt ofBits toBits
 table-holds = refl

@@ -1,13 +1,11 @@
 -- Laws of the answers about blobs: what a view, a written blob and a converted one measure, and the fields of a line.
-use mathlib.Core.Path.{_≡_, refl, ap}
-use mathlib.Core.Bool.{Bool, true, false, cond, _&&_}
+use mathlib.Core.Path.{_≡_, refl}
 use mathlib.Core.List.{List}
-use Prim.Native.Nat.{ℕ, suc, _*_, _<_, _≤_}
+use Prim.Native.Nat.{ℕ, _<_, _≤_}
 use native.Mathlib.Omega.{arith}
-use lib.Dec.{ltb}
 use lib.ListN.{length, take, drop}
 use lib.Seq.{take-at}
-use borrow.Author.Tests.{ltb-false}
+use Rattle.promises.specs.Onto.{onto}
 use Rattle.bytes.specs.Bytes.{indexOf}
 use Rattle.lines.specs.Text.{tab}
 use Rattle.lines.specs.Decimal.{numeralOf}
@@ -16,23 +14,20 @@ use Rattle.lines.specs.declared.hex.Found.{Found}
 use Rattle.lines.specs.declared.hex.Found.the-variants.{Number, Nothing}
 use Rattle.vector_types.specs.Layout.{maxBlobLength}
 use Rattle.vector_types.specs.Read.{readOf}
-use Rattle.vector_types.specs.Parts.{bodyOf}
 use Rattle.blob_writer.specs.Write.{blobOf, writeOf, writeOutcome}
 use Rattle.vector_types.specs.declared.VectorType.{VectorType}
 use Rattle.vector_types.specs.declared.View.{View}
-use Rattle.vector_types.specs.declared.ReadAnswer.{ReadAnswer}
-use Rattle.vector_types.specs.declared.ReadAnswer.the-variants.{Accepted, Refused as Unread}
+use Rattle.vector_types.specs.declared.ReadAnswer.the-variants.{Accepted}
 use Rattle.blob_writer.specs.declared.WriteAnswer.the-variants.{Written}
-use Rattle.convert.specs.Result.{resultOf}
-use Rattle.convert.specs.Convert.{shortScratch, shortOut, convertedTo, scratched, answerOf, bodyOutcome, convertIn, convertOf, outcomeIn, convertOutcome}
-use Rattle.convert.specs.declared.ConvertAnswer.{ConvertAnswer}
-use Rattle.convert.specs.declared.ConvertAnswer.the-variants.{Converted, Refused}
+use Rattle.convert.specs.Convert.{conversionOf}
+use Rattle.convert.specs.declared.ConvertAnswer.the-variants.{Converted}
+use Rattle.convert.proofs.Answered.{conversion-fits}
 use Rattle.vector_types.proofs.Views.{view-facts}
 use Rattle.vector_types.proofs.Strict.{strict-plain}
 use Rattle.blob_writer.proofs.Written.{writable, written-blob}
 use Rattle.lines.specs.Fields.{one, two, other}
 use Rattle.lines.proofs.Fields.{after, spelled-tab, one-field, two-fields}
-use Rattle.probe_blobs.specs.Blobs.{readerOf, shownText, readText, kindOf, madeText, writtenBy, writeText, newBody, convertedText, convertedBy, convText}
+use Rattle.probe_blobs.specs.Blobs.{readerOf, shownText, readText, kindOf, madeText, writtenBy, writeText, convertedText, convertedBy, convText}
 use Rattle.probe_blobs.specs.declared.Reader.{Reader}
 use Rattle.probe_blobs.specs.declared.Reader.the-variants.{Plain, Strict}
 use Rattle.probe_blobs.specs.declared.Kind.{Kind}
@@ -53,36 +48,13 @@ written-room k d body made n e =
     let (clear, size, left) = written-blob k d body made n e in
     (omega (arith, writable k d body clear .short, size), left)
 
--- one more than the length of what was made
-abbrev reach : ConvertAnswer → ℕ
-reach (Converted v) = suc (v .length)
-reach (Refused r) = 0
-
-fitted : (few over : Bool) (need size : ℕ) (t : VectorType) (d : ℕ) (v : View)
-    → cond few (shortScratch need) (cond over (shortOut size) (convertedTo t d size)) ≡ Converted v → (over ≡ false) × (size ≡ v .length)
-fitted true over need size t d v e = let z = ap reach e in absurd (omega arith)
-fitted false true need size t d v e = let z = ap reach e in absurd (omega arith)
-fitted false false need size t d v e = let z = ap reach e in (refl, omega arith)
-
 -- the first bytes of the room are the new body
-module _ (t : VectorType) (scratch made : List ℕ) (v : View) where
-  made-by : (k : VectorType) (d : ℕ) (body : List ℕ) → answerOf k d body t (length scratch) (length made) ≡ Converted v
-      → (v .length ≤ length made) × (take (v .length) (bodyOutcome k d body t scratch made .out) ≡ resultOf k t d body)
-  unfolding answerOf bodyOutcome
-  made-by k d body e =
-      let new = resultOf k t d body in
-      let (fits, size) = fitted (scratched k t && ltb (length scratch) (4 * d)) (ltb (length made) (length new)) (4 * d) (length new) t d v e in
-      (omega (arith, ltb-false (length made) (length new) fits, size), rw e (take-at new (drop (length new) made) (v .length) size))
-
-  made-in : (r : ReadAnswer) (body : List ℕ) → convertIn r body t (length scratch) (length made) ≡ Converted v
-      → (v .length ≤ length made) × (take (v .length) (outcomeIn r body t scratch made .out) ≡ newBody t r body)
-  made-in (Accepted w) body e = made-by (w .kind) (w .dims .0) body e
-  made-in (Unread r) body e = let z = ap reach e in absurd (omega arith)
-
-  pub converted-room : (s : List ℕ) → convertOf s t (length scratch) (length made) ≡ Converted v
-      → (v .length ≤ length made) × (take (v .length) (convertOutcome s t scratch made .out) ≡ newBody t (readOf s) (bodyOf s))
-  unfolding convertOf convertOutcome
-  converted-room s e = made-in (readOf s) (bodyOf s) e
+pub converted-room : (t : VectorType) (v : View) (s made : List ℕ) (scratch : ℕ) → let c = conversionOf s t scratch (length made) in
+    c .answer ≡ Converted v → (v .length ≤ length made) × (take (v .length) (onto (c .out) made) ≡ c .out)
+converted-room t v s made scratch e =
+    let (size, room) = conversion-fits s t scratch (length made) v e in
+    let new = conversionOf s t scratch (length made) .out in
+    (room, take-at new (drop (length new) made) (v .length) size)
 
 -- ---- H is the last field
 pub last-read : (reader : Reader) (s : List ℕ) → one (readText reader) (fieldsOf s) ≡ readText reader s

@@ -6,7 +6,7 @@
 -- where H is a body, or after W a blob; or X where a field is none of these.
 use Prim.Native.Nat.{ℕ}
 use mathlib.Core.Bool.{cond}
-use mathlib.Core.List.{List, [], _++_}
+use mathlib.Core.List.{List, _++_}
 use lib.ListN.{take}
 use Rattle.lines.specs.Text.{word, same}
 use Rattle.lines.specs.Hex.{hexOf}
@@ -18,7 +18,6 @@ use Rattle.lines.specs.declared.hex.Found.the-variants.{Number, Nothing}
 use Rattle.vector_types.specs.Layout.{maxBlobLength, byteOf}
 use Rattle.vector_types.specs.Read.{readOf, strictOf}
 use Rattle.blob_writer.specs.Write.{blobOf, writeOf}
-use Rattle.vector_types.specs.Parts.{bodyOf}
 use Rattle.vector_types.specs.declared.VectorType.{VectorType}
 use Rattle.vector_types.specs.declared.VectorType.the-variants.{Float32Dense, Float64Dense, Float32Sparse, Float1Bit, Float8}
 use Rattle.vector_types.specs.declared.View.{View}
@@ -26,8 +25,7 @@ use Rattle.vector_types.specs.declared.ReadAnswer.{ReadAnswer}
 use Rattle.vector_types.specs.declared.ReadAnswer.the-variants.{Accepted, Refused}
 use Rattle.blob_writer.specs.declared.WriteAnswer.{WriteAnswer}
 use Rattle.blob_writer.specs.declared.WriteAnswer.the-variants.{Written, Refused as Unwritten}
-use Rattle.convert.specs.Result.{resultOf}
-use Rattle.convert.specs.Convert.{convertOf}
+use Rattle.convert.specs.Convert.{conversionOf}
 use Rattle.convert.specs.declared.ConvertAnswer.{ConvertAnswer}
 use Rattle.convert.specs.declared.ConvertAnswer.the-variants.{Converted, Refused as Unconverted}
 use Rattle.probe_blobs.specs.Limits.{scratchRoom}
@@ -97,14 +95,9 @@ unfoldable pub writeText : List ℕ → List ℕ → List ℕ → List ℕ
 unfolding blobText fromHex kindOf
 writeText kind number field = writtenBy (kindOf kind) (numeralOf 10 number) field
 
--- the body of the kind t for a blob that was read
-abbrev pub newBody : VectorType → ReadAnswer → List ℕ → List ℕ
-newBody t (Accepted v) body = resultOf (v .kind) t (v .dims .0) body
-newBody t (Refused r) body = []
-
 -- the blob s converted to the kind t, in room for the most elements and for the longest blob
 abbrev pub convertedText : VectorType → List ℕ → List ℕ
-convertedText t s = newText (convertOf s t scratchRoom maxBlobLength) (newBody t (readOf s) (bodyOf s))
+convertedText t s = let c = conversionOf s t scratchRoom maxBlobLength in newText (c .answer) (c .out)
 
 -- the same of K, where it is a kind, and H
 abbrev pub convertedBy : Kind → List ℕ → List ℕ

@@ -12,8 +12,7 @@ use Rattle.vector_types.specs.Read.{readOf, strictOf}
 use Rattle.blob_writer.specs.Write.{writeOf}
 use Rattle.vector_types.specs.Parts.{bodyOf}
 use Rattle.little_endian.specs.Bytes.{bytesOf, numberAt, put}
-use Rattle.convert.specs.Dense.{spread}
-use Rattle.convert.specs.Convert.{convertOf}
+use Rattle.convert.specs.Convert.{conversionOf}
 use Rattle.distance_sums.specs.Merged.{merged}
 use Rattle.nearer.specs.Nearer.{nearerOf}
 use Rattle.lines.specs.Text.{word, same}
@@ -102,7 +101,7 @@ Holds (e ∷ es) = (vecprobeReply (word (e .line)) ≡ word (e .answer)) × Hold
 pub examples-hold : Holds floats × Holds blobs × Holds conversions × Holds nearest
 unfolding partsOf same vecprobeReply decimalOf numeralOf patternOf numberFrom digitOf hexPair hexBytes hexOf
     root narrowed truncated toBits readOf strictOf writeOf firstFrom bodyOf
-    convertOf spread bytesOf numberAt put nearerOf running total merged ofBits ofInt add sub mul div neg eq lt le isNan
+    conversionOf bytesOf numberAt put nearerOf running total merged ofBits ofInt add sub mul div neg eq lt le isNan
 examples-hold = (
   (refl, (refl, (refl, (refl, (refl, (refl, (refl, (refl, (refl, (refl, (refl, (refl, (refl, tt))))))))))))),
   (refl, (refl, (refl, (refl, (refl, (refl, (refl, (refl, (refl, (refl, (refl, (refl, (refl, (refl, (refl, (refl, tt)))))))))))))))),

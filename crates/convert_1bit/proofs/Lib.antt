@@ -1,0 +1,3 @@
+-- Laws for callers
+pub mod Units
+pub mod Determined

@@ -1,0 +1,3 @@
+-- Laws for callers
+pub mod Stored
+pub mod Determined

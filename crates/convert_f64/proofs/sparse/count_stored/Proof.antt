@@ -1,0 +1,42 @@
+-- The stored elements below i have been counted.
+use Prim.Native.Nat.{_-_}
+use native.Mathlib.Omega.{arith}
+use borrow.Author.Needs.{needs}
+use lib.Ieee.{binary64}
+use Rattle.bodies.specs.Elements.{denseElement}
+use Rattle.convert_parts.specs.Sparse.{isNonzero}
+use Rattle.convert_parts.proofs.Patterns.{nonzero-tested}
+use Rattle.convert_parts.proofs.Places.{Counting, count-none, count-few, count-next, count-all}
+use Rattle.convert_f64.proofs.sparse.count_stored.Statement.{statement}
+use Rattle.convert_f64.proofs.sparse.count_stored.Tie as tie
+
+abbrev Inv-loop : tie.InvT-loop
+Inv-loop dims body n₀ i₀ n i = Counting (λ k. isNonzero (denseElement binary64 body k)) dims n i
+
+abbrev μ-loop : tie.MeasureT-loop
+μ-loop dims body n₀ i₀ n i = dims - i
+
+next-count-requires : tie.Need-next-count-requires Inv-loop μ-loop
+next-count-requires c κs =
+    let turn = c .before in
+    omega (arith, turn .before .before .before .pre .0, count-few _ (turn .before .loop .inv), turn .loop-test .taken)
+
+loop-again : tie.Need-loop-again Inv-loop μ-loop
+loop-again c =
+    let turn = c .before .before in
+    count-next _ (turn .before .loop .inv) (turn .loop-test .taken) _ (nonzero-tested binary64 _ _ _ (c .before .u64-at .ensures)) _ (c .next-count .ensures)
+
+returns : tie.Need-returns Inv-loop μ-loop
+returns c = count-all _ (c .before .loop .inv) (c .loop-test .left)
+
+pub count-stored-spec : {M : Type 1} → statement M
+count-stored-spec =
+    tie.close
+    (tie.spec
+    Inv-loop
+    μ-loop
+    (λ c. count-none _ _)
+    (λ c. search needs) (λ c κs. search needs) next-count-requires
+    (λ c. search needs) (λ c. search needs)
+    loop-again
+    returns)

@@ -1,0 +1,9 @@
+pub mod Pieces
+pub mod Spread
+pub mod Dense
+pub mod Sparse
+pub mod Bits
+pub mod Quantized
+pub mod Result
+pub mod ConvertExamples
+pub mod inner

@@ -1,0 +1,4 @@
+-- Laws for callers
+pub mod SpreadLoop
+pub mod Steps
+pub mod Determined
