@@ -2,7 +2,7 @@
 ghost use mathlib.Core.Path.{_≡_};
 ghost use Prim.Native.Nat.{_*_, _≤_};
 ghost use lib.ListN.{length, take};
-ghost use Rattle.promises.specs.Onto.{onto};
+ghost use Rattle.promises.specs.Puts.{Puts};
 ghost use Rattle.lines.specs.Parts.{fieldsOf};
 ghost use Rattle.vector_types.specs.Layout.{maxBlobLength as longestBlob};
 ghost use Rattle.lines.specs.Fields.{two, three};
@@ -44,8 +44,7 @@ fn put_refusal(number: u8, out: &mut [u8]) -> usize
 fn put_header(mark: &[u8], kind: VectorType, dims: usize, out: &mut [u8]) -> usize
     requires { ⌜ length (now mark) ≡ 2 ⌝ }
     requires { ⌜ 44 ≤ length (now out) ⌝ }
-    ensures { λ r. ⌜ r ≡ length (headerText (now (mark .entry)) kind dims) ⌝ }
-    ensures { λ _. ⌜ now (out .exit) ≡ onto (headerText (now (mark .entry)) kind dims) (now (out .entry)) ⌝ }
+    ensures { λ r. ⌜ Puts (headerText (now (mark .entry)) kind dims) (now (out .entry)) r (now (out .exit)) ⌝ }
     ensures { λ r. ⌜ r ≤ 44 ⌝ }
 {
     let marked = bytes::copy(mark, out);

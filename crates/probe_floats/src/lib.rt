@@ -2,7 +2,7 @@
 ghost use mathlib.Core.Path.{_≡_};
 ghost use Prim.Native.Nat.{_≤_, _<_, _^_};
 ghost use lib.ListN.{length};
-ghost use Rattle.promises.specs.Onto.{onto};
+ghost use Rattle.promises.specs.Puts.{Puts};
 ghost use Rattle.lines.specs.Parts.{fieldsOf};
 ghost use Rattle.lines.specs.Fields.{two};
 ghost use Rattle.probe_floats.specs.Floats.{workOf, floatOf, computedOf, ofWidth};
@@ -81,8 +81,7 @@ fn put_float(width: usize, n: u64, out: &mut [u8]) -> usize
     requires { ⌜ width ≤ 16 ⌝ }
     requires { ⌜ n < 16 ^ width ⌝ }
     requires { ⌜ 18 ≤ length (now out) ⌝ }
-    ensures { λ r. ⌜ r ≡ length (floatOf width n) ⌝ }
-    ensures { λ _. ⌜ now (out .exit) ≡ onto (floatOf width n) (now (out .entry)) ⌝ }
+    ensures { λ r. ⌜ Puts (floatOf width n) (now (out .entry)) r (now (out .exit)) ⌝ }
 {
     let head = bytes::copy(b"F\t", out);
     let digits = lines::hex::put_hex(width, n, &mut out[head..]);
@@ -92,8 +91,7 @@ fn put_float(width: usize, n: u64, out: &mut [u8]) -> usize
 // The answer to narrow|F, widen|F or trunc|F, of which the work is found and this is F.
 pub fn float_line(work: Work, field: &[u8], out: &mut [u8]) -> usize
     requires { ⌜ 18 ≤ length (now out) ⌝ }
-    ensures { λ r. ⌜ r ≡ length (computedOf work (now (field .entry))) ⌝ }
-    ensures { λ _. ⌜ now (out .exit) ≡ onto (computedOf work (now (field .entry))) (now (out .entry)) ⌝ }
+    ensures { λ r. ⌜ Puts (computedOf work (now (field .entry))) (now (out .entry)) r (now (out .exit)) ⌝ }
 {
     let w = widths(work);
     let found = lines::hex::pattern(w.takes, field);
@@ -109,8 +107,7 @@ pub fn float_line(work: Work, field: &[u8], out: &mut [u8]) -> usize
 // The answer to root|W|F, of which this is W|F.
 pub fn root_line(rest: &[u8], out: &mut [u8]) -> usize
     requires { ⌜ 18 ≤ length (now out) ⌝ }
-    ensures { λ r. ⌜ r ≡ length (two ofWidth (fieldsOf (now (rest .entry)))) ⌝ }
-    ensures { λ _. ⌜ now (out .exit) ≡ onto (two ofWidth (fieldsOf (now (rest .entry)))) (now (out .entry)) ⌝ }
+    ensures { λ r. ⌜ Puts (two ofWidth (fieldsOf (now (rest .entry)))) (now (out .entry)) r (now (out .exit)) ⌝ }
 {
     let end = lines::text::field_end(rest);
     if end == rest.len() {

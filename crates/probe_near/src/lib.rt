@@ -2,7 +2,7 @@
 ghost use mathlib.Core.Path.{_≡_};
 ghost use Prim.Native.Nat.{_+_, _*_, _≤_};
 ghost use lib.ListN.{length, take};
-ghost use Rattle.promises.specs.Onto.{onto};
+ghost use Rattle.promises.specs.Puts.{Puts};
 ghost use Rattle.lines.specs.Parts.{fieldsOf};
 ghost use Rattle.lines.specs.Fields.{four};
 ghost use Rattle.probe_near.specs.Near.{nearerText, partsText, candidatesText, nearBy, nearText};
@@ -19,8 +19,7 @@ use vecdist_lines::put_value;
 // Puts which candidate is nearer and its distance, or a refusal, at the start of out.
 fn put_nearer(answer: NearerAnswer, out: &mut [u8]) -> usize
     requires { ⌜ 32 ≤ length (now out) ⌝ }
-    ensures { λ r. ⌜ r ≡ length (nearerText answer) ⌝ }
-    ensures { λ _. ⌜ now (out .exit) ≡ onto (nearerText answer) (now (out .entry)) ⌝ }
+    ensures { λ r. ⌜ Puts (nearerText answer) (now (out .entry)) r (now (out .exit)) ⌝ }
 {
     match answer {
         NearerAnswer::Nearer(found) => {
@@ -45,8 +44,7 @@ fn put_blobs(distance: Distance, probe: usize, pair: usize, blobs: &[u8], out: &
     requires { ⌜ probe ≤ pair ⌝ }
     requires { ⌜ pair ≤ length (now blobs) ⌝ }
     requires { ⌜ 32 ≤ length (now out) ⌝ }
-    ensures { λ r. ⌜ r ≡ length (partsText distance probe pair (now (blobs .entry))) ⌝ }
-    ensures { λ _. ⌜ now (out .exit) ≡ onto (partsText distance probe pair (now (blobs .entry))) (now (out .entry)) ⌝ }
+    ensures { λ r. ⌜ Puts (partsText distance probe pair (now (blobs .entry))) (now (out .entry)) r (now (out .exit)) ⌝ }
 {
     let both = &blobs[..pair];
     put_nearer(
@@ -67,8 +65,7 @@ fn near_candidates(
 ) -> usize
     requires { ⌜ 2 * probe + (length (now first) + length (now second)) ≤ 2 * length (now spelled) ⌝ }
     requires { ⌜ 32 ≤ length (now out) ⌝ }
-    ensures { λ r. ⌜ r ≡ length (candidatesText distance (take probe (now (spelled .entry))) (now (first .entry)) (now (second .entry))) ⌝ }
-    ensures { λ _. ⌜ now (out .exit) ≡ onto (candidatesText distance (take probe (now (spelled .entry))) (now (first .entry)) (now (second .entry))) (now (out .entry)) ⌝ }
+    ensures { λ r. ⌜ Puts (candidatesText distance (take probe (now (spelled .entry))) (now (first .entry)) (now (second .entry))) (now (out .entry)) r (now (out .exit)) ⌝ }
 {
     let m = lines::hex::bytes(first, &mut spelled[probe..]);
     if 2 * m != first.len() {
@@ -94,8 +91,7 @@ fn near_fields(
 ) -> usize
     requires { ⌜ length (now probe) + (length (now first) + length (now second)) ≤ 2 * length (now spelled) ⌝ }
     requires { ⌜ 32 ≤ length (now out) ⌝ }
-    ensures { λ r. ⌜ r ≡ length (nearBy asked (now (probe .entry)) (now (first .entry)) (now (second .entry))) ⌝ }
-    ensures { λ _. ⌜ now (out .exit) ≡ onto (nearBy asked (now (probe .entry)) (now (first .entry)) (now (second .entry))) (now (out .entry)) ⌝ }
+    ensures { λ r. ⌜ Puts (nearBy asked (now (probe .entry)) (now (first .entry)) (now (second .entry))) (now (out .entry)) r (now (out .exit)) ⌝ }
 {
     let Asked::Known(distance) = asked else {
         return put_other(out);
@@ -111,8 +107,7 @@ fn near_fields(
 pub fn near_line(rest: &[u8], spelled: &mut [u8], out: &mut [u8]) -> usize
     requires { ⌜ length (now rest) ≤ 2 * length (now spelled) ⌝ }
     requires { ⌜ 32 ≤ length (now out) ⌝ }
-    ensures { λ r. ⌜ r ≡ length (four nearText (fieldsOf (now (rest .entry)))) ⌝ }
-    ensures { λ _. ⌜ now (out .exit) ≡ onto (four nearText (fieldsOf (now (rest .entry)))) (now (out .entry)) ⌝ }
+    ensures { λ r. ⌜ Puts (four nearText (fieldsOf (now (rest .entry)))) (now (out .entry)) r (now (out .exit)) ⌝ }
 {
     let end = lines::text::field_end(rest);
     if end == rest.len() {

@@ -2,7 +2,7 @@
 ghost use mathlib.Core.Path.{_≡_};
 ghost use Prim.Native.Nat.{_+_, _≤_, _<_, _^_};
 ghost use lib.ListN.{length};
-ghost use Rattle.lines.specs.Output.{Stepped};
+ghost use Rattle.lines.specs.inner.Output.{Stepped};
 ghost use Rattle.probe_blobs.specs.Limits.{scratchRoom, blobRoom};
 ghost use Rattle.probe_lines.specs.Limits.{limit, spelledRoom};
 ghost use Rattle.replies.specs.Rooms.{Rooms};

@@ -4,9 +4,9 @@ ghost use Prim.Native.Nat.{_+_, _≤_, _<_, _^_};
 ghost use mathlib.Core.List.{[], _∷_, _++_};
 ghost use lib.ListN.{length, drop};
 ghost use Rattle.lines.specs.Text.{newline};
-ghost use Rattle.promises.specs.Onto.{onto};
-ghost use Rattle.lines.specs.Stream.{keptWith, pieceOf};
-ghost use Rattle.lines.specs.Served.{heldAnswer, heldReply, saidOf, servedOf, lastSaid};
+ghost use Rattle.promises.specs.Puts.{Puts};
+ghost use Rattle.lines.specs.inner.Stream.{keptWith, pieceOf};
+ghost use Rattle.lines.specs.inner.Served.{heldAnswer, heldReply, saidOf, servedOf, lastSaid};
 ghost use Rattle.probe_lines.specs.Limits.{limit};
 ghost use Rattle.replies.specs.Rooms.{Rooms};
 ghost use Rattle.replies.specs.Program.{longest, programReply};
@@ -29,8 +29,7 @@ fn answer_held(
     requires { ⌜ held .count ≤ length (now kept) ⌝ }
     requires { ⌜ Rooms (now kept) (now spelled) (now scratch) (now made) ⌝ }
     requires { ⌜ limit ≤ length (now out) ⌝ }
-    ensures { λ r. ⌜ r ≡ length (heldAnswer (programReply program) (now (kept .entry)) held) ⌝ }
-    ensures { λ _. ⌜ now (out .exit) ≡ onto (heldAnswer (programReply program) (now (kept .entry)) held) (now (out .entry)) ⌝ }
+    ensures { λ r. ⌜ Puts (heldAnswer (programReply program) (now (kept .entry)) held) (now (out .entry)) r (now (out .exit)) ⌝ }
 {
     if held.long {
         return put_other(out);
@@ -52,8 +51,7 @@ fn put_line(
     requires { ⌜ held .count ≤ length (now kept) ⌝ }
     requires { ⌜ Rooms (now kept) (now spelled) (now scratch) (now made) ⌝ }
     requires { ⌜ limit < length (now out) ⌝ }
-    ensures { λ r. ⌜ r ≡ length (heldAnswer (programReply program) (now (kept .entry)) held ++ (newline ∷ [])) ⌝ }
-    ensures { λ _. ⌜ now (out .exit) ≡ onto (heldAnswer (programReply program) (now (kept .entry)) held ++ (newline ∷ [])) (now (out .entry)) ⌝ }
+    ensures { λ r. ⌜ Puts (heldAnswer (programReply program) (now (kept .entry)) held ++ (newline ∷ [])) (now (out .entry)) r (now (out .exit)) ⌝ }
 {
     let room = out.len() - 1;
     let said = answer_held(
@@ -83,8 +81,7 @@ fn reply(
     requires { ⌜ Rooms (now kept) (now spelled) (now scratch) (now made) ⌝ }
     requires { ⌜ held .before + 1 < 2 ^ 64 ⌝ }
     requires { ⌜ longest ≤ length (now out) ⌝ }
-    ensures { λ r. ⌜ r ≡ length (heldReply (programReply program) (now (kept .entry)) held) ⌝ }
-    ensures { λ _. ⌜ now (out .exit) ≡ onto (heldReply (programReply program) (now (kept .entry)) held) (now (out .entry)) ⌝ }
+    ensures { λ r. ⌜ Puts (heldReply (programReply program) (now (kept .entry)) held) (now (out .entry)) r (now (out .exit)) ⌝ }
 {
     let number = held.before + 1;
     let head = lines::text::put_head(number, out);
@@ -155,8 +152,7 @@ pub fn finish(
     requires { ⌜ Rooms (now kept) (now spelled) (now scratch) (now made) ⌝ }
     requires { ⌜ held .before + 1 < 2 ^ 64 ⌝ }
     requires { ⌜ longest ≤ length (now out) ⌝ }
-    ensures { λ r. ⌜ r ≡ length (lastSaid (programReply program) (now (kept .entry)) held) ⌝ }
-    ensures { λ _. ⌜ now (out .exit) ≡ onto (lastSaid (programReply program) (now (kept .entry)) held) (now (out .entry)) ⌝ }
+    ensures { λ r. ⌜ Puts (lastSaid (programReply program) (now (kept .entry)) held) (now (out .entry)) r (now (out .exit)) ⌝ }
 {
     if held.count == 0 {
         return 0;

@@ -2,7 +2,7 @@
 ghost use mathlib.Core.Path.{_≡_};
 ghost use Prim.Native.Nat.{_+_, _*_, _≤_};
 ghost use lib.ListN.{length};
-ghost use Rattle.promises.specs.Onto.{onto};
+ghost use Rattle.promises.specs.Puts.{Puts};
 ghost use Rattle.vecdist_lines.specs.Line.{askedOf, valueText, refusalText, answerText, askedBy, vecdistReply};
 use distance::Distance;
 use distance::DistanceAnswer;
@@ -40,8 +40,7 @@ pub fn asked_of(field: &[u8]) -> Asked
 pub fn put_value(mark: &[u8], x: f64, out: &mut [u8]) -> usize
     requires { ⌜ length (now mark) ≤ 4 ⌝ }
     requires { ⌜ 32 ≤ length (now out) ⌝ }
-    ensures { λ r. ⌜ r ≡ length (valueText (now (mark .entry)) x) ⌝ }
-    ensures { λ _. ⌜ now (out .exit) ≡ onto (valueText (now (mark .entry)) x) (now (out .entry)) ⌝ }
+    ensures { λ r. ⌜ Puts (valueText (now (mark .entry)) x) (now (out .entry)) r (now (out .exit)) ⌝ }
 {
     let head = bytes::copy(mark, out);
     head + lines::hex::put_hex(16, little_endian::bits64(x), &mut out[head..])
@@ -51,8 +50,7 @@ pub fn put_value(mark: &[u8], x: f64, out: &mut [u8]) -> usize
 pub fn put_refusal(number: u8, name: &[u8], out: &mut [u8]) -> usize
     requires { ⌜ length (now name) ≡ 1 ⌝ }
     requires { ⌜ 32 ≤ length (now out) ⌝ }
-    ensures { λ r. ⌜ r ≡ length (refusalText number (now (name .entry))) ⌝ }
-    ensures { λ _. ⌜ now (out .exit) ≡ onto (refusalText number (now (name .entry))) (now (out .entry)) ⌝ }
+    ensures { λ r. ⌜ Puts (refusalText number (now (name .entry))) (now (out .entry)) r (now (out .exit)) ⌝ }
 {
     let head = bytes::copy(b"R\t", out);
     let told = head + lines::text::put_head(number as u64, &mut out[head..]);
@@ -62,8 +60,7 @@ pub fn put_refusal(number: u8, name: &[u8], out: &mut [u8]) -> usize
 // Puts an answer at the start of out.
 fn put_answer(answer: DistanceAnswer, out: &mut [u8]) -> usize
     requires { ⌜ 32 ≤ length (now out) ⌝ }
-    ensures { λ r. ⌜ r ≡ length (answerText answer) ⌝ }
-    ensures { λ _. ⌜ now (out .exit) ≡ onto (answerText answer) (now (out .entry)) ⌝ }
+    ensures { λ r. ⌜ Puts (answerText answer) (now (out .entry)) r (now (out .exit)) ⌝ }
 {
     match answer {
         DistanceAnswer::Measured(x) => put_value(b"D\t", x, out),
@@ -86,8 +83,7 @@ fn answer_pair(
 ) -> usize
     requires { ⌜ length (now first) + length (now second) ≤ 2 * length (now spelled) ⌝ }
     requires { ⌜ 32 ≤ length (now out) ⌝ }
-    ensures { λ r. ⌜ r ≡ length (askedBy asked (now (first .entry)) (now (second .entry))) ⌝ }
-    ensures { λ _. ⌜ now (out .exit) ≡ onto (askedBy asked (now (first .entry)) (now (second .entry))) (now (out .entry)) ⌝ }
+    ensures { λ r. ⌜ Puts (askedBy asked (now (first .entry)) (now (second .entry))) (now (out .entry)) r (now (out .exit)) ⌝ }
 {
     let Asked::Known(distance) = asked else {
         return put_other(out);
@@ -111,8 +107,7 @@ fn answer_pair(
 pub fn answer(line: &[u8], spelled: &mut [u8], out: &mut [u8]) -> usize
     requires { ⌜ length (now line) ≤ 2 * length (now spelled) ⌝ }
     requires { ⌜ 32 ≤ length (now out) ⌝ }
-    ensures { λ r. ⌜ r ≡ length (vecdistReply (now (line .entry))) ⌝ }
-    ensures { λ _. ⌜ now (out .exit) ≡ onto (vecdistReply (now (line .entry))) (now (out .entry)) ⌝ }
+    ensures { λ r. ⌜ Puts (vecdistReply (now (line .entry))) (now (out .entry)) r (now (out .exit)) ⌝ }
 {
     let end = lines::text::field_end(line);
     if end == line.len() {

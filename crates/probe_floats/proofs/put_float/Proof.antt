@@ -5,7 +5,7 @@ use lib.ListN.{length}
 use Rattle.io.specs.Digits.{digits}
 use Rattle.lines.specs.Text.{word}
 use Rattle.promises.proofs.Onto.{onto-then}
-use Rattle.lines.proofs.Spelled.{length-digits}
+use Rattle.lines.proofs.Decimal.{length-digits}
 use borrow.Author.Needs.{needs}
 use Rattle.probe_floats.proofs.put_float.Statement.{statement}
 use Rattle.probe_floats.proofs.put_float.Tie as tie

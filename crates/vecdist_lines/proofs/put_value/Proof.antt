@@ -4,7 +4,7 @@ use mathlib.Core.List.{_++_}
 use Prim.Native.Nat.{ℕ}
 use Rattle.io.specs.Digits.{digits}
 use Rattle.promises.proofs.Onto.{copied}
-use Rattle.lines.proofs.Spelled.{length-digits}
+use Rattle.lines.proofs.Decimal.{length-digits}
 use Rattle.lines.proofs.Fields.{same-text, puts-then}
 use borrow.Author.Needs.{needs}
 use Rattle.vecdist_lines.proofs.put_value.Statement.{statement}
