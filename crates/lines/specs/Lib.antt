@@ -4,4 +4,5 @@ pub mod Decimal
 pub mod Parts
 pub mod Fields
 pub mod Printed
+pub mod Example
 pub mod inner

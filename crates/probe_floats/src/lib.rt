@@ -7,7 +7,7 @@ ghost use Rattle.lines.specs.Parts.{fieldsOf};
 ghost use Rattle.lines.specs.Fields.{two};
 ghost use Rattle.probe_floats.specs.Floats.{workOf, floatOf, computedOf, ofWidth};
 use lines::hex::Found;
-use lines::text::put_other;
+use lines::text::put_malformed;
 
 // What is asked of a float's pattern.
 pub enum Work {
@@ -100,7 +100,7 @@ pub fn float_line(work: Work, field: &[u8], out: &mut [u8]) -> usize
             let value = result(work, n);
             put_float(w.gives, value, out)
         }
-        Found::Nothing => put_other(out),
+        Found::Nothing => put_malformed(out),
     }
 }
 
@@ -111,7 +111,7 @@ pub fn root_line(rest: &[u8], out: &mut [u8]) -> usize
 {
     let end = lines::text::field_end(rest);
     if end == rest.len() {
-        return put_other(out);
+        return put_malformed(out);
     }
     let width = &rest[..end];
     let field = &rest[end + 1..];
@@ -121,5 +121,5 @@ pub fn root_line(rest: &[u8], out: &mut [u8]) -> usize
     if check::same(width, b"64") {
         return float_line(Work::Root64, field, out);
     }
-    put_other(out)
+    put_malformed(out)
 }

@@ -38,17 +38,17 @@ pub fn limit_of(program: Program) -> usize
 pub fn answer(
     program: Program,
     line: &[u8],
-    spelled: &mut [u8],
+    decoded: &mut [u8],
     scratch: &mut [u8],
     made: &mut [u8],
     out: &mut [u8],
 ) -> usize
-    requires { ⌜ Rooms (now line) (now spelled) (now scratch) (now made) ⌝ }
+    requires { ⌜ Rooms (now line) (now decoded) (now scratch) (now made) ⌝ }
     requires { ⌜ limit ≤ length (now out) ⌝ }
     ensures { λ r. ⌜ Puts (programReply program (now (line .entry))) (now (out .entry)) r (now (out .exit)) ⌝ }
 {
     match program {
-        Program::Vecdist => vecdist_lines::answer(line, spelled, out),
-        Program::Vecprobe => probe_lines::answer(line, spelled, scratch, made, out),
+        Program::Vecdist => vecdist_lines::answer(line, decoded, out),
+        Program::Vecprobe => probe_lines::answer(line, decoded, scratch, made, out),
     }
 }

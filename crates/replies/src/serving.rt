@@ -14,28 +14,28 @@ use crate::Program;
 use crate::answer;
 use lines::stream::Held;
 use lines::stream::Served;
-use lines::text::put_other;
+use lines::text::put_malformed;
 
 // The answer to the line of which this is kept.
 fn answer_held(
     program: Program,
     kept: &[u8],
     held: Held,
-    spelled: &mut [u8],
+    decoded: &mut [u8],
     scratch: &mut [u8],
     made: &mut [u8],
     out: &mut [u8],
 ) -> usize
     requires { ⌜ held .count ≤ length (now kept) ⌝ }
-    requires { ⌜ Rooms (now kept) (now spelled) (now scratch) (now made) ⌝ }
+    requires { ⌜ Rooms (now kept) (now decoded) (now scratch) (now made) ⌝ }
     requires { ⌜ limit ≤ length (now out) ⌝ }
     ensures { λ r. ⌜ Puts (heldAnswer (programReply program) (now (kept .entry)) held) (now (out .entry)) r (now (out .exit)) ⌝ }
 {
     if held.long {
-        return put_other(out);
+        return put_malformed(out);
     }
     let count = held.count;
-    answer(program, &kept[..count], spelled, scratch, made, out)
+    answer(program, &kept[..count], decoded, scratch, made, out)
 }
 
 // The answer to the line of which this is kept, and a newline.
@@ -43,13 +43,13 @@ fn put_line(
     program: Program,
     kept: &[u8],
     held: Held,
-    spelled: &mut [u8],
+    decoded: &mut [u8],
     scratch: &mut [u8],
     made: &mut [u8],
     out: &mut [u8],
 ) -> usize
     requires { ⌜ held .count ≤ length (now kept) ⌝ }
-    requires { ⌜ Rooms (now kept) (now spelled) (now scratch) (now made) ⌝ }
+    requires { ⌜ Rooms (now kept) (now decoded) (now scratch) (now made) ⌝ }
     requires { ⌜ limit < length (now out) ⌝ }
     ensures { λ r. ⌜ Puts (heldAnswer (programReply program) (now (kept .entry)) held ++ (newline ∷ [])) (now (out .entry)) r (now (out .exit)) ⌝ }
 {
@@ -58,7 +58,7 @@ fn put_line(
         program,
         kept,
         held,
-        spelled,
+        decoded,
         scratch,
         made,
         &mut out[..room],
@@ -72,13 +72,13 @@ fn reply(
     program: Program,
     kept: &[u8],
     held: Held,
-    spelled: &mut [u8],
+    decoded: &mut [u8],
     scratch: &mut [u8],
     made: &mut [u8],
     out: &mut [u8],
 ) -> usize
     requires { ⌜ held .count ≤ length (now kept) ⌝ }
-    requires { ⌜ Rooms (now kept) (now spelled) (now scratch) (now made) ⌝ }
+    requires { ⌜ Rooms (now kept) (now decoded) (now scratch) (now made) ⌝ }
     requires { ⌜ held .before + 1 < 2 ^ 64 ⌝ }
     requires { ⌜ longest ≤ length (now out) ⌝ }
     ensures { λ r. ⌜ Puts (heldReply (programReply program) (now (kept .entry)) held) (now (out .entry)) r (now (out .exit)) ⌝ }
@@ -89,7 +89,7 @@ fn reply(
         program,
         kept,
         held,
-        spelled,
+        decoded,
         scratch,
         made,
         &mut out[head..],
@@ -105,14 +105,14 @@ pub fn serve(
     at: usize,
     kept: &mut [u8],
     held: Held,
-    spelled: &mut [u8],
+    decoded: &mut [u8],
     scratch: &mut [u8],
     made: &mut [u8],
     out: &mut [u8],
 ) -> Served
     requires { ⌜ at ≤ length (now chunk) ⌝ }
     requires { ⌜ held .count ≤ length (now kept) ⌝ }
-    requires { ⌜ Rooms (now kept) (now spelled) (now scratch) (now made) ⌝ }
+    requires { ⌜ Rooms (now kept) (now decoded) (now scratch) (now made) ⌝ }
     requires { ⌜ held .before + 1 < 2 ^ 64 ⌝ }
     requires { ⌜ longest ≤ length (now out) ⌝ }
     ensures { λ r. ⌜ r ≡ servedOf (programReply program) (now (kept .entry)) (drop at (now (chunk .entry))) at held ⌝ }
@@ -123,7 +123,7 @@ pub fn serve(
     let next = taken.at;
     let line = taken.held;
     if taken.ended {
-        let said = reply(program, kept, line, spelled, scratch, made, out);
+        let said = reply(program, kept, line, decoded, scratch, made, out);
         let fresh = lines::stream::next(line);
         return Served {
             held: fresh,
@@ -143,13 +143,13 @@ pub fn finish(
     program: Program,
     kept: &[u8],
     held: Held,
-    spelled: &mut [u8],
+    decoded: &mut [u8],
     scratch: &mut [u8],
     made: &mut [u8],
     out: &mut [u8],
 ) -> usize
     requires { ⌜ held .count ≤ length (now kept) ⌝ }
-    requires { ⌜ Rooms (now kept) (now spelled) (now scratch) (now made) ⌝ }
+    requires { ⌜ Rooms (now kept) (now decoded) (now scratch) (now made) ⌝ }
     requires { ⌜ held .before + 1 < 2 ^ 64 ⌝ }
     requires { ⌜ longest ≤ length (now out) ⌝ }
     ensures { λ r. ⌜ Puts (lastSaid (programReply program) (now (kept .entry)) held) (now (out .entry)) r (now (out .exit)) ⌝ }
@@ -157,5 +157,5 @@ pub fn finish(
     if held.count == 0 {
         return 0;
     }
-    reply(program, kept, held, spelled, scratch, made, out)
+    reply(program, kept, held, decoded, scratch, made, out)
 }

@@ -50,7 +50,7 @@ returns-2 c =
     let p = told .before .before in
     let work = p .before .before .before .before .args .work in
     let e = sym (asked p) ∙ told .enum-told .given .1 in
-    same-text _ _ _ _ _ (sym (ap (byFound (workOf work)) e)) (c .before .before .put-other .ensures)
+    same-text _ _ _ _ _ (sym (ap (byFound (workOf work)) e)) (c .before .before .put-malformed .ensures)
 
 pub float-line-spec : {M : Type 1} → statement M
 float-line-spec =
