@@ -9,7 +9,7 @@ use lib.ListN.{length}
 use Rattle.lines.specs.Text.{newline}
 use Rattle.lines.proofs.Parting.{parts-some}
 use Rattle.lines.specs.Parts.{partsOf, inFront, lastUnlessEmpty}
-use Rattle.lines.specs.Printed.{repliesFrom, printedOf}
+use Rattle.lines.specs.Printed.{numberedReplies, printedOf}
 use Rattle.lines.specs.inner.Progress.{Progress, nothing, ended, next, after, finished}
 
 last-after : (l : List ℕ) (ps : List (List ℕ)) → 0 < length ps → lastUnlessEmpty (l ∷ ps) ≡ l ∷ lastUnlessEmpty ps
@@ -43,17 +43,17 @@ module _ (answer : List ℕ → List ℕ) where
 
   -- what is still to be printed of the parts of the input that follow
   rest : Progress → List (List ℕ) → List ℕ
-  rest p ps = p .printed ++ repliesFrom answer (p .before + 1) (lastUnlessEmpty (onFirst (p .line) ps))
+  rest p ps = p .printed ++ numberedReplies answer (p .before + 1) (lastUnlessEmpty (onFirst (p .line) ps))
 
   at-end : (b : ℕ) (l o : List ℕ) → finished answer (record { before = b; line = l; printed = o }) ≡ rest (record { before = b; line = l; printed = o }) ([] ∷ [])
-  unfolding finished rest onFirst lastUnlessEmpty repliesFrom
+  unfolding finished rest onFirst lastUnlessEmpty numberedReplies
   at-end b [] o = sym (append-nil o)
   at-end b (x ∷ l) o = rw (append-nil l, append-nil, eqb·suc-zero (length l))
 
   byte-step : (t : Bool) (p : Progress) (x : ℕ) (s : List ℕ) → ((q : Progress) → finished answer (after answer q s) ≡ rest q (partsOf newline s))
       → finished answer (after answer (cond t (ended answer p) (record { before = p .before; line = p .line ++ (x ∷ []); printed = p .printed })) s)
       ≡ rest p (cond t ([] ∷ partsOf newline s) (inFront x (partsOf newline s)))
-  unfolding rest onFirst repliesFrom
+  unfolding rest onFirst numberedReplies
   byte-step true p x s ih =
       ih (ended answer p)
       ∙ rw (first-none, last-after (p .line ++ []) (partsOf newline s) (parts-some newline s), append-nil (p .line), append-assoc)

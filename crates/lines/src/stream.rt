@@ -1,4 +1,4 @@
-// A stream parted into lines: what is kept of a line that is not yet at its end.
+// A stream split into lines: what is kept of an unfinished line.
 ghost use mathlib.Core.Path.{_≡_};
 ghost use Prim.Native.Nat.{_+_, _≤_, _<_, _^_};
 ghost use lib.ListN.{length, drop};

@@ -4,9 +4,9 @@ ghost use Prim.Native.Nat.{_+_, _≤_, _<_, _^_};
 ghost use lib.ListN.{length};
 ghost use Rattle.lines.specs.inner.Output.{Stepped};
 ghost use Rattle.probe_blobs.specs.Limits.{scratchRoom, blobRoom};
-ghost use Rattle.probe_lines.specs.Limits.{limit, decodedRoom};
+ghost use Rattle.probe_lines.specs.Limits.{vecprobeLimit, decodedRoom};
 ghost use Rattle.replies.specs.Rooms.{Rooms};
-ghost use Rattle.replies.specs.Program.{longest};
+ghost use Rattle.replies.specs.Program.{longestReply};
 use crate::LONGEST;
 use crate::Program;
 use crate::limit_of;
@@ -24,12 +24,12 @@ use probe_lines::SCRATCH;
 
 // As many bytes of a line as are kept: a line of more is answered X.
 fn line_room() -> [u8; LIMIT]
-    ensures { λ r. ⌜ limit ≡ length r ⌝ }
+    ensures { λ r. ⌜ vecprobeLimit ≡ length r ⌝ }
 {
     [0; LIMIT]
 }
 
-// Room to work in: for the bytes that a line spells, for a conversion, and for what is made.
+// Room to work in: for the bytes that a line is decoded to, for a conversion, and for what is made.
 fn decoded_room() -> [u8; DECODED]
     ensures { λ r. ⌜ decodedRoom ≡ length r ⌝ }
 {
@@ -91,7 +91,7 @@ fn serve_from(
     requires { ⌜ held .count ≤ length (now kept) ⌝ }
     requires { ⌜ Rooms (now kept) (now decoded) (now scratch) (now made) ⌝ }
     requires { ⌜ held .before + 1 < 2 ^ 64 ⌝ }
-    requires { ⌜ start + longest ≤ length (now out) ⌝ }
+    requires { ⌜ start + longestReply ≤ length (now out) ⌝ }
     ensures { λ r. ⌜ Stepped (length (now (chunk .entry))) at (length (now (kept .entry))) held (length (now (out .entry))) r ⌝ }
 {
     let served = serve(
@@ -129,7 +129,7 @@ fn serve_chunk(
     requires { ⌜ held .count ≤ length (now kept) ⌝ }
     requires { ⌜ Rooms (now kept) (now decoded) (now scratch) (now made) ⌝ }
     requires { ⌜ held .before + length (now chunk) < 2 ^ 64 ⌝ }
-    requires { ⌜ longest ≤ length (now out) ⌝ }
+    requires { ⌜ longestReply ≤ length (now out) ⌝ }
     ensures { λ r. ⌜ r .held .count ≤ length (now (kept .entry)) ⌝ }
     ensures { λ r. ⌜ r .held .before ≤ held .before + length (now (chunk .entry)) ⌝ }
 {
@@ -177,7 +177,7 @@ fn serve_end(
     requires { ⌜ held .count ≤ length (now kept) ⌝ }
     requires { ⌜ Rooms (now kept) (now decoded) (now scratch) (now made) ⌝ }
     requires { ⌜ held .before + 1 < 2 ^ 64 ⌝ }
-    requires { ⌜ longest ≤ length (now out) ⌝ }
+    requires { ⌜ longestReply ≤ length (now out) ⌝ }
 {
     let said = finish(program, kept, held, decoded, scratch, made, out);
     io::write_all(libc::STDOUT_FILENO, &out[..said])

@@ -7,9 +7,9 @@ ghost use Rattle.lines.specs.Text.{newline};
 ghost use Rattle.promises.specs.Puts.{Puts};
 ghost use Rattle.lines.specs.inner.Stream.{keptWith, pieceOf};
 ghost use Rattle.lines.specs.inner.Served.{heldAnswer, heldReply, saidOf, servedOf, lastSaid};
-ghost use Rattle.probe_lines.specs.Limits.{limit};
+ghost use Rattle.probe_lines.specs.Limits.{vecprobeLimit};
 ghost use Rattle.replies.specs.Rooms.{Rooms};
-ghost use Rattle.replies.specs.Program.{longest, programReply};
+ghost use Rattle.replies.specs.Program.{longestReply, programReply};
 use crate::Program;
 use crate::answer;
 use lines::stream::Held;
@@ -28,7 +28,7 @@ fn answer_held(
 ) -> usize
     requires { ⌜ held .count ≤ length (now kept) ⌝ }
     requires { ⌜ Rooms (now kept) (now decoded) (now scratch) (now made) ⌝ }
-    requires { ⌜ limit ≤ length (now out) ⌝ }
+    requires { ⌜ vecprobeLimit ≤ length (now out) ⌝ }
     ensures { λ r. ⌜ Puts (heldAnswer (programReply program) (now (kept .entry)) held) (now (out .entry)) r (now (out .exit)) ⌝ }
 {
     if held.long {
@@ -50,7 +50,7 @@ fn put_line(
 ) -> usize
     requires { ⌜ held .count ≤ length (now kept) ⌝ }
     requires { ⌜ Rooms (now kept) (now decoded) (now scratch) (now made) ⌝ }
-    requires { ⌜ limit < length (now out) ⌝ }
+    requires { ⌜ vecprobeLimit < length (now out) ⌝ }
     ensures { λ r. ⌜ Puts (heldAnswer (programReply program) (now (kept .entry)) held ++ (newline ∷ [])) (now (out .entry)) r (now (out .exit)) ⌝ }
 {
     let room = out.len() - 1;
@@ -80,7 +80,7 @@ fn reply(
     requires { ⌜ held .count ≤ length (now kept) ⌝ }
     requires { ⌜ Rooms (now kept) (now decoded) (now scratch) (now made) ⌝ }
     requires { ⌜ held .before + 1 < 2 ^ 64 ⌝ }
-    requires { ⌜ longest ≤ length (now out) ⌝ }
+    requires { ⌜ longestReply ≤ length (now out) ⌝ }
     ensures { λ r. ⌜ Puts (heldReply (programReply program) (now (kept .entry)) held) (now (out .entry)) r (now (out .exit)) ⌝ }
 {
     let number = held.before + 1;
@@ -114,7 +114,7 @@ pub fn serve(
     requires { ⌜ held .count ≤ length (now kept) ⌝ }
     requires { ⌜ Rooms (now kept) (now decoded) (now scratch) (now made) ⌝ }
     requires { ⌜ held .before + 1 < 2 ^ 64 ⌝ }
-    requires { ⌜ longest ≤ length (now out) ⌝ }
+    requires { ⌜ longestReply ≤ length (now out) ⌝ }
     ensures { λ r. ⌜ r ≡ servedOf (programReply program) (now (kept .entry)) (drop at (now (chunk .entry))) at held ⌝ }
     ensures { λ _. ⌜ now (kept .exit) ≡ keptWith (now (kept .entry)) (held .count) (pieceOf (drop at (now (chunk .entry)))) ⌝ }
     ensures { λ _. ⌜ now (out .exit) ≡ onto (saidOf (programReply program) (now (kept .entry)) (drop at (now (chunk .entry))) at held) (now (out .entry)) ⌝ }
@@ -151,7 +151,7 @@ pub fn finish(
     requires { ⌜ held .count ≤ length (now kept) ⌝ }
     requires { ⌜ Rooms (now kept) (now decoded) (now scratch) (now made) ⌝ }
     requires { ⌜ held .before + 1 < 2 ^ 64 ⌝ }
-    requires { ⌜ longest ≤ length (now out) ⌝ }
+    requires { ⌜ longestReply ≤ length (now out) ⌝ }
     ensures { λ r. ⌜ Puts (lastSaid (programReply program) (now (kept .entry)) held) (now (out .entry)) r (now (out .exit)) ⌝ }
 {
     if held.count == 0 {

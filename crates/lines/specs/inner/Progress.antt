@@ -1,4 +1,4 @@
--- The same, byte by byte: what a program has read and printed after some bytes of its input, with no limit on what it keeps.
+-- A stream byte by byte: what a program has read and printed after some bytes of its input, with no limit on what it keeps.
 use Prim.Native.Nat.{ℕ, _+_, min}
 use mathlib.Core.Bool.{cond}
 use mathlib.Core.Path.{_≡_}
@@ -6,7 +6,7 @@ use mathlib.Core.List.{List, [], _∷_, _++_}
 use lib.Dec.{eqb, ltb}
 use lib.ListN.{length, take}
 use Rattle.lines.specs.Text.{newline}
-use Rattle.lines.specs.Printed.{replyOf}
+use Rattle.lines.specs.Printed.{numberedReply}
 use Rattle.lines.specs.declared.stream.Held.{Held}
 
 -- how many lines ended, the bytes of the one that is being read, and what is printed
@@ -21,7 +21,7 @@ nothing = record { before = 0; line = []; printed = [] }
 module _ (answer : List ℕ → List ℕ) where
   -- the line is at its end
   abbrev pub ended : Progress → Progress
-  ended p = record { before = p .before + 1; line = []; printed = p .printed ++ replyOf (p .before + 1) (answer (p .line)) }
+  ended p = record { before = p .before + 1; line = []; printed = p .printed ++ numberedReply (p .before + 1) (answer (p .line)) }
 
   abbrev pub next : Progress → ℕ → Progress
   next p b = cond (eqb b newline) (ended p) (record { before = p .before; line = p .line ++ (b ∷ []); printed = p .printed })

@@ -1,4 +1,4 @@
--- What a program says as it serves an input in chunks, line by line. `answer` is what it answers to a line.
+-- What a program prints as it serves an input in chunks, line by line. `answer` is its reply to a line.
 use Prim.Native.Nat.{ℕ, _+_, _-_}
 use mathlib.Core.Bool.{cond}
 use mathlib.Core.Path.{_≡_}
@@ -6,7 +6,7 @@ use mathlib.Core.List.{List, [], _++_}
 use lib.Dec.{eqb}
 use lib.ListN.{length, take}
 use Rattle.lines.specs.Text.{word}
-use Rattle.lines.specs.Printed.{replyOf}
+use Rattle.lines.specs.Printed.{numberedReply}
 use Rattle.lines.specs.inner.Stream.{heldAt, takenOf, keptWith, pieceOf}
 use Rattle.lines.specs.declared.stream.Held.{Held}
 use Rattle.lines.specs.declared.stream.Served.{Served}
@@ -17,7 +17,7 @@ module _ (answer : List ℕ → List ℕ) where
   heldAnswer kept held = cond (held .long) (word "X") (answer (take (held .count) kept))
 
   abbrev pub heldReply : List ℕ → Held → List ℕ
-  heldReply kept held = replyOf (held .before + 1) (heldAnswer kept held)
+  heldReply kept held = numberedReply (held .before + 1) (heldAnswer kept held)
 
   -- what is said at the next bytes of a chunk: the reply, where the line is at its end
   abbrev pub saidOf : List ℕ → List ℕ → ℕ → Held → List ℕ
@@ -38,7 +38,7 @@ module _ (answer : List ℕ → List ℕ) where
   abbrev pub lastSaid : List ℕ → Held → List ℕ
   lastSaid kept held = cond (eqb (held .count) 0) [] (heldReply kept held)
 
-  -- A program that keeps limit bytes of a line has served the input so far, has said this much, and has this left of a line:
+  -- A program that keeps limit bytes of a line has served the input so far, has printed this much, and holds an unfinished line:
   -- it starts with nothing, and serves the next bytes of whatever chunk of the input it was given.
   pub data Serving (limit : ℕ) : List ℕ → List ℕ → List ℕ → Held → Type 0 where
     begun : {kept : List ℕ} → length kept ≡ limit → Serving limit [] [] kept (heldAt 0)

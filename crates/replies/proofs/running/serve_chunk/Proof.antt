@@ -4,7 +4,7 @@ use mathlib.Core.Path.{_≡_, sym}
 use native.Mathlib.Omega.{arith}
 use lib.ListN.{length}
 use lib.Seq.{length-take-le}
-use Rattle.replies.specs.Program.{longest}
+use Rattle.replies.specs.Program.{longestReply}
 use borrow.Author.Needs.{needs}
 use Rattle.replies.proofs.running.serve_chunk.Statement.{statement}
 use Rattle.replies.proofs.running.serve_chunk.Tie as tie
@@ -18,7 +18,7 @@ abbrev μ-loop : tie.MeasureT-loop
 μ-loop program chunk kept₀ decoded₀ scratch₀ made₀ out₀ line₀ at₀ filled₀ kept decoded scratch made out line at filled = length chunk - at
 
 -- there is room for a reply
-roomy : (c : tie.After-room Inv-loop μ-loop) → c .room .given .0 .0 + longest ≤ length (c .before .before .before .before .before .loop .out)
+roomy : (c : tie.After-room Inv-loop μ-loop) → c .room .given .0 .0 + longestReply ≤ length (c .before .before .before .before .before .loop .out)
 roomy c = rw (c .room .given .1) at (c .before .before .make-room .ensures)
 
 serve-from-requires : tie.Need-serve-from-requires Inv-loop μ-loop

@@ -1,12 +1,12 @@
 -- `finish` meets its contract: a last line without bytes is none.
-use mathlib.Core.Path.{refl}
+use Rattle.promises.proofs.Puts.{puts-none}
 use borrow.Author.Tests.{eq-eqb, ne-eqb}
 use borrow.Author.Needs.{needs}
 use Rattle.replies.proofs.serving.finish.Statement.{statement}
 use Rattle.replies.proofs.serving.finish.Tie as tie
 
 returns : tie.Need-returns
-returns c = rw (eq-eqb _ _ (c .if1 .taken)) (refl, refl)
+returns c = rw (eq-eqb _ _ (c .if1 .taken)) (puts-none _)
 
 returns-2 : tie.Need-returns-2
 returns-2 c = rw (ne-eqb _ _ (c .before .before .before .before .before .before .before .before .before .before .before .before .before .if1 .left)) (c .before .before .before .before .before .before .before .before .reply .ensures)
