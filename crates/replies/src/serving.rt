@@ -4,6 +4,7 @@ ghost use Prim.Native.Nat.{_+_, _≤_, _<_, _^_};
 ghost use mathlib.Core.List.{[], _∷_, _++_};
 ghost use lib.ListN.{length, drop};
 ghost use Rattle.lines.specs.Text.{newline};
+ghost use Rattle.promises.specs.Onto.{onto};
 ghost use Rattle.promises.specs.Puts.{Puts};
 ghost use Rattle.lines.specs.inner.Stream.{keptWith, pieceOf};
 ghost use Rattle.lines.specs.inner.Served.{heldAnswer, heldReply, saidOf, servedOf, lastSaid};
