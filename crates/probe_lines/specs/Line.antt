@@ -4,11 +4,10 @@
 -- The crates of each subject have the replies: `Floats` those about one float, `Blobs` those that show a vector, `Write` those
 -- that write a blob, and `Near` those about a probe and two candidates. The reply to any other line is X.
 use Prim.Native.Nat.{ℕ}
-use mathlib.Core.Bool.{cond}
 use mathlib.Core.List.{List, [], _∷_}
-use Rattle.lines.specs.Text.{word, same}
+use Rattle.lines.specs.Text.{word}
 use Rattle.lines.specs.Parts.{fieldsOf}
-use Rattle.lines.specs.Fields.{malformed, exactly}
+use Rattle.lines.specs.Fields.{malformed, exactly, firstNamed}
 use Rattle.probe_floats.specs.Floats.{floatReply, rootReply}
 use Rattle.probe_floats.specs.declared.Work.the-variants.{Narrow, Widen, Trunc}
 use Rattle.probe_blobs.specs.Blobs.{readReply, convertReply}
@@ -19,18 +18,13 @@ use Rattle.probe_lines.specs.declared.Verb.{Verb}
 use Rattle.probe_lines.specs.declared.Verb.the-variants.{Root, Float, Read, Write, Convert, Near, Other}
 
 -- what a line asks for, by its first field
+abbrev pub verbWords : List (List ℕ × Verb)
+verbWords =
+    (word "root", Root) ∷ (word "narrow", Float Narrow) ∷ (word "widen", Float Widen) ∷ (word "trunc", Float Trunc)
+    ∷ (word "read", Read Plain) ∷ (word "strict", Read Strict) ∷ (word "write", Write) ∷ (word "conv", Convert) ∷ (word "near", Near) ∷ []
+
 unfoldable pub verbOf : List ℕ → Verb
-verbOf first =
-    cond (same first (word "root")) Root
-    (cond (same first (word "narrow")) (Float Narrow)
-    (cond (same first (word "widen")) (Float Widen)
-    (cond (same first (word "trunc")) (Float Trunc)
-    (cond (same first (word "read")) (Read Plain)
-    (cond (same first (word "strict")) (Read Strict)
-    (cond (same first (word "write")) Write
-    (cond (same first (word "conv")) Convert
-    (cond (same first (word "near")) Near
-    Other))))))))
+verbOf first = firstNamed verbWords Other first
 
 -- the reply to the other fields
 unfoldable pub verbReply : Verb → List (List ℕ) → List ℕ
