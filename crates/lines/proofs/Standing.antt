@@ -13,11 +13,11 @@ use lib.Seq.{take-at, take-all, take-nil, take-append-le, take-append-add, lengt
 use Rattle.bytes.specs.Bytes.{indexOf, indexAfter}
 use Rattle.lines.specs.Text.{newline}
 use Rattle.promises.specs.Onto.{onto}
-use Rattle.lines.specs.Printed.{replyOf, limited, printedOf}
-use Rattle.lines.specs.Stream.{heldAt, heldWith, keptWith, pieceOf}
-use Rattle.lines.specs.Served.{heldReply, saidOf, servedOf, lastSaid, Serving}
-use Rattle.lines.specs.Served.Serving.{begun, goes-on}
-use Rattle.lines.specs.Progress.{Progress, nothing, ended, next, after, finished, Stands}
+use Rattle.lines.specs.Printed.{numberedReply, limited, printedOf}
+use Rattle.lines.specs.inner.Stream.{heldAt, heldWith, keptWith, pieceOf}
+use Rattle.lines.specs.inner.Served.{heldReply, saidOf, servedOf, lastSaid, Serving}
+use Rattle.lines.specs.inner.Served.Serving.{begun, goes-on}
+use Rattle.lines.specs.inner.Progress.{Progress, nothing, ended, next, after, finished, Stands}
 use Rattle.lines.specs.declared.stream.Held.{Held}
 use Rattle.promises.proofs.Onto.{length-onto}
 use Rattle.lines.proofs.Parting.{index-le, index-at}
@@ -108,13 +108,13 @@ stands-next limit kept h p answer s = record {
 module _ (answer : List ℕ → List ℕ) (limit : ℕ) where
   -- the reply to what is kept is the reply to the line
   reply-is : (kept : List ℕ) (h : Held) (p : Progress) → Stands limit kept h p
-      → heldReply answer kept h ≡ replyOf (p .before + 1) (limited limit answer (p .line))
+      → heldReply answer kept h ≡ numberedReply (p .before + 1) (limited limit answer (p .line))
   reply-is kept h p s = elim (decLt limit (length (p .line))) [ yes over ↦ long over | no under ↦ short (omega (arith, under)) ]
     where
-      long : limit < length (p .line) → heldReply answer kept h ≡ replyOf (p .before + 1) (limited limit answer (p .line))
+      long : limit < length (p .line) → heldReply answer kept h ≡ numberedReply (p .before + 1) (limited limit answer (p .line))
       long over = rw (s .before, s .long, lt-ltb limit (length (p .line)) over)
 
-      short : length (p .line) ≤ limit → heldReply answer kept h ≡ replyOf (p .before + 1) (limited limit answer (p .line))
+      short : length (p .line) ≤ limit → heldReply answer kept h ≡ numberedReply (p .before + 1) (limited limit answer (p .line))
       short under = rw (s .before, s .long, s .bytes, le-ltb limit (length (p .line)) under, take-all limit (p .line) under)
 
   abbrev ours : List ℕ → List ℕ

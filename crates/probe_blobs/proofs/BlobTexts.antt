@@ -1,52 +1,43 @@
--- Laws of the answers about blobs: what a view, a written blob and a converted one measure, and the fields of a line.
+-- Laws of the replies that show a vector: what a view and a converted body measure, and the fields of a line.
 use mathlib.Core.Path.{_≡_, refl}
-use mathlib.Core.List.{List}
+use mathlib.Core.List.{List, [], _∷_}
+use mathlib.Core.Logic.{inl, inr}
 use Prim.Native.Nat.{ℕ, _<_, _≤_}
 use native.Mathlib.Omega.{arith}
 use lib.ListN.{length, take, drop}
 use lib.Seq.{take-at}
+use denote.Enum.Declared.{tagOf}
+use types.Run.{OneOf}
 use Rattle.promises.specs.Onto.{onto}
 use Rattle.bytes.specs.Bytes.{indexOf}
 use Rattle.lines.specs.Text.{tab}
-use Rattle.lines.specs.Decimal.{numeralOf}
 use Rattle.lines.specs.Parts.{fieldsOf}
-use Rattle.lines.specs.declared.hex.Found.{Found}
-use Rattle.lines.specs.declared.hex.Found.the-variants.{Number, Nothing}
 use Rattle.vector_types.specs.Layout.{maxBlobLength}
 use Rattle.vector_types.specs.Read.{readOf}
-use Rattle.blob_writer.specs.Write.{blobOf, writeOf, writeOutcome}
+use Rattle.vector_types.specs.declared.Named.{Named}
+use Rattle.vector_types.specs.declared.Named.the-variants.{Kind, Unsupported, Unknown}
 use Rattle.vector_types.specs.declared.VectorType.{VectorType}
 use Rattle.vector_types.specs.declared.View.{View}
 use Rattle.vector_types.specs.declared.ReadAnswer.the-variants.{Accepted}
-use Rattle.blob_writer.specs.declared.WriteAnswer.the-variants.{Written}
 use Rattle.convert.specs.Convert.{conversionOf}
 use Rattle.convert.specs.declared.ConvertAnswer.the-variants.{Converted}
 use Rattle.convert.proofs.Answered.{conversion-fits}
+use Rattle.vector_types.proofs.Named.{the-type}
 use Rattle.vector_types.proofs.Views.{view-facts}
 use Rattle.vector_types.proofs.Strict.{strict-plain}
-use Rattle.blob_writer.proofs.Written.{writable, written-blob}
-use Rattle.lines.specs.Fields.{one, two, other}
-use Rattle.lines.proofs.Fields.{after, spelled-tab, one-field, two-fields}
-use Rattle.probe_blobs.specs.Blobs.{readerOf, shownText, readText, kindOf, madeText, writtenBy, writeText, convertedText, convertedBy, convText}
+use Rattle.lines.specs.Fields.{exactly, malformed}
+use Rattle.lines.proofs.Fields.{afterField, from-hex-tab, fields-last, fields-last-two}
+use Rattle.probe_blobs.specs.Blobs.{readerOf, readBlobText, readReply, kindOf, convertBlobText, convertFoundReply, convertReply}
 use Rattle.probe_blobs.specs.declared.Reader.{Reader}
 use Rattle.probe_blobs.specs.declared.Reader.the-variants.{Plain, Strict}
-use Rattle.probe_blobs.specs.declared.Kind.{Kind}
-use Rattle.probe_blobs.specs.declared.Kind.the-variants.{Known, Unknown}
 
--- ---- what is shown and what is written
+-- ---- what is shown
 plain-within : (s : List ℕ) (v : View) → readOf s ≡ Accepted v → (v .length ≤ length s) × (v .length ≤ maxBlobLength)
 plain-within s v e = let t = view-facts s v e in (t .within, omega (arith, t .within, t .short))
 
 pub seen-within : (reader : Reader) (s : List ℕ) (v : View) → readerOf reader s ≡ Accepted v → (v .length ≤ length s) × (v .length ≤ maxBlobLength)
 seen-within Plain s v e = plain-within s v e
 seen-within Strict s v e = plain-within s v (strict-plain s v e)
-
--- the first n bytes of the room are the blob
-pub written-room : (k : VectorType) (d : ℕ) (body made : List ℕ) (n : ℕ) → writeOf k d body (length made) ≡ Written n
-    → (n ≤ maxBlobLength) × (take n (writeOutcome k d body made .out) ≡ blobOf k d body)
-written-room k d body made n e =
-    let (clear, size, left) = written-blob k d body made n e in
-    (omega (arith, writable k d body clear .short, size), left)
 
 -- the first bytes of the room are the new body
 pub converted-room : (t : VectorType) (v : View) (s made : List ℕ) (scratch : ℕ) → let c = conversionOf s t scratch (length made) in
@@ -57,25 +48,22 @@ converted-room t v s made scratch e =
     (room, take-at new (drop (length new) made) (v .length) size)
 
 -- ---- H is the last field
-pub last-read : (reader : Reader) (s : List ℕ) → one (readText reader) (fieldsOf s) ≡ readText reader s
-unfolding readText
-last-read reader s = one-field (readText reader) s (spelled-tab (shownText reader) s)
+pub read-last : (reader : Reader) (s : List ℕ) → exactly 1 (readReply reader) (fieldsOf s) ≡ readReply reader s
+unfolding readReply
+read-last reader s = fields-last (readReply reader) s (from-hex-tab (readBlobText reader) s)
 
-written-tab : (kind : Kind) (number : Found) (s : List ℕ) → indexOf tab s < length s → writtenBy kind number s ≡ other
-written-tab (Known k) (Number d) s less = spelled-tab (madeText k d) s less
-written-tab (Known k) Nothing s less = refl
-written-tab Unknown number s less = refl
+convert-tab : (kind : Named) (s : List ℕ) → indexOf tab s < length s → convertFoundReply kind s ≡ malformed
+convert-tab (Kind t) s less = from-hex-tab (convertBlobText t) s less
+convert-tab Unsupported s less = refl
+convert-tab Unknown s less = refl
 
-pub write-fields : (kind s : List ℕ) (stop : ℕ) → stop ≡ indexOf tab s → stop < length s
-    → writeText kind (take stop s) (after stop s) ≡ two (writeText kind) (fieldsOf s)
-unfolding writeText
-write-fields kind s stop e less = two-fields (writeText kind) s stop e less (written-tab (kindOf kind) (numeralOf 10 (take stop s)))
+pub convert-fields : (s : List ℕ) (end : ℕ) → end ≡ indexOf tab s → end < length s
+    → convertReply (take end s) (afterField end s) ≡ exactly 2 convertReply (fieldsOf s)
+unfolding convertReply
+convert-fields s end e less = fields-last-two convertReply s end e less (convert-tab (kindOf (take end s)))
 
-converted-tab : (kind : Kind) (s : List ℕ) → indexOf tab s < length s → convertedBy kind s ≡ other
-converted-tab (Known t) s less = spelled-tab (convertedText t) s less
-converted-tab Unknown s less = refl
-
-pub conv-fields : (s : List ℕ) (end : ℕ) → end ≡ indexOf tab s → end < length s
-    → convText (take end s) (after end s) ≡ two convText (fieldsOf s)
-unfolding convText
-conv-fields s end e less = two-fields convText s end e less (converted-tab (kindOf (take end s)))
+-- ---- what is no kind is unsupported or unknown
+pub by-no-kind : {A : Type 0} (f : Named → A) (x : A) → f Unsupported ≡ x → f Unknown ≡ x → (n : Named) → OneOf (1 ∷ 2 ∷ []) (tagOf the-type n) → f n ≡ x
+by-no-kind f x p q (Kind k) h = absurd (elim h [ inl e ↦ omega arith | inr e ↦ omega arith ])
+by-no-kind f x p q Unsupported h = p
+by-no-kind f x p q Unknown h = q

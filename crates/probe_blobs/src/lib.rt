@@ -1,18 +1,17 @@
-// The lines about one blob: read, strict, write, conv.
+// The lines that show a vector: read, strict, conv.
 ghost use mathlib.Core.Path.{_≡_};
 ghost use Prim.Native.Nat.{_*_, _≤_};
 ghost use lib.ListN.{length, take};
-ghost use Rattle.promises.specs.Onto.{onto};
+ghost use Rattle.promises.specs.Puts.{Puts};
 ghost use Rattle.lines.specs.Parts.{fieldsOf};
-ghost use Rattle.vector_types.specs.Layout.{maxBlobLength as longestBlob};
-ghost use Rattle.lines.specs.Fields.{two, three};
-ghost use Rattle.probe_blobs.specs.Limits.{Puts, answerRoom, scratchRoom, blobRoom};
-ghost use Rattle.probe_blobs.specs.Blobs.{refusalText, headerText, vectorText, readerOf, shownText, readText, kindOf, madeText, writtenBy, writeText, convertedText, convertedBy, convText};
-use blob_writer::WriteAnswer;
+ghost use Rattle.lines.specs.Fields.{exactly};
+ghost use Rattle.vector_types.specs.Layout.{maxBlobLength, byByte};
+ghost use Rattle.probe_blobs.specs.Limits.{replyRoom, scratchRoom, blobRoom};
+ghost use Rattle.probe_blobs.specs.Blobs.{refusalText, headerText, vectorText, readerOf, readBlobText, readReply, kindOf, convertBlobText, convertFoundReply, convertReply};
 use convert::ConvertAnswer;
 use lines::hex::Found;
-use lines::text::put_other;
-use vector_types::Dims;
+use lines::text::put_malformed;
+use vector_types::Named;
 use vector_types::ReadAnswer;
 use vector_types::VectorType;
 use vector_types::View;
@@ -24,14 +23,8 @@ pub enum Reader {
     Strict,
 }
 
-// The kind that a field names, if any.
-enum Kind {
-    Known(VectorType),
-    Unknown,
-}
-
 // Puts R, a tab and the number of a refusal at the start of out, and answers their length.
-fn put_refusal(number: u8, out: &mut [u8]) -> usize
+pub fn put_refusal(number: u8, out: &mut [u8]) -> usize
     requires { ⌜ 22 ≤ length (now out) ⌝ }
     ensures { λ r. ⌜ Puts (refusalText number) (now (out .entry)) r (now (out .exit)) ⌝ }
 {
@@ -40,25 +33,24 @@ fn put_refusal(number: u8, out: &mut [u8]) -> usize
     head + digits
 }
 
-// Puts what stands before a body at the start of out: a mark, the kind and the dims, parted by tabs.
+// Puts what stands before a body at the start of out: a mark, the kind and the dims, separated by tabs.
 fn put_header(mark: &[u8], kind: VectorType, dims: usize, out: &mut [u8]) -> usize
     requires { ⌜ length (now mark) ≡ 2 ⌝ }
     requires { ⌜ 44 ≤ length (now out) ⌝ }
-    ensures { λ r. ⌜ r ≡ length (headerText (now (mark .entry)) kind dims) ⌝ }
-    ensures { λ _. ⌜ now (out .exit) ≡ onto (headerText (now (mark .entry)) kind dims) (now (out .entry)) ⌝ }
+    ensures { λ r. ⌜ Puts (headerText (now (mark .entry)) kind dims) (now (out .entry)) r (now (out .exit)) ⌝ }
     ensures { λ r. ⌜ r ≤ 44 ⌝ }
 {
     let marked = bytes::copy(mark, out);
-    let named = marked + lines::text::put_head(type_byte(kind) as u64, &mut out[marked..]);
-    named + lines::text::put_head(dims as u64, &mut out[named..])
+    let end = marked + lines::text::put_head(type_byte(kind) as u64, &mut out[marked..]);
+    end + lines::text::put_head(dims as u64, &mut out[end..])
 }
 
 // Puts a vector at the start of out: what stands before the body, and the body, the first of these bytes.
 fn put_vector(mark: &[u8], view: View, bytes: &[u8], out: &mut [u8]) -> usize
     requires { ⌜ length (now mark) ≡ 2 ⌝ }
     requires { ⌜ view .length ≤ length (now bytes) ⌝ }
-    requires { ⌜ view .length ≤ longestBlob ⌝ }
-    requires { ⌜ answerRoom ≤ length (now out) ⌝ }
+    requires { ⌜ view .length ≤ maxBlobLength ⌝ }
+    requires { ⌜ replyRoom ≤ length (now out) ⌝ }
     ensures { λ r. ⌜ Puts (vectorText (now (mark .entry)) view (take (view .length) (now (bytes .entry)))) (now (out .entry)) r (now (out .exit)) ⌝ }
 {
     let kind = view.kind;
@@ -80,8 +72,8 @@ fn read_by(reader: Reader, blob: &[u8]) -> ReadAnswer
 
 // Puts what a reader answers of a blob at the start of out.
 fn put_read(reader: Reader, blob: &[u8], out: &mut [u8]) -> usize
-    requires { ⌜ answerRoom ≤ length (now out) ⌝ }
-    ensures { λ r. ⌜ Puts (shownText reader (now (blob .entry))) (now (out .entry)) r (now (out .exit)) ⌝ }
+    requires { ⌜ replyRoom ≤ length (now out) ⌝ }
+    ensures { λ r. ⌜ Puts (readBlobText reader (now (blob .entry))) (now (out .entry)) r (now (out .exit)) ⌝ }
 {
     match read_by(reader, blob) {
         ReadAnswer::Accepted(view) => put_vector(b"V\t", view, blob, out),
@@ -89,103 +81,37 @@ fn put_read(reader: Reader, blob: &[u8], out: &mut [u8]) -> usize
     }
 }
 
-// The answer to read|H or strict|H. The bytes that H spells are put into `spelled`.
-pub fn read_line(reader: Reader, field: &[u8], spelled: &mut [u8], out: &mut [u8]) -> usize
-    requires { ⌜ length (now field) ≤ 2 * length (now spelled) ⌝ }
-    requires { ⌜ answerRoom ≤ length (now out) ⌝ }
-    ensures { λ r. ⌜ Puts (readText reader (now (field .entry))) (now (out .entry)) r (now (out .exit)) ⌝ }
+// The reply to read|H or strict|H. H is decoded into `decoded`.
+pub fn read_line(reader: Reader, field: &[u8], decoded: &mut [u8], out: &mut [u8]) -> usize
+    requires { ⌜ length (now field) ≤ 2 * length (now decoded) ⌝ }
+    requires { ⌜ replyRoom ≤ length (now out) ⌝ }
+    ensures { λ r. ⌜ Puts (readReply reader (now (field .entry))) (now (out .entry)) r (now (out .exit)) ⌝ }
 {
-    let count = lines::hex::bytes(field, spelled);
+    let count = lines::hex::bytes(field, decoded);
     if 2 * count != field.len() {
-        return put_other(out);
+        return put_malformed(out);
     }
-    put_read(reader, &spelled[..count], out)
+    put_read(reader, &decoded[..count], out)
 }
 
-fn kind_of(field: &[u8]) -> Kind
+// The kind that a number names as a type byte.
+fn kind_by(number: u64) -> Named
+    ensures { λ r. ⌜ r ≡ byByte number ⌝ }
+{
+    if 255 < number {
+        return Named::Unknown;
+    }
+    vector_types::kind_of_byte(number as u8)
+}
+
+// The kind that a field names: a type byte in one decimal digit.
+pub fn kind_of(field: &[u8]) -> Named
     ensures { λ r. ⌜ r ≡ kindOf (now (field .entry)) ⌝ }
 {
-    if check::same(field, b"1") {
-        return Kind::Known(VectorType::Float32Dense);
+    match lines::text::numeral(1, field) {
+        Found::Number(number) => kind_by(number),
+        Found::Nothing => Named::Unknown,
     }
-    if check::same(field, b"2") {
-        return Kind::Known(VectorType::Float64Dense);
-    }
-    if check::same(field, b"3") {
-        return Kind::Known(VectorType::Float1Bit);
-    }
-    if check::same(field, b"4") {
-        return Kind::Known(VectorType::Float8);
-    }
-    if check::same(field, b"9") {
-        return Kind::Known(VectorType::Float32Sparse);
-    }
-    Kind::Unknown
-}
-
-// Writes a blob into `made`, and puts it at the start of out: W, a tab, and the blob.
-fn put_written(kind: VectorType, dims: usize, body: &[u8], made: &mut [u8], out: &mut [u8]) -> usize
-    requires { ⌜ length (now made) ≡ blobRoom ⌝ }
-    requires { ⌜ answerRoom ≤ length (now out) ⌝ }
-    ensures { λ r. ⌜ Puts (madeText kind dims (now (body .entry))) (now (out .entry)) r (now (out .exit)) ⌝ }
-{
-    match blob_writer::write(kind, Dims(dims), body, made) {
-        WriteAnswer::Written(length) => {
-            let head = bytes::copy(b"W\t", out);
-            let digits = lines::hex::put_bytes(&made[..length], &mut out[head..]);
-            head + digits
-        }
-        WriteAnswer::Refused(refusal) => put_refusal(refusal.number, out),
-    }
-}
-
-// The answer to write|K|N|H, of which K and N are found and this is H.
-fn write_found(
-    kind: Kind,
-    number: Found,
-    field: &[u8],
-    spelled: &mut [u8],
-    made: &mut [u8],
-    out: &mut [u8],
-) -> usize
-    requires { ⌜ length (now field) ≤ 2 * length (now spelled) ⌝ }
-    requires { ⌜ length (now made) ≡ blobRoom ⌝ }
-    requires { ⌜ answerRoom ≤ length (now out) ⌝ }
-    ensures { λ r. ⌜ Puts (writtenBy kind number (now (field .entry))) (now (out .entry)) r (now (out .exit)) ⌝ }
-{
-    let Kind::Known(named) = kind else {
-        return put_other(out);
-    };
-    let Found::Number(dims) = number else {
-        return put_other(out);
-    };
-    let count = lines::hex::bytes(field, spelled);
-    if 2 * count != field.len() {
-        return put_other(out);
-    }
-    put_written(named, dims as usize, &spelled[..count], made, out)
-}
-
-// The answer to write|K|N|H, of which this is K|N|H.
-pub fn write_line(rest: &[u8], spelled: &mut [u8], made: &mut [u8], out: &mut [u8]) -> usize
-    requires { ⌜ length (now rest) ≤ 2 * length (now spelled) ⌝ }
-    requires { ⌜ length (now made) ≡ blobRoom ⌝ }
-    requires { ⌜ answerRoom ≤ length (now out) ⌝ }
-    ensures { λ r. ⌜ Puts (three writeText (fieldsOf (now (rest .entry)))) (now (out .entry)) r (now (out .exit)) ⌝ }
-{
-    let end = lines::text::field_end(rest);
-    if end == rest.len() {
-        return put_other(out);
-    }
-    let kind = kind_of(&rest[..end]);
-    let more = &rest[end + 1..];
-    let stop = lines::text::field_end(more);
-    if stop == more.len() {
-        return put_other(out);
-    }
-    let number = lines::text::numeral(10, &more[..stop]);
-    let field = &more[stop + 1..];
-    write_found(kind, number, field, spelled, made, out)
 }
 
 // Converts a blob to a kind, and puts what is made at the start of out.
@@ -198,8 +124,8 @@ fn put_converted(
 ) -> usize
     requires { ⌜ length (now scratch) ≡ scratchRoom ⌝ }
     requires { ⌜ length (now made) ≡ blobRoom ⌝ }
-    requires { ⌜ answerRoom ≤ length (now out) ⌝ }
-    ensures { λ r. ⌜ Puts (convertedText target (now (blob .entry))) (now (out .entry)) r (now (out .exit)) ⌝ }
+    requires { ⌜ replyRoom ≤ length (now out) ⌝ }
+    ensures { λ r. ⌜ Puts (convertBlobText target (now (blob .entry))) (now (out .entry)) r (now (out .exit)) ⌝ }
 {
     match convert::convert(blob, target, scratch, made) {
         ConvertAnswer::Converted(view) => put_vector(b"C\t", view, made, out),
@@ -207,50 +133,50 @@ fn put_converted(
     }
 }
 
-// The answer to conv|K|H, of which K is found and this is H.
+// The reply to conv|K|H, of which K is found and this is H.
 fn convert_found(
-    kind: Kind,
+    kind: Named,
     field: &[u8],
-    spelled: &mut [u8],
+    decoded: &mut [u8],
     scratch: &mut [u8],
     made: &mut [u8],
     out: &mut [u8],
 ) -> usize
-    requires { ⌜ length (now field) ≤ 2 * length (now spelled) ⌝ }
+    requires { ⌜ length (now field) ≤ 2 * length (now decoded) ⌝ }
     requires { ⌜ length (now scratch) ≡ scratchRoom ⌝ }
     requires { ⌜ length (now made) ≡ blobRoom ⌝ }
-    requires { ⌜ answerRoom ≤ length (now out) ⌝ }
-    ensures { λ r. ⌜ Puts (convertedBy kind (now (field .entry))) (now (out .entry)) r (now (out .exit)) ⌝ }
+    requires { ⌜ replyRoom ≤ length (now out) ⌝ }
+    ensures { λ r. ⌜ Puts (convertFoundReply kind (now (field .entry))) (now (out .entry)) r (now (out .exit)) ⌝ }
 {
-    let Kind::Known(target) = kind else {
-        return put_other(out);
+    let Named::Kind(target) = kind else {
+        return put_malformed(out);
     };
-    let count = lines::hex::bytes(field, spelled);
+    let count = lines::hex::bytes(field, decoded);
     if 2 * count != field.len() {
-        return put_other(out);
+        return put_malformed(out);
     }
-    put_converted(target, &spelled[..count], scratch, made, out)
+    put_converted(target, &decoded[..count], scratch, made, out)
 }
 
-// The answer to conv|K|H, of which this is K|H.
+// The reply to conv|K|H, of which this is K|H.
 pub fn convert_line(
     rest: &[u8],
-    spelled: &mut [u8],
+    decoded: &mut [u8],
     scratch: &mut [u8],
     made: &mut [u8],
     out: &mut [u8],
 ) -> usize
-    requires { ⌜ length (now rest) ≤ 2 * length (now spelled) ⌝ }
+    requires { ⌜ length (now rest) ≤ 2 * length (now decoded) ⌝ }
     requires { ⌜ length (now scratch) ≡ scratchRoom ⌝ }
     requires { ⌜ length (now made) ≡ blobRoom ⌝ }
-    requires { ⌜ answerRoom ≤ length (now out) ⌝ }
-    ensures { λ r. ⌜ Puts (two convText (fieldsOf (now (rest .entry)))) (now (out .entry)) r (now (out .exit)) ⌝ }
+    requires { ⌜ replyRoom ≤ length (now out) ⌝ }
+    ensures { λ r. ⌜ Puts (exactly 2 convertReply (fieldsOf (now (rest .entry)))) (now (out .entry)) r (now (out .exit)) ⌝ }
 {
     let end = lines::text::field_end(rest);
     if end == rest.len() {
-        return put_other(out);
+        return put_malformed(out);
     }
     let kind = kind_of(&rest[..end]);
     let field = &rest[end + 1..];
-    convert_found(kind, field, spelled, scratch, made, out)
+    convert_found(kind, field, decoded, scratch, made, out)
 }

@@ -2,12 +2,12 @@
 use mathlib.Core.Path.{sym}
 use Prim.Native.Nat.{ℕ}
 use lib.ListN.{length-replicate}
-use Rattle.probe_lines.specs.Limits.{limit}
+use Rattle.probe_lines.specs.Limits.{vecprobeLimit}
 use Rattle.replies.proofs.running.line_room.Statement.{statement}
 use Rattle.replies.proofs.running.line_room.Tie as tie
 
 returns : tie.Need-returns
-returns c = sym (length-replicate {0} {A = ℕ} limit 0)
+returns c = sym (length-replicate {0} {A = ℕ} vecprobeLimit 0)
 
 pub line-room-spec : {M : Type 1} → statement M
 line-room-spec = tie.close (tie.spec returns)

@@ -4,19 +4,15 @@ use Prim.Native.Nat.{_≤_}
 use native.Mathlib.Omega.{arith}
 use lib.ListN.{length}
 use lib.Seq.{length-take-le}
-use Rattle.lines.specs.Served.{lastSaid}
-use Rattle.promises.proofs.Onto.{onto-within}
-use Rattle.replies.specs.Program.{programReply}
+use Rattle.promises.proofs.Puts.{puts-within}
 use borrow.Author.Needs.{needs}
 use Rattle.replies.proofs.running.serve_end.Statement.{statement}
 use Rattle.replies.proofs.running.serve_end.Tie as tie
 
 fits : (c : tie.After-finish) → c .finish .result ≤ length (c .finish .last .1 .1 .1 .1 .1 .1 .0)
 fits c =
-    let a = c .before .before .before .before .before .before .before .before .before .before .args in
-    let f = c .finish in
-    let same = f .kept .1 .1 .1 .1 .1 .1 .0 in
-    omega (arith, f .ensures .0, same, onto-within (lastSaid (programReply (a .program)) (a .kept .now) (a .held)) (a .out .now) (f .last .1 .1 .1 .1 .1 .1 .0) (f .ensures .1) same)
+    let same = c .finish .kept .1 .1 .1 .1 .1 .1 .0 in
+    omega (arith, same, puts-within (c .finish .ensures) same)
 
 slice-reshare-prefix-write-all : tie.Need-slice-reshare-prefix-write-all
 slice-reshare-prefix-write-all c = omega (arith, fits (c .before .before .before .before .before .before .before .before))

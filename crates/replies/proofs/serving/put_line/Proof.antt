@@ -5,7 +5,7 @@ use native.Mathlib.Omega.{arith}
 use lib.ListN.{length}
 use lib.Seq.{length-take-le}
 use Rattle.lines.specs.Text.{newline}
-use Rattle.lines.specs.Served.{heldAnswer}
+use Rattle.lines.specs.inner.Served.{heldAnswer}
 use Rattle.promises.proofs.Onto.{Ended, onto-ended}
 use Rattle.replies.specs.Program.{programReply}
 use borrow.Author.Needs.{needs}
@@ -22,7 +22,7 @@ answer-held-requires c κs =
 
 line : (c : tie.After-slice-known8) → let a = c .before .before .before .before .before .before .before .before .before .before .before .before .before .before .before .before .before .before .args in let s = c .before .before .before .before .before .before .before .before .answer-held in
     Ended (heldAnswer (programReply (a .program)) (a .kept .now) (a .held)) (a .out .now) (s .last .1 .1 .1 .1 .1 .1 .0) newline (s .result) (length (a .out .now) - 1)
-line c = let s = c .before .before .before .before .before .before .before .before .answer-held in onto-ended (s .ensures .0) (s .ensures .1) (s .kept .1 .1 .1 .1 .1 .1 .0) (omega arith)
+line c = let s = c .before .before .before .before .before .before .before .before .answer-held in onto-ended (s .ensures .size) (s .ensures .left) (s .kept .1 .1 .1 .1 .1 .1 .0) (omega arith)
 
 slice-write-out : tie.Need-slice-write-out
 slice-write-out c = omega (arith, line c .within, line c .long)
@@ -31,7 +31,7 @@ add-result : tie.Need-add-result
 add-result c = omega (arith, line c .within)
 
 returns : tie.Need-returns
-returns c = (line c .size, line c .left)
+returns c = record { size = line c .size; left = line c .left }
 
 pub put-line-spec : {M : Type 1} → statement M
 put-line-spec =

@@ -1,42 +1,43 @@
 -- `reply` meets its contract: the line is written after its number and a tab.
-use mathlib.Core.Path.{sym}
 use mathlib.Core.List.{List, [], _∷_, _++_}
-use Prim.Native.Nat.{ℕ, _+_, _≤_}
+use Prim.Native.Nat.{ℕ, _≤_}
 use native.Mathlib.Omega.{arith}
-use lib.ListN.{length, length-append}
+use lib.ListN.{length}
 use Rattle.lines.specs.Text.{newline}
-use Rattle.lines.specs.Printed.{headOf, replyOf}
-use Rattle.lines.specs.Served.{heldAnswer}
-use Rattle.promises.proofs.Onto.{onto-then, tail-within}
+use Rattle.lines.specs.Printed.{numberedReply}
+use Rattle.lines.specs.inner.Served.{heldAnswer}
+use Rattle.promises.proofs.Onto.{tail-within}
+use Rattle.promises.proofs.Puts.{puts-then}
 use Rattle.replies.specs.Program.{programReply}
 use borrow.Author.Needs.{needs}
 use Rattle.replies.proofs.serving.reply.Statement.{statement}
 use Rattle.replies.proofs.serving.reply.Tie as tie
 
--- the answer and its newline
-abbrev line : tie.After-slice-known9 → List ℕ
-line c = let a = c .before .before .before .before .before .before .before .before .before .before .before .before .before .before .before .before .before .before .before .before .before .before .before .args in heldAnswer (programReply (a .program)) (a .kept .now) (a .held) ++ (newline ∷ [])
+-- the number is put, and the start, from where the line is put
+abbrev headed : tie.After-put-line → tie.After-put-head
+headed c = c .before .before .before .before .before .before .before
+
+abbrev start : tie.After-put-line → tie.Start
+start c = headed c .before .before .before .before .before .before .before .before
+
+-- the reply and its newline
+abbrev line : tie.After-put-line → List ℕ
+line c = let a = start c .args in heldAnswer (programReply (a .program)) (a .kept .now) (a .held) ++ (newline ∷ [])
 
 add-result : tie.Need-add-result
 add-result c =
-    let h = c .before .before .before .before .before .before .before .before .before .before .before .before .before .before .before .put-head in
-    let l = c .before .before .before .before .before .before .before .before .put-line in
-    let start = c .before .before .before .before .before .before .before .before .before .before .before .before .before .before .before .before .before .before .before .before .before .before .before in
-    let headed : h .result ≤ length (h .last .1 .0) = omega (arith, h .ensures, h .kept, start .pre) in
-    let fits = tail-within (line c) (h .last .1 .0) (l .last .1 .1 .1 .1 .1 .1 .0) (h .result) (l .ensures .1) (l .kept .1 .1 .1 .1 .1 .1 .0) headed in
-    omega (arith, fits, l .ensures .0, h .kept .1 .0, start .good)
+    let lined = c .before .before .before .before .before .before .before .before in
+    let h = headed lined .put-head in
+    let l = lined .put-line in
+    let within : h .result ≤ length (h .last .1 .0) = omega (arith, h .ensures .1, h .kept, start lined .pre) in
+    let fits = tail-within (line lined) (h .last .1 .0) (l .last .1 .1 .1 .1 .1 .1 .0) (h .result) (l .ensures .left) (l .kept .1 .1 .1 .1 .1 .1 .0) within in
+    omega (arith, fits, l .ensures .size, h .kept .1 .0, start lined .good)
 
 returns : tie.Need-returns
-unfolding replyOf
+unfolding numberedReply
 returns c =
     let lined = c .before .before .before .before .before .before .before .before in
-    let headed = lined .before .before .before .before .before .before .before in
-    let h = headed .put-head in
-    let l = lined .put-line in
-    let a = headed .before .before .before .before .before .before .before .before .args in
-    let head = headOf (a .held .before + 1) in
-    let left = onto-then head (line c) (a .out .now) (h .last .1 .0) (l .last .1 .1 .1 .1 .1 .1 .0) (h .result) (h .ensures .1 .0) (sym (h .ensures .0)) (l .ensures .1) in
-    (omega (arith, h .ensures .0, l .ensures .0, length-append head (line c)), left)
+    puts-then {w = line lined} (headed lined .put-head .ensures .0) (lined .put-line .ensures)
 
 pub reply-spec : {M : Type 1} → statement M
 reply-spec =
