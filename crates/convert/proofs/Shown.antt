@@ -13,4 +13,4 @@ use Rattle.convert_parts.specs.inner.Fitting.{Fitting}
 pub shown-fitting : (s : List ℕ) (v : View) → readOf s ≡ Accepted v → Fitting (v .kind) (v .dims .0) (bodyOf s)
 shown-fitting s v e =
     let w = writable (v .kind) (v .dims .0) (bodyOf s) (rewritable s v e) in
-    record { few = w .few; fit = w .fit; inside = w .inside }
+    record { limited = w .few; fit = w .fit; inside = w .inside }
