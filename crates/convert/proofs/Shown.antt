@@ -6,11 +6,10 @@ use Rattle.vector_types.specs.Read.{readOf}
 use Rattle.vector_types.specs.Parts.{bodyOf}
 use Rattle.vector_types.specs.declared.View.{View}
 use Rattle.vector_types.specs.declared.ReadAnswer.the-variants.{Accepted}
-use Rattle.vector_types.proofs.Written.{writable}
-use Rattle.vector_types.proofs.Rewritten.{rewritable}
+use Rattle.vector_types.proofs.Bodies.{body-facts}
 use Rattle.convert_parts.specs.inner.Fitting.{Fitting}
 
 pub shown-fitting : (s : List ℕ) (v : View) → readOf s ≡ Accepted v → Fitting (v .kind) (v .dims .0) (bodyOf s)
 shown-fitting s v e =
-    let w = writable (v .kind) (v .dims .0) (bodyOf s) (rewritable s v e) in
-    record { limited = w .few; fit = w .fit; inside = w .inside }
+    let facts = body-facts s v e in
+    record { limited = facts .few; fit = facts .fit; inside = facts .inside }

@@ -1,15 +1,19 @@
--- Each public contract determines its answer: stated over the contract's own reading, so it changes with the contract.
+-- Determinism of the public contracts: stated over each contract's own reading, so it changes with the contract.
 use mathlib.Core.Path.{_∙_, sym}
 use Rattle.promises.specs.Determined.{Determined}
-use Rattle.distance.proofs.measure_views.Reads as measure-views
+use Rattle.distance.proofs.check_pair.Reads as check-pair
+use Rattle.distance.proofs.measure_pair.Reads as measure-pair
 use Rattle.distance.proofs.vector_distance.Reads as vector-distance
 use Rattle.distance.proofs.vector_distance_cos.Reads as vector-distance-cos
 use Rattle.distance.proofs.vector_distance_l2.Reads as vector-distance-l2
 use Rattle.distance.proofs.vector_distance_dot.Reads as vector-distance-dot
 use Rattle.distance.proofs.vector_distance_jaccard.Reads as vector-distance-jaccard
 
-pub measure-views-determined : (κs : _) (a : _) → Determined (measure-views.Post κs a) (λ r x. r)
-measure-views-determined κs a r r′ x x′ p q = p ∙ sym q
+pub check-pair-determined : (κs : _) (a : _) → Determined (check-pair.Post κs a) (λ r x. r)
+check-pair-determined κs a r r′ x x′ p q = p ∙ sym q
+
+pub measure-pair-determined : (κs : _) (a : _) → Determined (measure-pair.Post κs a) (λ r x. r)
+measure-pair-determined κs a r r′ x x′ p q = p ∙ sym q
 
 pub vector-distance-determined : (κs : _) (a : _) → Determined (vector-distance.Post κs a) (λ r x. r)
 vector-distance-determined κs a r r′ x x′ p q = p ∙ sym q

@@ -41,10 +41,10 @@ in-column f e Float32Sparse = refl
 in-column f e Float1Bit = refl
 in-column f e Float8 = refl
 
-abbrev pub table : List (List Bool)
-table = along (existsFor Cos) ∷ along (existsFor L2) ∷ along (existsFor Dot) ∷ along (existsFor Jaccard) ∷ []
+abbrev pub existsTable : List (List Bool)
+existsTable = along (existsFor Cos) ∷ along (existsFor L2) ∷ along (existsFor Dot) ∷ along (existsFor Jaccard) ∷ []
 
-pub cell : (m : Distance) (k : VectorType) → getD (getD table (distanceRow m) []) (kindColumn k) false ≡ existsFor m k
+pub cell : (m : Distance) (k : VectorType) → getD (getD existsTable (distanceRow m) []) (kindColumn k) false ≡ existsFor m k
 cell Cos k = in-column (existsFor Cos) false k
 cell L2 k = in-column (existsFor L2) false k
 cell Dot k = in-column (existsFor Dot) false k

@@ -15,6 +15,8 @@ use Rattle.vector_types.specs.declared.ReadAnswer.the-variants.{Accepted, Refus
 use Rattle.distance.specs.Values.{valueOf}
 use Rattle.distance.specs.declared.Distance.{Distance}
 use Rattle.distance.specs.declared.Which.the-variants.{First, Second, Neither}
+use Rattle.distance.specs.declared.Pairing.{Pairing}
+use Rattle.distance.specs.declared.Pairing.the-variants.{Alike, Mismatched}
 use Rattle.distance.specs.declared.DistanceAnswer.{DistanceAnswer}
 use Rattle.distance.specs.declared.DistanceAnswer.the-variants.{Measured, Refused}
 
@@ -38,6 +40,10 @@ mismatches v w =
     test 12 (not (eqb (v .dims .0) (w .dims .0)))
     ∷ test 13 (not (hasByte (byteOf (w .kind)) (v .kind)))
     ∷ []
+
+-- whether a pair of views can be measured
+abbrev pub pairingOf : View → View → Pairing
+pairingOf v w = unless (firstGiven (mismatches v w)) Mismatched Alike
 
 -- of two views and their bodies
 unfoldable pub distanceOfViews : Distance → View → View → List ℕ → List ℕ → DistanceAnswer

@@ -1,4 +1,4 @@
--- Document 01's examples, reading and distances: one table, and one statement about all of it, which antt computes.
+-- Document 01's P examples, reading and distances: one table with one statement about all of it, which antt computes; and a table of others.
 use mathlib.Core.Path.{_≡_, refl}
 use mathlib.Core.List.{List, [], _∷_, _++_, map}
 use Prim.Native.Nat.{ℕ}
@@ -6,15 +6,15 @@ use lib.Ieee.{add, sub, mul, div, neg, eq, lt, ofInt, ofBits, binary64}
 use Rattle.float_laws.specs.Running.{running, total}
 use Rattle.little_endian.specs.Bytes.{numberAt}
 use Rattle.rounding.specs.Root.{root}
-use Rattle.vector_types.specs.Answers.{refusal}
+use Rattle.vector_types.specs.Answers.{acceptedAs, refused, refusal}
 use Rattle.vector_types.specs.Search.{firstFrom}
 use Rattle.vector_types.specs.Layout.{namedKind, byByte, lengthBeforeType, bodyFits, layoutRow}
 use Rattle.vector_types.specs.Read.{readOf, refusals, shown}
 use Rattle.vector_types.specs.Parts.{bodyOf}
-use Rattle.vector_types.specs.Examples.{Example as Reading, reading}
+use Rattle.vector_types.specs.declared.VectorType.the-variants.{Float32Dense, Float1Bit, Float8}
 use Rattle.vector_types.specs.declared.ReadAnswer.{ReadAnswer}
-use Rattle.distance_sums.specs.Merged.{merged}
-use Rattle.distance_sums.specs.Examples.{zero, one, nan}
+use Rattle.bodies.specs.Merged.{merged}
+use Rattle.distance_sums.specs.Examples.{zeroBytes as zero, oneBytes as one, nanPattern as nan}
 use Rattle.distance.specs.Answer.{distanceOf, pairRefused}
 use Rattle.distance.specs.declared.Distance.{Distance}
 use Rattle.distance.specs.declared.Distance.the-variants.{Cos, L2, Dot, Jaccard}
@@ -30,17 +30,33 @@ pub data Answer : Type 0 where
 -- what the definitions say, and what document 01 says
 pub record Example : Type 0 where
   pub defined : Answer
-  pub written : Answer
+  pub expected : Answer
 
-abbrev pub reads : Reading → Example
-reads e = record { defined = read (readOf (e .blob)) (bodyOf (e .blob)); written = read (e .answer) (e .body) }
+-- a blob, what the plain reader answers, and the body shown
+abbrev pub shows : List ℕ → ReadAnswer → List ℕ → Example
+shows s r body = record { defined = read (readOf s) (bodyOf s); expected = read r body }
 
+abbrev pub refuses : List ℕ → ℕ → Example
+refuses s n = shows s (refused (refusal n)) []
+
+-- two blobs and what the distance of them is
 abbrev pub answers : Distance → List ℕ → List ℕ → DistanceAnswer → Example
-answers m a b r = record { defined = measured (distanceOf m a b); written = measured r }
+answers m a b r = record { defined = measured (distanceOf m a b); expected = measured r }
 
 -- a distance, by its pattern
 abbrev pub measures : Distance → List ℕ → List ℕ → ℕ → Example
 measures m a b bits = answers m a b (Measured (ofBits binary64 bits))
+
+-- a Float8 body of dims 1 (the byte 7, alpha 1.0, shift 0.0), and its blob of 15 bytes with the trailing count t
+abbrev pub seven : List ℕ
+seven = (7 ∷ 0 ∷ 0 ∷ 0 ∷ []) ++ one ++ zero
+
+abbrev pub fifteen : ℕ → List ℕ
+fifteen t = seven ++ (0 ∷ t ∷ 4 ∷ [])
+
+-- a sparse blob of dims 2 with the index 2
+abbrev pub indexTwo : List ℕ
+indexTwo = one ++ (2 ∷ 0 ∷ 0 ∷ 0 ∷ 2 ∷ 0 ∷ 0 ∷ 0 ∷ 9 ∷ [])
 
 -- 1-bit blobs of dims 8
 abbrev pub bits : ℕ → List ℕ
@@ -60,14 +76,45 @@ noEntry = 2 ∷ 0 ∷ 0 ∷ 0 ∷ 9 ∷ []
 abbrev pub unscaled : List ℕ
 unscaled = (7 ∷ 0 ∷ 0 ∷ 0 ∷ []) ++ zero ++ zero ++ 0 ∷ 3 ∷ 4 ∷ []
 
-abbrev pub distances : List Example
-distances =
-    measures Cos (bits 0xaa) (bits 0xab) 0x3ff0_0000_0000_0000
+-- Every row is one of document 01's examples marked P, in its order and its words
+abbrev pub documentTable : List Example
+documentTable =
+    -- P: empty blob, dims 0
+    shows [] (acceptedAs Float32Dense 0 0) []
+    -- P: `01`, Float32Dense, dims 0
+    ∷ shows (0x01 ∷ []) (acceptedAs Float32Dense 0 0) []
+    -- P: `05`, 2
+    ∷ refuses (0x05 ∷ []) 2
+    -- P: `03`, 4
+    ∷ refuses (0x03 ∷ []) 4
+    -- P: `aa 08 03`, dims 8, body `aa`
+    ∷ shows (bits 0xaa) (acceptedAs Float1Bit 8 1) (0xaa ∷ [])
+    -- P: `aa 07 03`, 6
+    ∷ refuses (0xaa ∷ 0x07 ∷ 0x03 ∷ []) 6
+    -- P: `aa 10 03`, 7
+    ∷ refuses (0xaa ∷ 0x10 ∷ 0x03 ∷ []) 7
+    -- P: `aa 11 03`, 5
+    ∷ refuses (0xaa ∷ 0x11 ∷ 0x03 ∷ []) 5
+    -- P: Float8 with L = 15: t = 3 gives dims 1; t = 4 gives 7; t = 5 gives 5
+    ∷ shows (fifteen 3) (acceptedAs Float8 1 12) seven
+    ∷ refuses (fifteen 4) 7
+    ∷ refuses (fifteen 5) 5
+    -- P: sparse, index 2, dims 2: 8
+    ∷ refuses indexTwo 8
+    -- P: 1-bit `aa`, `ab` (dims 8): cosine 1.0, Jaccard 3fc9999999999998
+    ∷ measures Cos (bits 0xaa) (bits 0xab) 0x3ff0_0000_0000_0000
     ∷ measures Jaccard (bits 0xaa) (bits 0xab) 0x3fc9_9999_9999_9998
+    -- P: dense f32 (0,0), (3,4): L2 4014000000000000
     ∷ measures L2 (zero ++ zero) (three ++ four) 0x4014_0000_0000_0000
-    ∷ measures Dot (one ++ zero) (zero ++ one) 0x8000_0000_0000_0000
+    ∷ []
+
+-- examples that document 01 does not mark
+abbrev pub furtherTable : List Example
+furtherTable =
+    -- those that it runs only
+    measures Dot (one ++ zero) (zero ++ one) 0x8000_0000_0000_0000
     ∷ measures Cos unscaled unscaled nan
-    -- those of the program's lines: two empty vectors are alike; sparse ones with no entry have no likeness to measure
+    -- those of the program's lines
     ∷ measures Cos [] [] 0
     ∷ measures Dot (bits 0xaa) (bits 0xab) 0xc018_0000_0000_0000
     ∷ answers L2 (bits 0xaa) (bits 0xab) (pairRefused 14)
@@ -82,9 +129,13 @@ distances =
     ∷ answers Cos (one ++ zero) noEntry (pairRefused 13)
     ∷ []
 
-abbrev pub table : List Example
-table = map reads reading ++ distances
+abbrev pub Holds : List Example → Type 0
+Holds table = map (λ (e : Example). e .defined) table ≡ map (λ (e : Example). e .expected) table
 
-pub table-holds : map (λ (e : Example). e .defined) table ≡ map (λ (e : Example). e .written) table
+pub document-table-holds : Holds documentTable
+unfolding distanceOf readOf bodyOf namedKind byByte lengthBeforeType bodyFits refusals shown firstFrom numberAt layoutRow running total root add sub mul div neg eq lt ofInt ofBits
+document-table-holds = refl
+
+pub further-table-holds : Holds furtherTable
 unfolding distanceOf readOf bodyOf namedKind byByte lengthBeforeType bodyFits refusals shown firstFrom numberAt layoutRow running total root merged add sub mul div neg eq lt ofInt ofBits
-table-holds = refl
+further-table-holds = refl

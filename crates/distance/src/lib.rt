@@ -11,7 +11,8 @@ ghost use Rattle.vector_types.specs.Read.{readOf};
 ghost use Rattle.vector_types.specs.Parts.{bodyOf};
 ghost use Rattle.vector_types.specs.declared.ReadAnswer.the-variants.{Accepted};
 ghost use Rattle.distance.specs.Values.{valueOf, existsFor};
-ghost use Rattle.distance.specs.Answer.{pairRefused, distanceOfViews, distanceOf};
+ghost use Rattle.distance.specs.Answer.{pairingOf, distanceAnswer, distanceOfViews, distanceOf};
+ghost use Rattle.distance.specs.declared.Pairing.the-variants.{Alike};
 ghost use Rattle.distance.specs.declared.Distance.the-variants.{Cos, L2, Dot, Jaccard};
 use distance_cos::measure_cos;
 use distance_dot::measure_dot;
@@ -43,6 +44,12 @@ pub enum DistanceAnswer {
     Refused(Refusal, Which),
 }
 
+// Whether two vectors have the same dims and kind, so that they can be measured against each other.
+pub enum Pairing {
+    Alike,
+    Mismatched(Refusal),
+}
+
 // The distance of two bodies of one kind and dims.
 fn measure(distance: Distance, kind: VectorType, dims: usize, a: &[u8], b: &[u8]) -> f64
     requires { ⌜ dims ≤ maxDims ⌝ }
@@ -59,14 +66,51 @@ fn measure(distance: Distance, kind: VectorType, dims: usize, a: &[u8], b: &[u8]
     }
 }
 
-fn refuse(number: u8) -> DistanceAnswer
-    ensures { λ r. ⌜ r ≡ pairRefused number ⌝ }
+// Whether two views have the same dims, and then the same kind: 12, 13.
+pub fn check_pair(v: View, w: View) -> Pairing
+    ensures { λ r. ⌜ r ≡ pairingOf v w ⌝ }
 {
-    DistanceAnswer::Refused(Refusal::plain(number), Which::Neither)
+    let dims = v.dims;
+    let others = w.dims;
+    if dims.0 != others.0 {
+        return Pairing::Mismatched(Refusal::plain(12));
+    }
+    let kind = v.kind;
+    let other = w.kind;
+    if !vector_types::is_same_kind(kind, other) {
+        return Pairing::Mismatched(Refusal::plain(13));
+    }
+    Pairing::Alike
+}
+
+// The distance of two accepted blobs of the same dims and kind, if there is one for the kind: 14.
+pub fn measure_pair(
+    distance: Distance,
+    first: &[u8],
+    v: View,
+    second: &[u8],
+    w: View,
+) -> DistanceAnswer
+    requires { ⌜ readOf (now first) ≡ Accepted v ⌝ }
+    requires { ⌜ readOf (now second) ≡ Accepted w ⌝ }
+    requires { ⌜ pairingOf v w ≡ Alike ⌝ }
+    ensures { λ r. ⌜ r ≡ distanceAnswer (valueOf distance (v .kind) (v .dims .0) (bodyOf (now (first .entry))) (bodyOf (now (second .entry)))) ⌝ }
+{
+    let kind = v.kind;
+    if !exists(distance, kind) {
+        return DistanceAnswer::Refused(Refusal::plain(14), Which::Neither);
+    }
+    let dims = v.dims;
+    let m = v.length;
+    let n = w.length;
+    let a = &first[..m];
+    let b = &second[..n];
+    let x = measure(distance, kind, dims.0, a, b);
+    DistanceAnswer::Measured(x)
 }
 
 // The distance of two accepted blobs, of which these are the views.
-pub fn measure_views(
+fn measure_views(
     distance: Distance,
     first: &[u8],
     v: View,
@@ -77,24 +121,10 @@ pub fn measure_views(
     requires { ⌜ readOf (now second) ≡ Accepted w ⌝ }
     ensures { λ r. ⌜ r ≡ distanceOfViews distance v w (bodyOf (now (first .entry))) (bodyOf (now (second .entry))) ⌝ }
 {
-    let dims = v.dims;
-    let others = w.dims;
-    if dims.0 != others.0 {
-        return refuse(12);
+    match check_pair(v, w) {
+        Pairing::Mismatched(refusal) => DistanceAnswer::Refused(refusal, Which::Neither),
+        Pairing::Alike => measure_pair(distance, first, v, second, w),
     }
-    let kind = v.kind;
-    let other = w.kind;
-    if !vector_types::is_same_kind(kind, other) {
-        return refuse(13);
-    }
-    if !exists(distance, kind) {
-        return refuse(14);
-    }
-    let m = v.length;
-    let n = w.length;
-    let a = &first[..m];
-    let b = &second[..n];
-    DistanceAnswer::Measured(measure(distance, kind, dims.0, a, b))
 }
 
 // A distance of two blobs, or the first refusal in the order of the rules.

@@ -7,10 +7,10 @@ use vector_types::VectorType;
 
 // Rows: the distances; columns: the kinds; both in the order of their enums.
 const EXISTS: [[bool; 5]; 4] = [
-    [true, true, true, true, true],
-    [true, true, true, false, true],
-    [true, true, true, true, true],
-    [true, true, true, true, true],
+    [true, true, true, true, true], // cosine
+    [true, true, true, false, true], // L2
+    [true, true, true, true, true], // dot
+    [true, true, true, true, true], // Jaccard
 ];
 
 fn row(distance: Distance) -> usize

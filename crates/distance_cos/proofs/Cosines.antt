@@ -5,11 +5,11 @@ use lib.Ieee.{Float, nan, Format, binary32, sub, mul, div}
 use Rattle.float_laws.specs.Zero.{plusZero}
 use Rattle.rounding.specs.Root.{IsRoot}
 use Rattle.rounding.proofs.RootLaw.{root-unique}
-use Rattle.distance_sums.specs.Dense.{Products, one, isZero, angle, denseCosine}
+use Rattle.distance_sums.specs.Dense.{Products, floatOne, isZero, angle, denseCosine}
 use Rattle.distance_sums.specs.Sparse.{sparseCosine}
 
 module _ (f : Format) (s : Products) where
-  pub angle-by : (r : Float) → IsRoot f (mul f (s .norm1) (s .norm2)) r → sub f one (div f (s .dot) r) ≡ angle f s
+  pub angle-by : (r : Float) → IsRoot f (mul f (s .norm1) (s .norm2)) r → sub f floatOne (div f (s .dot) r) ≡ angle f s
   unfolding angle
   angle-by r h = rw (root-unique f (mul f (s .norm1) (s .norm2)) r h)
 
@@ -18,7 +18,7 @@ module _ (f : Format) (s : Products) where
   dense-zero p = rw p
 
   module _ (p : (isZero (s .norm1) && isZero (s .norm2)) ≡ false) where
-    pub dense-one : isZero (s .dot) ≡ true → one ≡ denseCosine f s
+    pub dense-one : isZero (s .dot) ≡ true → floatOne ≡ denseCosine f s
     unfolding denseCosine
     dense-one q = rw (p, q)
 

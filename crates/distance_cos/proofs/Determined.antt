@@ -1,4 +1,4 @@
--- The public contract determines its answer: stated over the contract's own reading, so it changes with the contract.
+-- Determinism of the public contract: stated over the contract's own reading, so it changes with the contract.
 use mathlib.Core.Path.{_∙_, sym}
 use Rattle.promises.specs.Determined.{Determined}
 use Rattle.distance_cos.proofs.measure_cos.Reads as measure-cos

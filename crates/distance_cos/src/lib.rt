@@ -9,14 +9,14 @@ ghost use Rattle.vector_types.specs.Layout.{maxDims, ceil, bodyFits};
 ghost use Rattle.vector_types.specs.declared.VectorType.the-variants.{Float32Dense, Float64Dense, Float1Bit, Float8};
 ghost use Rattle.distance_sums.specs.Sparse.{sparseProducts, sparseCosine};
 ghost use Rattle.distance_sums.specs.Values.{cosineOf};
-ghost use Rattle.distance_cos.specs.Sums.{products32};
+ghost use Rattle.distance_cos.specs.inner.Sums.{products32};
+use bodies::float8::scale_of;
+use bodies::sparse::Turn;
+use bodies::sparse::next_turn;
 use distance_sums::bits::differing;
 use distance_sums::float8::dot_of;
 use distance_sums::float8::norm_of;
-use distance_sums::float8::scale_of;
 use distance_sums::float8::totals_of;
-use distance_sums::sparse::Turn;
-use distance_sums::sparse::next_turn;
 use sums::CosSums32;
 use sums::CosSums64;
 use vector_types::VectorType;
@@ -54,8 +54,8 @@ fn vector_f8_distance_cos(dims: usize, a: &[u8], b: &[u8]) -> f64
     requires { ⌜ length (now b) ≡ 4 * ceil dims 4 + 8 ⌝ }
     ensures { λ r. ⌜ r ≡ cosineOf Float8 dims (now (a .entry)) (now (b .entry)) ⌝ }
 {
-    let u = scale_of(dims, a);
-    let v = scale_of(dims, b);
+    let u = scale_of(dims, a).widened();
+    let v = scale_of(dims, b).widened();
     let t = totals_of(dims, a, b);
     let d = dims as u32;
     let dot = dot_of(u, v, t, d);

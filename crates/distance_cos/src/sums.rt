@@ -3,7 +3,7 @@ ghost use mathlib.Core.Path.{_≡_};
 ghost use lib.Ieee.{binary32, binary64};
 ghost use Rattle.distance_sums.specs.Dense.{noProducts, productsWith, angle, denseCosine};
 ghost use Rattle.distance_sums.specs.Sparse.{productsRule, sparseCosine};
-ghost use Rattle.distance_cos.specs.Sums.{products32, products64};
+ghost use Rattle.distance_cos.specs.inner.Sums.{products32, products64};
 
 // The running sums of a cosine: of products, and of the squares of each vector.
 pub struct CosSums32 {

@@ -9,12 +9,12 @@ ghost use Rattle.distance_sums.specs.Dense.{dotsWith, dotBy};
 ghost use Rattle.distance_sums.specs.Sparse.{sparseDots};
 ghost use Rattle.distance_sums.specs.OneBit.{bitDot};
 ghost use Rattle.distance_sums.specs.Values.{dotOf};
+use bodies::float8::scale_of;
+use bodies::sparse::Turn;
+use bodies::sparse::next_turn;
 use distance_sums::bits::differing;
 use distance_sums::float8::dot_of;
-use distance_sums::float8::scale_of;
 use distance_sums::float8::totals_of;
-use distance_sums::sparse::Turn;
-use distance_sums::sparse::next_turn;
 use vector_types::VectorType;
 
 // The distance of two bodies of one kind and dims.
@@ -58,8 +58,8 @@ fn vector_f8_distance_dot(dims: usize, a: &[u8], b: &[u8]) -> f64
     requires { ⌜ length (now b) ≡ 4 * ceil dims 4 + 8 ⌝ }
     ensures { λ r. ⌜ r ≡ dotOf Float8 dims (now (a .entry)) (now (b .entry)) ⌝ }
 {
-    let u = scale_of(dims, a);
-    let v = scale_of(dims, b);
+    let u = scale_of(dims, a).widened();
+    let v = scale_of(dims, b).widened();
     let t = totals_of(dims, a, b);
     let dot = dot_of(u, v, t, dims as u32);
     -dot

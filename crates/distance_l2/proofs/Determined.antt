@@ -1,4 +1,4 @@
--- The public contract determines its answer: stated over the contract's own reading, so it changes with the contract.
+-- Determinism of the public contract: stated over the contract's own reading, so it changes with the contract.
 use mathlib.Core.Path.{_∙_, sym}
 use mathlib.Core.Option.{Option·some-injective}
 use Rattle.promises.specs.Determined.{Determined}

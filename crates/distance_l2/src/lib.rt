@@ -10,9 +10,9 @@ ghost use Rattle.vector_types.specs.declared.VectorType.the-variants.{Float32De
 ghost use Rattle.distance_sums.specs.Dense.{squaresWith, l2By};
 ghost use Rattle.distance_sums.specs.Sparse.{squaresRule, sparseSquares};
 ghost use Rattle.distance_sums.specs.Values.{l2Of};
-use distance_sums::float8::scale_of;
-use distance_sums::sparse::Turn;
-use distance_sums::sparse::next_turn;
+use bodies::float8::scale_of;
+use bodies::sparse::Turn;
+use bodies::sparse::next_turn;
 use vector_types::VectorType;
 
 // The distance of two bodies of one kind and dims.
@@ -27,9 +27,8 @@ pub fn measure_l2(kind: VectorType, dims: usize, a: &[u8], b: &[u8]) -> f64
         VectorType::Float32Dense => vector_f32_distance_l2(dims, a, b),
         VectorType::Float64Dense => vector_f64_distance_l2(dims, a, b),
         VectorType::Float32Sparse => vector_f32_sparse_distance_l2(a, b),
-        VectorType::Float8 => vector_f8_distance_l2(dims, a, b),
-        // never: the table has no L2 of 1-bit vectors
-        VectorType::Float1Bit => 0.0,
+        // Float8, since Float1Bit has no L2 and is not passed
+        _ => vector_f8_distance_l2(dims, a, b),
     }
 }
 
@@ -61,8 +60,8 @@ fn vector_f8_distance_l2(dims: usize, a: &[u8], b: &[u8]) -> f64
     requires { ⌜ length (now b) ≡ 4 * ceil dims 4 + 8 ⌝ }
     ensures { λ r. ⌜ some r ≡ l2Of Float8 dims (now (a .entry)) (now (b .entry)) ⌝ }
 {
-    let u = scale_of(dims, a);
-    let v = scale_of(dims, b);
+    let u = scale_of(dims, a).widened();
+    let v = scale_of(dims, b).widened();
     let mut sum: f64 = 0.0;
     let mut i = 0;
     while i < dims {

@@ -108,13 +108,13 @@ module _ {op f : ℕ → ℕ → ℕ} (d : Digitwise op f) where
 
 -- ---- what a loop keeps: h is the tally of the first n bytes
 pub record Counted (f : ℕ → ℕ → ℕ) (s t : List ℕ) (n h : ℕ) : Type 0 where
-  pub left : AreBytes s
-  pub right : AreBytes t
+  pub firstBytes : AreBytes s
+  pub secondBytes : AreBytes t
   pub count : h ≡ tally f s t (8 * n)
 
 pub counted-none : (f : ℕ → ℕ → ℕ) (s t : List ℕ) → AreBytes s → AreBytes t → Counted f s t 0 0
 unfolding total
-counted-none f s t B C = record { left = B; right = C; count = refl }
+counted-none f s t B C = record { firstBytes = B; secondBytes = C; count = refl }
 
 module _ {op f : ℕ → ℕ → ℕ} (d : Digitwise op f) {s t : List ℕ} where
   pub counted-le : {n h : ℕ} → Counted f s t n h → h ≤ 8 * n
@@ -122,7 +122,7 @@ module _ {op f : ℕ → ℕ → ℕ} (d : Digitwise op f) {s t : List ℕ} wher
 
   counted-more : (w n h : ℕ) → Counted f s t n h → Counted f s t (n + w) (h + ones (op (numberAt w s n) (numberAt w t n)))
   counted-more w n h c =
-      record { left = c .left; right = c .right; count = rw (c .count) (sym (bytes-more d s t (c .left) (c .right) w n)) }
+      record { firstBytes = c .firstBytes; secondBytes = c .secondBytes; count = rw (c .count) (sym (bytes-more d s t (c .firstBytes) (c .secondBytes) w n)) }
 
   -- a byte more, and eight bytes more, of which x and y are the numbers
   pub counted-byte : {n h : ℕ} → Counted f s t n h → Counted f s t (n + 1) (h + ones (op (getD s n 0) (getD t n 0)))

@@ -12,9 +12,10 @@ use Rattle.float_laws.specs.Zero.{plusZero, FromZero}
 use Rattle.float_laws.specs.Running.{running, AllFit}
 use Rattle.float_laws.proofs.Order.{nan-lt, lt-nan, lt-asym, eq-self, nan-self, Alike, level}
 use Rattle.float_laws.proofs.Running.{plusZero-fromZero, add-fromZero, add-zero-term}
+use Rattle.bodies.specs.Entries.{Entries}
+use Rattle.bodies.specs.Merged.{Rule, merged}
 use Rattle.distance_sums.specs.Extremes.{lesser, greater, Chosen, IsLesser, IsGreater}
 use Rattle.distance_sums.specs.Dense.{Shares, noShares, sharesBy, shares, sharesWith}
-use Rattle.distance_sums.specs.Merged.{Entries, Rule, merged}
 use Rattle.distance_sums.specs.Sparse.{sharesRuleBy, sharesRule}
 
 abbrev Order : Type 0
@@ -135,8 +136,8 @@ pub record AreChoices (f : Format) (lo hi : Float → Float → Float) : Type 0 
   pub low : (x y : Float) → T (fits f x) → T (fits f y) → IsLesser x y (lo x y)
   pub high : (x y : Float) → T (fits f x) → T (fits f y) → IsGreater x y (hi x y)
 
-pub ours-are : (f : Format) → AreChoices f lesser greater
-ours-are f = record { low = λ x y h k. lesser-is x y; high = λ x y h k. greater-is x y }
+pub ours-are-choices : (f : Format) → AreChoices f lesser greater
+ours-are-choices f = record { low = λ x y h k. lesser-is x y; high = λ x y h k. greater-is x y }
 
 -- what both sums of a Jaccard can be
 abbrev pub BothFromZero : Format → Shares → Type 0
@@ -166,8 +167,8 @@ module _ (f : Format) (lo hi : Float → Float → Float) (c : AreChoices f lo h
   pub shares-either-zero : (x y : ℕ → Float) (n : ℕ) → AllFit f x n → AllFit f y n → sharesBy lo hi f x y n ≡ shares f x y n
   unfolding sharesBy
   shares-either-zero x y n h k =
-      let low = summed f lt (level f) lo lesser (c .low) (ours-are f .low) x y n h k in
-      let high = summed f above (level-above f) hi greater (c .high) (ours-are f .high) x y n h k in
+      let low = summed f lt (level f) lo lesser (c .low) (ours-are-choices f .low) x y n h k in
+      let high = summed f above (level-above f) hi greater (c .high) (ours-are-choices f .high) x y n h k in
       rw (low .1, high .1)
 
   -- one pair more
@@ -175,8 +176,8 @@ module _ (f : Format) (lo hi : Float → Float → Float) (c : AreChoices f lo h
       → BothFromZero f (sharesWith lo hi f s x y) × (sharesWith lo hi f s x y ≡ sharesWith lesser greater f s x y)
   unfolding sharesWith
   one-more x y h k s (l, g) =
-      let low = added f lt (level f) lo lesser (c .low) (ours-are f .low) x y h k (s .low) l in
-      let high = added f above (level-above f) hi greater (c .high) (ours-are f .high) x y h k (s .high) g in
+      let low = added f lt (level f) lo lesser (c .low) (ours-are-choices f .low) x y h k (s .low) l in
+      let high = added f above (level-above f) hi greater (c .high) (ours-are-choices f .high) x y h k (s .high) g in
       ((low .0, high .0), rw (low .1, high .1))
 
   pub merged-either-zero : (v w : Entries) → ((i : ℕ) → T (fits f (v .value i))) → ((j : ℕ) → T (fits f (w .value j))) → (p q : ℕ)

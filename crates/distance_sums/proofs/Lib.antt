@@ -1,6 +1,5 @@
 pub mod Sums
 pub mod Counts
-pub mod Merging
 pub mod Totalled
 pub mod Exact
 pub mod EitherZero

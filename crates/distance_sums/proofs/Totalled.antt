@@ -31,8 +31,8 @@ unfolding totalsOf total
 totals-none a b = refl
 
 -- t with one pair more
-abbrev with : Totals → ℕ → ℕ → Totals
-with t p q = record {
+abbrev totalsWith : Totals → ℕ → ℕ → Totals
+totalsWith t p q = record {
   sum1 = t .sum1 + p;
   sum2 = t .sum2 + q;
   squares1 = t .squares1 + p * p;
@@ -40,7 +40,7 @@ with t p q = record {
   products = t .products + p * q;
 }
 
-totals-more : (a b : List ℕ) (n : ℕ) (t : Totals) → t ≡ totalsOf a b n → with t (byteAt a n) (byteAt b n) ≡ totalsOf a b (n + 1)
+totals-more : (a b : List ℕ) (n : ℕ) (t : Totals) → t ≡ totalsOf a b n → totalsWith t (byteAt a n) (byteAt b n) ≡ totalsOf a b (n + 1)
 unfolding totalsOf
 totals-more a b n t e = rw e (simp total-more)
 
@@ -63,17 +63,17 @@ totals-at-most a b A B n = record {
 }
 
 -- t has the sums over n pairs of bytes, with room for one pair more
-pub record Kept (a b : List ℕ) (n : ℕ) (t : Totals) : Type 0 where
-  pub first : AreBytes a
-  pub second : AreBytes b
+pub record Totalled (a b : List ℕ) (n : ℕ) (t : Totals) : Type 0 where
+  pub firstBytes : AreBytes a
+  pub secondBytes : AreBytes b
   pub sums : t ≡ totalsOf a b n
-  pub room : AtMost ((n + 1) * 65025) (with t (byteAt a n) (byteAt b n))
+  pub room : AtMost ((n + 1) * 65025) (totalsWith t (byteAt a n) (byteAt b n))
 
-kept : (a b : List ℕ) (n : ℕ) (t : Totals) → AreBytes a → AreBytes b → t ≡ totalsOf a b n → Kept a b n t
-kept a b n t A B e = record { first = A; second = B; sums = e; room = rw (totals-more a b n t e) (totals-at-most a b A B (n + 1)) }
+totalled : (a b : List ℕ) (n : ℕ) (t : Totals) → AreBytes a → AreBytes b → t ≡ totalsOf a b n → Totalled a b n t
+totalled a b n t A B e = record { firstBytes = A; secondBytes = B; sums = e; room = rw (totals-more a b n t e) (totals-at-most a b A B (n + 1)) }
 
-pub kept-none : {a b : List ℕ} {t : Totals} → AreBytes a → AreBytes b → t ≡ noTotals → Kept a b 0 t
-kept-none A B e = kept _ _ 0 _ A B (e ∙ totals-none _ _)
+pub totalled-none : {a b : List ℕ} {t : Totals} → AreBytes a → AreBytes b → t ≡ noTotals → Totalled a b 0 t
+totalled-none A B e = totalled _ _ 0 _ A B (e ∙ totals-none _ _)
 
-pub kept-more : {a b : List ℕ} {n : ℕ} {t : Totals} → Kept a b n t → Kept a b (n + 1) (with t (byteAt a n) (byteAt b n))
-kept-more {a} {b} {n} {t} k = kept a b (n + 1) _ (k .first) (k .second) (totals-more a b n t (k .sums))
+pub totalled-more : {a b : List ℕ} {n : ℕ} {t : Totals} → Totalled a b n t → Totalled a b (n + 1) (totalsWith t (byteAt a n) (byteAt b n))
+totalled-more {a} {b} {n} {t} k = totalled a b (n + 1) _ (k .firstBytes) (k .secondBytes) (totals-more a b n t (k .sums))

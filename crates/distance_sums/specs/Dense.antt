@@ -9,8 +9,8 @@ use Rattle.rounding.specs.Root.{root}
 use Rattle.distance_sums.specs.Extremes.{lesser, greater}
 
 -- 1.0, and whether a value is a zero of either sign
-abbrev pub one : Float
-one = fin false 1 (pos 0)
+abbrev pub floatOne : Float
+floatOne = fin false 1 (pos 0)
 
 abbrev pub isZero : Float → Bool
 isZero x = eq x plusZero
@@ -40,12 +40,12 @@ products f x y n = record {
 
 -- 1 - dot / root (norm1 * norm2)
 unfoldable pub angle : Format → Products → Float
-angle f s = sub f one (div f (s .dot) (root f (mul f (s .norm1) (s .norm2))))
+angle f s = sub f floatOne (div f (s .dot) (root f (mul f (s .norm1) (s .norm2))))
 
 -- both norms 0 give 0.0; else a dot of 0 gives 1.0
 unfoldable pub denseCosine : Format → Products → Float
 unfolding angle
-denseCosine f s = cond (isZero (s .norm1) && isZero (s .norm2)) plusZero (cond (isZero (s .dot)) one (angle f s))
+denseCosine f s = cond (isZero (s .norm1) && isZero (s .norm2)) plusZero (cond (isZero (s .dot)) floatOne (angle f s))
 
 -- ---- L2: the sum of squared differences; the root is taken in f64
 unfoldable pub squares : Format → (ℕ → Float) → (ℕ → Float) → ℕ → Float
@@ -78,7 +78,7 @@ shares = sharesBy lesser greater
 
 -- a sum of 0 of the greater ones gives NaN; else 1 - low / high, of which the difference is taken in f64
 unfoldable pub jaccardBy : Format → Shares → Float
-jaccardBy f s = cond (isZero (s .high)) nan (sub binary64 one (div f (s .low) (s .high)))
+jaccardBy f s = cond (isZero (s .high)) nan (sub binary64 floatOne (div f (s .low) (s .high)))
 
 -- ---- one pair more
 unfoldable pub productsWith : Format → Products → Float → Float → Products

@@ -7,14 +7,14 @@ use lib.ListN.{getD}
 use lib.Ieee.{Float, fin, binary64, add, sub, mul, div, ofInt}
 use Rattle.float_laws.specs.Running.{total}
 use Rattle.rounding.specs.Root.{root}
-use Rattle.convert.specs.Elements.{alphaOf, shiftOf}
-use Rattle.distance_sums.specs.Dense.{one}
-use Rattle.distance_sums.specs.declared.float8.Scale.{Scale}
+use Rattle.bodies.specs.Scale.{scaleIn, wide}
+use Rattle.bodies.specs.declared.float8.WideScale.{WideScale}
+use Rattle.distance_sums.specs.Dense.{floatOne}
 use Rattle.distance_sums.specs.declared.float8.Totals.{Totals}
 
--- alpha and shift of a body of d elements
-abbrev pub scaleOf : ℕ → List ℕ → Scale
-scaleOf d body = record { alpha = alphaOf d body; shift = shiftOf d body }
+-- alpha and shift of a body of d elements, in f64
+abbrev pub wideScale : ℕ → List ℕ → WideScale
+wideScale d body = wide (scaleIn d body)
 
 -- the quantized byte i
 abbrev pub byteAt : List ℕ → ℕ → ℕ
@@ -42,11 +42,11 @@ x ⊕ y = add binary64 x y
 abbrev pub whole : ℕ → Float
 whole n = ofInt binary64 (pos n)
 
-abbrev pub two : Float
-two = fin false 1 (pos 1)
+abbrev pub floatTwo : Float
+floatTwo = fin false 1 (pos 1)
 
 -- the terms of the dot: those in the middle change places when the vectors do
-unfoldable pub scaledDot : Scale → Scale → Totals → ℕ → Float
+unfoldable pub scaledDot : WideScale → WideScale → Totals → ℕ → Float
 scaledDot u v t d =
     u .alpha ⊛ v .alpha ⊛ whole (t .products)
     ⊕ u .alpha ⊛ v .shift ⊛ whole (t .sum1)
@@ -54,14 +54,14 @@ scaledDot u v t d =
     ⊕ u .shift ⊛ v .shift ⊛ whole d
 
 -- a norm, squared
-unfoldable pub scaledNorm : Scale → ℕ → ℕ → ℕ → Float
+unfoldable pub scaledNorm : WideScale → ℕ → ℕ → ℕ → Float
 scaledNorm u squares sum d =
     u .alpha ⊛ u .alpha ⊛ whole squares
-    ⊕ two ⊛ u .alpha ⊛ u .shift ⊛ whole sum
+    ⊕ floatTwo ⊛ u .alpha ⊛ u .shift ⊛ whole sum
     ⊕ u .shift ⊛ u .shift ⊛ whole d
 
 -- no test at all
-unfoldable pub scaledCosine : Scale → Scale → Totals → ℕ → Float
+unfoldable pub scaledCosine : WideScale → WideScale → Totals → ℕ → Float
 unfolding scaledDot scaledNorm
 scaledCosine u v t d =
-    sub binary64 one (div binary64 (scaledDot u v t d) (root binary64 (scaledNorm u (t .squares1) (t .sum1) d ⊛ scaledNorm v (t .squares2) (t .sum2) d)))
+    sub binary64 floatOne (div binary64 (scaledDot u v t d) (root binary64 (scaledNorm u (t .squares1) (t .sum1) d ⊛ scaledNorm v (t .squares2) (t .sum2) d)))

@@ -1,9 +1,7 @@
 pub mod Extremes
 pub mod Dense
-pub mod Merged
 pub mod Sparse
 pub mod OneBit
 pub mod Float8
-pub mod Turns
 pub mod Values
 pub mod Examples

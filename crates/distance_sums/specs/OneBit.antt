@@ -8,7 +8,7 @@ use lib.IntN.{pos, _-ℤ_}
 use lib.Ieee.{Float, nan, binary64, sub, div, neg, ofInt}
 use Rattle.float_laws.specs.Running.{total}
 use Rattle.vector_types.specs.Layout.{ceil, bitAt}
-use Rattle.distance_sums.specs.Dense.{one}
+use Rattle.distance_sums.specs.Dense.{floatOne}
 use Rattle.distance_sums.specs.declared.bits.Overlap.{Overlap}
 
 -- f of the two bits at each place below m, added up
@@ -36,4 +36,4 @@ bitDot d h = neg (ofInt binary64 (pos d -ℤ pos (2 * h)))
 
 -- 1 - both / either, and NaN where no bit is set
 unfoldable pub bitJaccard : Overlap → Float
-bitJaccard o = cond (eqb (o .either) 0) nan (sub binary64 one (div binary64 (ofInt binary64 (pos (o .both))) (ofInt binary64 (pos (o .either)))))
+bitJaccard o = cond (eqb (o .either) 0) nan (sub binary64 floatOne (div binary64 (ofInt binary64 (pos (o .both))) (ofInt binary64 (pos (o .either)))))

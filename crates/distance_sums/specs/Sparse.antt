@@ -1,19 +1,13 @@
--- Sparse vectors: the entries of a body, and the four distances by the merge.
-use Prim.Native.Nat.{ℕ, _*_}
+-- Sparse vectors: the four distances by the merge of their entries.
+use Prim.Native.Nat.{ℕ}
 use mathlib.Core.Bool.{cond, _||_}
 use mathlib.Core.List.{List}
 use lib.Ieee.{Float, nan, Format, binary32, add}
 use Rattle.float_laws.specs.Zero.{plusZero}
-use Rattle.little_endian.specs.Bytes.{f32At}
-use Rattle.vector_types.specs.Layout.{indexAt}
-use Rattle.convert.specs.Dense.{count}
+use Rattle.bodies.specs.Entries.{entriesOf}
+use Rattle.bodies.specs.Merged.{Rule, merge, merged}
 use Rattle.distance_sums.specs.Extremes.{lesser, greater}
 use Rattle.distance_sums.specs.Dense.{Products, noProducts, productsWith, square, angle, isZero, squaresWith, dotsWith, Shares, noShares, sharesWith}
-use Rattle.distance_sums.specs.Merged.{Entries, Rule, merge, merged}
-
--- a body is its values, then as many indices
-abbrev pub entriesOf : List ℕ → Entries
-entriesOf body = record { count = count body; index = indexAt body (count body); value = λ i. f32At body (4 * i) }
 
 -- the norms go on where one vector has no element; the product does not
 abbrev pub productsRule : Format → Rule Products

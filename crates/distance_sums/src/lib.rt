@@ -1,4 +1,3 @@
-// What the four distances share: counts over 1-bit bodies, sums over Float8 bodies, and the merge of two sparse bodies.
+// What the four distances share: counts over 1-bit bodies, and whole-number sums over Float8 bodies.
 pub mod bits;
 pub mod float8;
-pub mod sparse;

@@ -12,7 +12,7 @@ use Rattle.vector_types.specs.Search.{firstFrom}
 use Rattle.vector_types.specs.Layout.{namedKind, byByte, lengthBeforeType, bodyFits, layoutRow}
 use Rattle.vector_types.specs.Read.{readOf, strictOf, refusals, strictRefusals, shown}
 use Rattle.vector_types.specs.Parts.{bodyOf}
-use Rattle.vector_types.specs.Write.{writeOf, writeOutcome, writeRefusals, tailOf, blobOf}
+use Rattle.blob_writer.specs.Write.{writeOf, writeOutcome, writeRefusals, tailOf, blobOf}
 use Rattle.vector_types.specs.declared.ReadAnswer.{ReadAnswer}
 use Rattle.convert.specs.Convert.{convertOutcome}
 use Rattle.distance.specs.Answer.{distanceNumber, distanceOf}

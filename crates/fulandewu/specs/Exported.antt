@@ -5,15 +5,15 @@ use Prim.Native.Nat.{ℕ}
 use mathlib.Core.List.{List}
 use lib.ListN.{length}
 use lib.Ieee.{Float}
-use Rattle.vector_types.specs.Answers.{writeNumber}
+use Rattle.blob_writer.specs.Answers.{writeNumber}
 use Rattle.vector_types.specs.Layout.{byteOf, byByte}
-use Rattle.vector_types.specs.Write.{WriteOutcome, outcome, writeOutcome}
+use Rattle.blob_writer.specs.Write.{WriteOutcome, outcome, writeOutcome}
 use Rattle.vector_types.specs.declared.Detail.{Detail}
 use Rattle.vector_types.specs.declared.Detail.the-variants.{Nothing, Needs}
 use Rattle.vector_types.specs.declared.ReadAnswer.{ReadAnswer}
 use Rattle.vector_types.specs.declared.ReadAnswer.the-variants.{Accepted, Refused as Unread}
-use Rattle.vector_types.specs.declared.WriteAnswer.{WriteAnswer}
-use Rattle.vector_types.specs.declared.WriteAnswer.the-variants.{Written, Refused as Unwritten}
+use Rattle.blob_writer.specs.declared.WriteAnswer.{WriteAnswer}
+use Rattle.blob_writer.specs.declared.WriteAnswer.the-variants.{Written, Refused as Unwritten}
 use Rattle.convert.specs.Convert.{convertNumber, ConvertOutcome, outcome as leaving, convertOutcome}
 use Rattle.convert.specs.declared.ConvertAnswer.{ConvertAnswer}
 use Rattle.convert.specs.declared.ConvertAnswer.the-variants.{Converted, Refused as Unconverted}

@@ -3,8 +3,10 @@ ghost use mathlib.Core.Path.{_≡_};
 ghost use Rattle.vector_types.specs.Answers.{refusal};
 ghost use Rattle.vector_types.specs.Layout.{byByte};
 ghost use Rattle.fulandewu.specs.Kinds.{chosenOf};
+use vector_types::Named;
 use vector_types::Refusal;
 use vector_types::VectorType;
+use vector_types::kind_of_byte;
 
 // The kind that a byte names, or the reader's refusal of the byte.
 pub enum Chosen {
@@ -21,14 +23,9 @@ fn refuse(number: u8) -> Chosen
 pub(crate) fn kind_of(byte: u8) -> Chosen
     ensures { λ r. ⌜ r ≡ chosenOf (byByte byte) ⌝ }
 {
-    match byte {
-        1 => Chosen::Kind(VectorType::Float32Dense),
-        2 => Chosen::Kind(VectorType::Float64Dense),
-        3 => Chosen::Kind(VectorType::Float1Bit),
-        4 => Chosen::Kind(VectorType::Float8),
-        5 => refuse(2),
-        6 => refuse(2),
-        9 => Chosen::Kind(VectorType::Float32Sparse),
-        _ => refuse(3),
+    match kind_of_byte(byte) {
+        Named::Kind(named) => Chosen::Kind(named),
+        Named::Unsupported => refuse(2),
+        Named::Unknown => refuse(3),
     }
 }

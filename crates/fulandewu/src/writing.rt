@@ -1,20 +1,20 @@
 // Writing a blob.
 ghost use mathlib.Core.Path.{_≡_};
-ghost use Rattle.vector_types.specs.Answers.{writeNumber};
-ghost use Rattle.vector_types.specs.Write.{outcome};
+ghost use Rattle.blob_writer.specs.Answers.{writeNumber};
+ghost use Rattle.blob_writer.specs.Write.{outcome};
 ghost use Rattle.fulandewu.specs.Exported.{writtenBy, lengthWritten, lengthNeeded, writeExport, writeTold};
 use crate::kinds::Chosen;
 use crate::kinds::kind_of;
 use crate::numbers::tell_need;
+use blob_writer::WriteAnswer;
 use vector_types::Dims;
-use vector_types::WriteAnswer;
 
 // Writes a blob of the kind that a byte names.
 fn write_as(kind: u8, dims: usize, body: &[u8], out: &mut [u8]) -> WriteAnswer
     ensures { λ r. ⌜ outcome r (now (out .exit)) ≡ writtenBy kind dims (now (body .entry)) (now (out .entry)) ⌝ }
 {
     match kind_of(kind) {
-        Chosen::Kind(named) => vector_types::write(named, Dims(dims), body, out),
+        Chosen::Kind(named) => blob_writer::write(named, Dims(dims), body, out),
         Chosen::Refused(refusal) => WriteAnswer::Refused(refusal),
     }
 }

@@ -12,12 +12,12 @@ ghost use Rattle.distance_sums.specs.Dense.{jaccardBy};
 ghost use Rattle.distance_sums.specs.Sparse.{sparseShares};
 ghost use Rattle.distance_sums.specs.OneBit.{bitJaccard};
 ghost use Rattle.distance_sums.specs.Values.{jaccardOf};
-ghost use Rattle.jaccard.specs.Sums.{shares32};
+ghost use Rattle.jaccard.specs.inner.Sums.{shares32};
+use bodies::float8::scale_of;
+use bodies::sparse::Turn;
+use bodies::sparse::next_turn;
 use distance_sums::bits::Overlap;
 use distance_sums::bits::overlapping;
-use distance_sums::float8::scale_of;
-use distance_sums::sparse::Turn;
-use distance_sums::sparse::next_turn;
 use sums::JaccardSums32;
 use sums::JaccardSums64;
 use vector_types::VectorType;
@@ -64,8 +64,8 @@ fn vector_f8_distance_jaccard(dims: usize, a: &[u8], b: &[u8]) -> f64
     requires { ⌜ length (now b) ≡ 4 * ceil dims 4 + 8 ⌝ }
     ensures { λ r. ⌜ r ≡ jaccardOf Float8 dims (now (a .entry)) (now (b .entry)) ⌝ }
 {
-    let u = scale_of(dims, a);
-    let v = scale_of(dims, b);
+    let u = scale_of(dims, a).widened();
+    let v = scale_of(dims, b).widened();
     let mut sums = JaccardSums64::new();
     let mut i = 0;
     while i < dims {

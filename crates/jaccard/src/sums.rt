@@ -5,7 +5,7 @@ ghost use lib.Ieee.{nan, binary32, binary64, ofBits, eq, lt};
 ghost use Rattle.float_laws.specs.Zero.{plusZero, FromZero};
 ghost use Rattle.distance_sums.specs.Extremes.{lesser, greater};
 ghost use Rattle.distance_sums.specs.Dense.{noShares, sharesWith, jaccardBy};
-ghost use Rattle.jaccard.specs.Sums.{shares32, shares64};
+ghost use Rattle.jaccard.specs.inner.Sums.{shares32, shares64};
 
 // The lesser and the greater of two, the first a number: Rust's `min` and `max`. A NaN compares false.
 fn lesser32(x: f32, y: f32) -> f32

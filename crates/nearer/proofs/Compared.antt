@@ -1,64 +1,78 @@
--- What the code's tests decide is what `comparedOf` and `chosen` say.
-use mathlib.Core.Path.{_≡_, refl}
-use mathlib.Core.Bool.{Bool, true, false, not, cond}
-use mathlib.Core.List.{List, [], _∷_, _++_}
+-- What the code's tests decide is what `comparedOf` and `nearerBy` say.
+use mathlib.Core.Path.{_≡_, refl, sym, ap, _∙_}
+use mathlib.Core.Bool.{Bool, true, false, cond, false≢true}
+use mathlib.Core.List.{List, _++_}
 use mathlib.Core.Option.{Option, none, some}
 use Prim.Native.Nat.{ℕ}
-use lib.Dec.{eqb}
 use lib.Ieee.{Float, le, eq, isNan}
 use Rattle.float_laws.proofs.Order.{nan-le, le-nan, eq-self, nan-self}
-use Rattle.vector_types.specs.Answers.{refusal, Test, test, firstGiven, unless}
-use Rattle.vector_types.specs.Layout.{byteOf, hasByte}
+use Rattle.vector_types.specs.Answers.{refusal, Given, none as passed, given, firstGiven, unless}
 use Rattle.vector_types.specs.declared.View.{View}
+use Rattle.vector_types.proofs.Given.{first-append}
 use Rattle.distance.specs.Values.{valueOf}
-use Rattle.distance.specs.Answer.{distanceAnswer, distanceOfViews}
+use Rattle.distance.specs.Answer.{mismatches, pairingOf, distanceAnswer}
+use Rattle.distance.proofs.Paired.{isAlike, unlessMismatched, unless-by-pairing}
 use Rattle.distance.specs.declared.Distance.{Distance}
+use Rattle.distance.specs.declared.Pairing.{Pairing}
+use Rattle.distance.specs.declared.Pairing.the-variants.{Alike, Mismatched}
 use Rattle.distance.specs.declared.DistanceAnswer.{DistanceAnswer}
-use Rattle.distance.specs.declared.DistanceAnswer.the-variants.{Refused as Unmeasured}
-use Rattle.distance.specs.declared.Which.the-variants.{Neither}
-use Rattle.nearer.specs.Nearer.{near, refusedNamingNone, chosen, decided, comparedOf}
-use Rattle.nearer.specs.Deciding.{decidedBy}
+use Rattle.distance.specs.declared.DistanceAnswer.the-variants.{Measured, Refused as Unmeasured}
+use Rattle.nearer.specs.Nearer.{near, refusedNamingNone, nearerBy, decided, comparedOf}
 use Rattle.nearer.specs.declared.NearerAnswer.{NearerAnswer}
 use Rattle.nearer.specs.declared.Candidate.the-variants.{First, Second}
 
--- ---- two pairs: by whether dims and kinds differ, and by the two distances
-abbrev tests : Bool → Bool → List Test
-tests dims kinds = test 12 dims ∷ test 13 kinds ∷ []
+-- ---- two pairs that are checked
+abbrev pub pairingsOf : View → View → View → Pairing
+pairingsOf v w u = unless (firstGiven (mismatches v w ++ mismatches v u)) Mismatched Alike
 
-abbrev pair : Bool → Bool → Option Float → DistanceAnswer
-pair dims kinds x = unless (firstGiven (tests dims kinds)) (λ r. Unmeasured r Neither) (distanceAnswer x)
+in-order : (g h : Given) → unless (unless g given h) Mismatched Alike ≡ unlessMismatched (unless g Mismatched Alike) Mismatched (unless h Mismatched Alike)
+in-order passed h = refl
+in-order (given r) h = refl
 
-by-tests : (d k e l : Bool) (x y : Option Float)
-    → unless (firstGiven (tests d k ++ tests e l)) refusedNamingNone (decided x y) ≡ decidedBy (pair d k x) (pair e l y)
-by-tests true k e l x y = refl
-by-tests false true e l x y = refl
-by-tests false false true l none y = refl
-by-tests false false true l (some x) y = refl
-by-tests false false false true none y = refl
-by-tests false false false true (some x) y = refl
-by-tests false false false false none none = refl
-by-tests false false false false none (some y) = refl
-by-tests false false false false (some x) none = refl
-by-tests false false false false (some x) (some y) = refl
+pub pairings-in-order : (v w u : View) → pairingsOf v w u ≡ unlessMismatched (pairingOf v w) Mismatched (pairingOf v u)
+pairings-in-order v w u =
+    ap (λ (g : Given). unless g Mismatched Alike) (first-append (mismatches v w) (mismatches v u))
+    ∙ in-order (firstGiven (mismatches v w)) (firstGiven (mismatches v u))
 
-pub compared-by : (m : Distance) (v w u : View) (p a b : List ℕ) → comparedOf m v w u p a b ≡ decidedBy (distanceOfViews m v w p a) (distanceOfViews m v u p b)
-unfolding comparedOf distanceOfViews
+both-alike : (p q : Pairing) → unlessMismatched p Mismatched q ≡ Alike → (p ≡ Alike) × (q ≡ Alike)
+both-alike Alike q e = (refl, e)
+both-alike (Mismatched r) q e = absurd (false≢true (ap isAlike e))
+
+pub pairings-alike : (v w u : View) → pairingsOf v w u ≡ Alike → (pairingOf v w ≡ Alike) × (pairingOf v u ≡ Alike)
+pairings-alike v w u e = both-alike (pairingOf v w) (pairingOf v u) (sym (pairings-in-order v w u) ∙ e)
+
+-- ---- the two pairs measured
+abbrev pub unlessUnmeasured : DistanceAnswer → (Float → NearerAnswer) → NearerAnswer
+unlessUnmeasured (Measured x) next = next x
+unlessUnmeasured (Unmeasured r w) next = refusedNamingNone r
+
+decided-by : (o q : Option Float) → decided o q ≡ unlessUnmeasured (distanceAnswer o) (λ x. unlessUnmeasured (distanceAnswer q) (nearerBy x))
+decided-by none q = refl
+decided-by (some x) none = refl
+decided-by (some x) (some y) = refl
+
+pub compared-by : (m : Distance) (v w u : View) (p a b : List ℕ) → comparedOf m v w u p a b
+    ≡ unlessMismatched (pairingsOf v w u) refusedNamingNone
+    (unlessUnmeasured (distanceAnswer (valueOf m (v .kind) (v .dims .0) p a))
+    (λ x. unlessUnmeasured (distanceAnswer (valueOf m (v .kind) (v .dims .0) p b)) (nearerBy x)))
+unfolding comparedOf
 compared-by m v w u p a b =
-    by-tests (not (eqb (v .dims .0) (w .dims .0))) (not (hasByte (byteOf (w .kind)) (v .kind)))
-    (not (eqb (v .dims .0) (u .dims .0))) (not (hasByte (byteOf (u .kind)) (v .kind)))
-    (valueOf m (v .kind) (v .dims .0) p a) (valueOf m (v .kind) (v .dims .0) p b)
+    let x = valueOf m (v .kind) (v .dims .0) p a in
+    let y = valueOf m (v .kind) (v .dims .0) p b in
+    unless-by-pairing (firstGiven (mismatches v w ++ mismatches v u)) refusedNamingNone (decided x y)
+    ∙ ap (unlessMismatched (pairingsOf v w u) refusedNamingNone) (decided-by x y)
 
 -- ---- two distances: by the comparisons
 -- x <= y; y is a number; x is one
 abbrev byTests : Bool → Bool → Bool → Float → Float → NearerAnswer
 byTests a b c x y = cond a (near First x) (cond b (near Second y) (cond c (near First x) (refusedNamingNone (refusal 18))))
 
-by-nan : (x y : Float) (a b : Bool) → isNan x ≡ a → isNan y ≡ b → chosen x y ≡ byTests (le x y) (eq y y) (eq x x) x y
-unfolding chosen
+by-nan : (x y : Float) (a b : Bool) → isNan x ≡ a → isNan y ≡ b → nearerBy x y ≡ byTests (le x y) (eq y y) (eq x x) x y
+unfolding nearerBy
 by-nan x y true true p q = rw (p, q, nan-self x p, nan-self y q, nan-le x y p)
 by-nan x y true false p q = rw (p, q, eq-self y q, nan-le x y p)
 by-nan x y false true p q = rw (p, q, nan-self y q, eq-self x p, le-nan x y q)
 by-nan x y false false p q = rw (p, q, eq-self y q)
 
-pub chosen-by : (x y : Float) {a b c : Bool} → le x y ≡ a → eq y y ≡ b → eq x x ≡ c → chosen x y ≡ byTests a b c x y
-chosen-by x y p q r = rw (← p, ← q, ← r) (by-nan x y (isNan x) (isNan y) refl refl)
+pub nearer-by-tests : (x y : Float) {a b c : Bool} → le x y ≡ a → eq y y ≡ b → eq x x ≡ c → nearerBy x y ≡ byTests a b c x y
+nearer-by-tests x y p q r = rw (← p, ← q, ← r) (by-nan x y (isNan x) (isNan y) refl refl)

@@ -1,4 +1,4 @@
--- Each public contract determines its outcome, the answer, or the part shown and where it points: stated over the contract's own reading, so it changes with the contract.
+-- Determinism of the public contracts, of the answer, or of the part shown and where it points: stated over each contract's own reading, so it changes with the contract.
 use mathlib.Core.Path.{ap₂, _∙_, sym}
 use denote.Ref.{now}
 use Rattle.promises.specs.Determined.{Determined}

@@ -10,8 +10,8 @@ use Rattle.vector_types.specs.Search.{firstFrom}
 use Rattle.vector_types.specs.Layout.{namedKind, byByte, lengthBeforeType, bodyFits, layoutRow}
 use Rattle.vector_types.specs.Read.{readOf, refusals, shown}
 use Rattle.vector_types.specs.Parts.{bodyOf}
-use Rattle.distance_sums.specs.Merged.{merged}
-use Rattle.distance_sums.specs.Examples.{zero, one}
+use Rattle.bodies.specs.Merged.{merged}
+use Rattle.distance_sums.specs.Examples.{zeroBytes, oneBytes}
 use Rattle.distance.specs.Examples.{bits, noEntry}
 use Rattle.distance.specs.declared.Distance.{Distance}
 use Rattle.distance.specs.declared.Distance.the-variants.{Cos, L2, Dot}
@@ -38,40 +38,40 @@ abbrev pub refuses : Distance → List ℕ → List ℕ → List ℕ → ℕ →
 refuses m p a b n = answers m p a b (refusedNamingNone (refusal n))
 
 -- dense f32: -0.0, -1.0 and a NaN
-abbrev pub minusZero : List ℕ
-minusZero = 0 ∷ 0 ∷ 0 ∷ 0x80 ∷ []
+abbrev pub minusZeroBytes : List ℕ
+minusZeroBytes = 0 ∷ 0 ∷ 0 ∷ 0x80 ∷ []
 
-abbrev pub minusOne : List ℕ
-minusOne = 0 ∷ 0 ∷ 0x80 ∷ 0xbf ∷ []
+abbrev pub minusOneBytes : List ℕ
+minusOneBytes = 0 ∷ 0 ∷ 0x80 ∷ 0xbf ∷ []
 
-abbrev pub nan : List ℕ
-nan = 0 ∷ 0 ∷ 0xc0 ∷ 0x7f ∷ []
+abbrev pub nanBytes : List ℕ
+nanBytes = 0 ∷ 0 ∷ 0xc0 ∷ 0x7f ∷ []
 
 -- a Float8 blob of dims 1, its byte 0, with an alpha and a shift
 abbrev pub scaled : List ℕ → List ℕ → List ℕ
-scaled alpha shift = zero ++ alpha ++ shift ++ 0 ∷ 3 ∷ 4 ∷ []
+scaled alpha shift = zeroBytes ++ alpha ++ shift ++ 0 ∷ 3 ∷ 4 ∷ []
 
 abbrev pub table : List Example
 table =
-    finds Dot one zero one Second 0xbff0_0000_0000_0000
-    ∷ finds Dot one one zero First 0xbff0_0000_0000_0000
+    finds Dot oneBytes zeroBytes oneBytes Second 0xbff0_0000_0000_0000
+    ∷ finds Dot oneBytes oneBytes zeroBytes First 0xbff0_0000_0000_0000
     -- a tie of 0.0 and -0.0 gives the first, with its own sign
-    ∷ finds Dot (scaled one one) (scaled minusOne minusZero) (scaled zero zero) First 0
-    ∷ finds Dot (scaled one one) (scaled zero zero) (scaled minusOne minusZero) First 0x8000_0000_0000_0000
+    ∷ finds Dot (scaled oneBytes oneBytes) (scaled minusOneBytes minusZeroBytes) (scaled zeroBytes zeroBytes) First 0
+    ∷ finds Dot (scaled oneBytes oneBytes) (scaled zeroBytes zeroBytes) (scaled minusOneBytes minusZeroBytes) First 0x8000_0000_0000_0000
     -- NaN loses to a number; two of them give neither
-    ∷ finds Dot one nan one Second 0xbff0_0000_0000_0000
-    ∷ finds Dot one one nan First 0xbff0_0000_0000_0000
+    ∷ finds Dot oneBytes nanBytes oneBytes Second 0xbff0_0000_0000_0000
+    ∷ finds Dot oneBytes oneBytes nanBytes First 0xbff0_0000_0000_0000
     ∷ refuses Cos noEntry noEntry noEntry 18
     -- 12 and 13 of the second are named before 14
-    ∷ refuses L2 (bits 0xaa) (bits 0xab) one 12
+    ∷ refuses L2 (bits 0xaa) (bits 0xab) oneBytes 12
     ∷ refuses L2 (bits 0xaa) (bits 0xab) (8 ∷ 0 ∷ 0 ∷ 0 ∷ 9 ∷ []) 13
     ∷ refuses L2 (bits 0xaa) (bits 0xab) (bits 0xac) 14
     -- 13 of the first before 12 of the second
-    ∷ refuses Dot (one ++ zero) noEntry one 13
+    ∷ refuses Dot (oneBytes ++ zeroBytes) noEntry oneBytes 13
     -- the probe is read first, then the first and the second, before any two are compared
-    ∷ answers Dot (0x07 ∷ []) (0x05 ∷ []) one (Refused (refusal 3) Probe)
-    ∷ answers Dot one (0x05 ∷ []) (0x07 ∷ []) (Refused (refusal 2) TheFirst)
-    ∷ answers Dot one noEntry (0x05 ∷ []) (Refused (refusal 2) TheSecond)
+    ∷ answers Dot (0x07 ∷ []) (0x05 ∷ []) oneBytes (Refused (refusal 3) Probe)
+    ∷ answers Dot oneBytes (0x05 ∷ []) (0x07 ∷ []) (Refused (refusal 2) TheFirst)
+    ∷ answers Dot oneBytes noEntry (0x05 ∷ []) (Refused (refusal 2) TheSecond)
     ∷ []
 
 pub table-holds : map (λ (e : Example). e .defined) table ≡ map (λ (e : Example). e .written) table

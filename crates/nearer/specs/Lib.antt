@@ -1,3 +1,2 @@
 pub mod Nearer
-pub mod Deciding
 pub mod Examples

@@ -33,8 +33,8 @@ abbrev pub refusedNamingNone : Refusal → NearerAnswer
 refusedNamingNone r = Refused r Neither
 
 -- of the distances x and y: NaN loses to all else, a tie gives the first, and two NaNs give neither
-unfoldable pub chosen : Float → Float → NearerAnswer
-chosen x y =
+unfoldable pub nearerBy : Float → Float → NearerAnswer
+nearerBy x y =
     cond (isNan x && isNan y) (refusedNamingNone (refusal 18))
     (cond (isNan y || le x y) (near First x)
     (near Second y))
@@ -43,11 +43,11 @@ chosen x y =
 abbrev pub decided : Option Float → Option Float → NearerAnswer
 decided none q = refusedNamingNone (refusal 14)
 decided (some x) none = refusedNamingNone (refusal 14)
-decided (some x) (some y) = chosen x y
+decided (some x) (some y) = nearerBy x y
 
 -- of the views and bodies of probe, first and second: 12 and 13 for the first, then for the second, then 14, then 18
 unfoldable pub comparedOf : Distance → View → View → View → List ℕ → List ℕ → List ℕ → NearerAnswer
-unfolding chosen valueOf
+unfolding nearerBy valueOf
 comparedOf m v w u p a b =
     unless (firstGiven (mismatches v w ++ mismatches v u)) refusedNamingNone
     (decided (valueOf m (v .kind) (v .dims .0) p a) (valueOf m (v .kind) (v .dims .0) p b))

@@ -1,13 +1,16 @@
 // The nearer of two candidates to a probe, which is the first vector of each pair.
 ghost use mathlib.Core.Path.{_≡_};
+ghost use mathlib.Core.List.{_++_};
+ghost use Rattle.vector_types.specs.Answers.{firstGiven, unless};
 ghost use Rattle.vector_types.specs.Read.{readOf};
 ghost use Rattle.vector_types.specs.Parts.{bodyOf};
 ghost use Rattle.vector_types.specs.declared.ReadAnswer.the-variants.{Accepted};
-ghost use Rattle.nearer.specs.Nearer.{near, chosen, comparedOf, nearerOf, partOf, placeOf};
-ghost use Rattle.nearer.specs.Deciding.{decidedBy};
+ghost use Rattle.distance.specs.Answer.{mismatches};
+ghost use Rattle.distance.specs.declared.Pairing.the-variants.{Alike, Mismatched};
+ghost use Rattle.nearer.specs.Nearer.{near, nearerBy, comparedOf, nearerOf, partOf, placeOf};
 use distance::Distance;
 use distance::DistanceAnswer;
-use vector_types::Detail;
+use distance::Pairing;
 use vector_types::ReadAnswer;
 use vector_types::Refusal;
 use vector_types::View;
@@ -47,7 +50,7 @@ fn answer(candidate: Candidate, distance: f64) -> NearerAnswer
 
 // The lesser of two distances: a tie gives the first, and NaN loses to all else.
 fn choose(x: f64, y: f64) -> NearerAnswer
-    ensures { λ r. ⌜ r ≡ chosen x y ⌝ }
+    ensures { λ r. ⌜ r ≡ nearerBy x y ⌝ }
 {
     if x <= y {
         return answer(Candidate::First, x);
@@ -58,33 +61,16 @@ fn choose(x: f64, y: f64) -> NearerAnswer
     if x == x {
         return answer(Candidate::First, x);
     }
-    NearerAnswer::Refused(
-        Refusal {
-            number: 18,
-            detail: Detail::Nothing,
-        },
-        Among::Neither,
-    )
+    NearerAnswer::Refused(Refusal::plain(18), Among::Neither)
 }
 
-// The first refusal of two pairs in the order of the rules, 12 and 13 of both before 14; or the nearer.
-fn decide(p: DistanceAnswer, q: DistanceAnswer) -> NearerAnswer
-    ensures { λ r. ⌜ r ≡ decidedBy p q ⌝ }
+// Whether both candidates have the probe's dims and kind: 12 and 13 for the first, then for the second.
+fn check_pairs(v: View, w: View, u: View) -> Pairing
+    ensures { λ r. ⌜ r ≡ unless (firstGiven (mismatches v w ++ mismatches v u)) Mismatched Alike ⌝ }
 {
-    match p {
-        DistanceAnswer::Measured(x) => match q {
-            DistanceAnswer::Measured(y) => choose(x, y),
-            DistanceAnswer::Refused(s, _) => NearerAnswer::Refused(s, Among::Neither),
-        },
-        DistanceAnswer::Refused(r, _) => {
-            if r.number != 14 {
-                return NearerAnswer::Refused(r, Among::Neither);
-            }
-            match q {
-                DistanceAnswer::Measured(_) => NearerAnswer::Refused(r, Among::Neither),
-                DistanceAnswer::Refused(s, _) => NearerAnswer::Refused(s, Among::Neither),
-            }
-        }
+    match distance::check_pair(v, w) {
+        Pairing::Mismatched(refusal) => Pairing::Mismatched(refusal),
+        Pairing::Alike => distance::check_pair(v, u),
     }
 }
 
@@ -103,9 +89,20 @@ fn compare(
     requires { ⌜ readOf (now second) ≡ Accepted u ⌝ }
     ensures { λ r. ⌜ r ≡ comparedOf distance v w u (bodyOf (now (probe .entry))) (bodyOf (now (first .entry))) (bodyOf (now (second .entry))) ⌝ }
 {
-    let p = distance::measure_views(distance, probe, v, first, w);
-    let q = distance::measure_views(distance, probe, v, second, u);
-    decide(p, q)
+    match check_pairs(v, w, u) {
+        Pairing::Mismatched(refusal) => NearerAnswer::Refused(refusal, Among::Neither),
+        Pairing::Alike => match distance::measure_pair(distance, probe, v, first, w) {
+            DistanceAnswer::Refused(refusal, _) => NearerAnswer::Refused(refusal, Among::Neither),
+            DistanceAnswer::Measured(x) => {
+                match distance::measure_pair(distance, probe, v, second, u) {
+                    DistanceAnswer::Refused(refusal, _) => {
+                        NearerAnswer::Refused(refusal, Among::Neither)
+                    }
+                    DistanceAnswer::Measured(y) => choose(x, y),
+                }
+            }
+        },
+    }
 }
 
 // The nearer candidate and its distance, or the first refusal in the order of the rules.

@@ -14,17 +14,17 @@ use Rattle.lines.specs.declared.hex.Found.{Found}
 use Rattle.lines.specs.declared.hex.Found.the-variants.{Number, Nothing}
 use Rattle.vector_types.specs.Layout.{maxBlobLength}
 use Rattle.vector_types.specs.Read.{readOf}
-use Rattle.vector_types.specs.Write.{blobOf, writeOf, writeOutcome}
+use Rattle.blob_writer.specs.Write.{blobOf, writeOf, writeOutcome}
 use Rattle.vector_types.specs.declared.VectorType.{VectorType}
 use Rattle.vector_types.specs.declared.View.{View}
 use Rattle.vector_types.specs.declared.ReadAnswer.the-variants.{Accepted}
-use Rattle.vector_types.specs.declared.WriteAnswer.the-variants.{Written}
+use Rattle.blob_writer.specs.declared.WriteAnswer.the-variants.{Written}
 use Rattle.convert.specs.Convert.{conversionOf}
 use Rattle.convert.specs.declared.ConvertAnswer.the-variants.{Converted}
 use Rattle.convert.proofs.Answered.{conversion-fits}
 use Rattle.vector_types.proofs.Views.{view-facts}
 use Rattle.vector_types.proofs.Strict.{strict-plain}
-use Rattle.vector_types.proofs.Written.{writable, written-blob}
+use Rattle.blob_writer.proofs.Written.{writable, written-blob}
 use Rattle.lines.specs.Fields.{one, two, other}
 use Rattle.lines.proofs.Fields.{after, spelled-tab, one-field, two-fields}
 use Rattle.probe_blobs.specs.Blobs.{readerOf, shownText, readText, kindOf, madeText, writtenBy, writeText, convertedText, convertedBy, convText}

@@ -17,14 +17,14 @@ use Rattle.lines.specs.declared.hex.Found.{Found}
 use Rattle.lines.specs.declared.hex.Found.the-variants.{Number, Nothing}
 use Rattle.vector_types.specs.Layout.{maxBlobLength, byteOf}
 use Rattle.vector_types.specs.Read.{readOf, strictOf}
-use Rattle.vector_types.specs.Write.{blobOf, writeOf}
+use Rattle.blob_writer.specs.Write.{blobOf, writeOf}
 use Rattle.vector_types.specs.declared.VectorType.{VectorType}
 use Rattle.vector_types.specs.declared.VectorType.the-variants.{Float32Dense, Float64Dense, Float32Sparse, Float1Bit, Float8}
 use Rattle.vector_types.specs.declared.View.{View}
 use Rattle.vector_types.specs.declared.ReadAnswer.{ReadAnswer}
 use Rattle.vector_types.specs.declared.ReadAnswer.the-variants.{Accepted, Refused}
-use Rattle.vector_types.specs.declared.WriteAnswer.{WriteAnswer}
-use Rattle.vector_types.specs.declared.WriteAnswer.the-variants.{Written, Refused as Unwritten}
+use Rattle.blob_writer.specs.declared.WriteAnswer.{WriteAnswer}
+use Rattle.blob_writer.specs.declared.WriteAnswer.the-variants.{Written, Refused as Unwritten}
 use Rattle.convert.specs.Convert.{conversionOf}
 use Rattle.convert.specs.declared.ConvertAnswer.{ConvertAnswer}
 use Rattle.convert.specs.declared.ConvertAnswer.the-variants.{Converted, Refused as Unconverted}

@@ -8,6 +8,7 @@ ghost use Rattle.vector_types.specs.Layout.{maxBlobLength as longestBlob};
 ghost use Rattle.lines.specs.Fields.{two, three};
 ghost use Rattle.probe_blobs.specs.Limits.{Puts, answerRoom, scratchRoom, blobRoom};
 ghost use Rattle.probe_blobs.specs.Blobs.{refusalText, headerText, vectorText, readerOf, shownText, readText, kindOf, madeText, writtenBy, writeText, convertedText, convertedBy, convText};
+use blob_writer::WriteAnswer;
 use convert::ConvertAnswer;
 use lines::hex::Found;
 use lines::text::put_other;
@@ -15,7 +16,6 @@ use vector_types::Dims;
 use vector_types::ReadAnswer;
 use vector_types::VectorType;
 use vector_types::View;
-use vector_types::WriteAnswer;
 use vector_types::type_byte;
 
 // Which of the two readers is asked.
@@ -129,7 +129,7 @@ fn put_written(kind: VectorType, dims: usize, body: &[u8], made: &mut [u8], out:
     requires { ⌜ answerRoom ≤ length (now out) ⌝ }
     ensures { λ r. ⌜ Puts (madeText kind dims (now (body .entry))) (now (out .entry)) r (now (out .exit)) ⌝ }
 {
-    match vector_types::write(kind, Dims(dims), body, made) {
+    match blob_writer::write(kind, Dims(dims), body, made) {
         WriteAnswer::Written(length) => {
             let head = bytes::copy(b"W\t", out);
             let digits = lines::hex::put_bytes(&made[..length], &mut out[head..]);

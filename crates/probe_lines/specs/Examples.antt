@@ -9,7 +9,7 @@ use Rattle.rounding.specs.Narrow.{narrowed}
 use Rattle.rounding.specs.Truncate.{truncated}
 use Rattle.vector_types.specs.Search.{firstFrom}
 use Rattle.vector_types.specs.Read.{readOf, strictOf}
-use Rattle.vector_types.specs.Write.{writeOf}
+use Rattle.blob_writer.specs.Write.{writeOf}
 use Rattle.vector_types.specs.Parts.{bodyOf}
 use Rattle.little_endian.specs.Bytes.{bytesOf, numberAt, put}
 use Rattle.convert.specs.Convert.{conversionOf}

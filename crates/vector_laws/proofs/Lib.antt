@@ -4,8 +4,7 @@ pub mod SwappedMerge
 pub mod SwappedBits
 pub mod Swapped
 pub mod OneBitLaws
-pub mod Walked
 pub mod Summed
 pub mod Spreading
-pub mod KeptSums
-pub mod Kept
+pub mod DenseFormSums
+pub mod DenseForm

@@ -39,7 +39,7 @@ use Rattle.distance.specs.declared.DistanceAnswer.{DistanceAnswer}
 use Rattle.distance.specs.declared.DistanceAnswer.the-variants.{Measured, Refused}
 use Rattle.distance_sums.proofs.Counts.{xor-digits, tally-le, Counted, counted-byte}
 use Rattle.distance.proofs.Paired.{body-length}
-use Rattle.vector_laws.specs.Packed.{Packed, bitsApart}
+use Rattle.vector_laws.specs.OneBitBlob.{OneBitBlob, bitsApart}
 
 -- ---- two digits
 differ-is : (x y : ℕ) → differ x y ≡ (x - y) + (y - x)
@@ -74,13 +74,13 @@ same-byte : (x y : ℕ) → ones (bitXor x y) ≡ 0 → x ≡ y
 same-byte x y e = omega (arith, xor-add-and x y, and-le-l x y, and-le-r x y, ones-none (bitXor x y) e)
 
 module _ (a b : List ℕ) (B : AreBytes a) (C : AreBytes b) where
-  counted : (n : ℕ) → Counted differ a b n (differing a b (8 * n))
+  differing-counted : (n : ℕ) → Counted differ a b n (differing a b (8 * n))
   unfolding differing
-  counted n = record { left = B; right = C; count = refl }
+  differing-counted n = record { firstBytes = B; secondBytes = C; count = refl }
 
   byte-more : (n : ℕ) → differing a b (8 * suc n) ≡ differing a b (8 * n) + ones (bitXor (getD a n 0) (getD b n 0))
   unfolding differing
-  byte-more n = rw (← add-one n) (sym (counted-byte xor-digits (counted n) .count))
+  byte-more n = rw (← add-one n) (sym (counted-byte xor-digits (differing-counted n) .count))
 
   same-bytes : (n : ℕ) → differing a b (8 * n) ≡ 0 → (k : ℕ) → k < n → getD a k 0 ≡ getD b k 0
   same-bytes zero e k h = absurd (omega arith)
@@ -93,8 +93,8 @@ module _ (a b : List ℕ) (B : AreBytes a) (C : AreBytes b) where
   differing-none n p q e = ext-getD 0 a b (p ∙ sym q) (λ i h. same-bytes n e i (rw p at h))
 
 -- ---- a blob: its view, and its body
-pub packed : (s : List ℕ) (v : View) (d : ℕ) → AreBytes s → readOf s ≡ Accepted v → v .kind ≡ Float1Bit → v .dims .0 ≡ d → Packed d s
-packed s v d B e k g = record { bytes = B; long = v .length; read = e ∙ ap₂ (λ l n. acceptedAs l n (v .length)) k g }
+pub one-bit-blob : (s : List ℕ) (v : View) (d : ℕ) → AreBytes s → readOf s ≡ Accepted v → v .kind ≡ Float1Bit → v .dims .0 ≡ d → OneBitBlob d s
+one-bit-blob s v d B e k g = record { bytes = B; bodyLength = v .length; read = e ∙ ap₂ (λ l n. acceptedAs l n (v .length)) k g }
 
 bytes-take : (n : ℕ) (s : List ℕ) → AreBytes s → AreBytes (take n s)
 bytes-take zero s B k = zero-lt-suc 255
@@ -102,13 +102,13 @@ bytes-take (suc n) [] B k = zero-lt-suc 255
 bytes-take (suc n) (x ∷ s) B zero = B zero
 bytes-take (suc n) (x ∷ s) B (suc k) = bytes-take n s (λ i. B (suc i)) k
 
-module _ {d : ℕ} {s : List ℕ} (p : Packed d s) where
+module _ {d : ℕ} {s : List ℕ} (p : OneBitBlob d s) where
   few : d ≤ maxDims
   few = view-facts s _ (p .read) .few
 
   body-bytes : AreBytes (bodyOf s)
   unfolding bodyOf
-  body-bytes = rw (p .read) (bytes-take (p .long) s (p .bytes))
+  body-bytes = rw (p .read) (bytes-take (p .bodyLength) s (p .bytes))
 
   body-long : length (bodyOf s) ≡ ceil d 8
   unfolding bodyOf bodyFits
@@ -123,7 +123,7 @@ valueIn (Refused r w) = nan
 no-bits : (n : ℕ) → bitCosine n ≡ plusZero → HasValue (bitCosine n) false n 1 → n ≡ 0
 no-bits n e v = let z = subst (λ (x : Float). HasValue x false n 1) e v in omega (arith, z .1)
 
-module _ {d : ℕ} {s t : List ℕ} (p : Packed d s) (q : Packed d t) where
+module _ {d : ℕ} {s t : List ℕ} (p : OneBitBlob d s) (q : OneBitBlob d t) where
   pub cosine-counts : distanceOf Cos s t ≡ Measured (bitCosine (bitsApart d s t))
   unfolding distanceOf distanceOfViews valueOf cosineOf
   cosine-counts = rw (p .read, q .read, eq-eqb d d refl)
@@ -149,7 +149,7 @@ module _ {d : ℕ} {s t : List ℕ} (p : Packed d s) (q : Packed d t) where
 pub counts-triangle : (d : ℕ) (s t u : List ℕ) → bitsApart d s u ≤ bitsApart d s t + bitsApart d t u
 counts-triangle d s t u = differing-triangle (bodyOf s) (bodyOf t) (bodyOf u) (wholeBits d)
 
-module _ {d : ℕ} {s t u : List ℕ} (p : Packed d s) (q : Packed d t) (r : Packed d u) where
+module _ {d : ℕ} {s t u : List ℕ} (p : OneBitBlob d s) (q : OneBitBlob d t) (r : OneBitBlob d u) where
   pub detour-exact : HasValue (add binary64 (bitCosine (bitsApart d s t)) (bitCosine (bitsApart d t u))) false (bitsApart d s t + bitsApart d t u) 1
   unfolding bitCosine
   detour-exact =

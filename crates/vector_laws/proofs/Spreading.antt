@@ -8,8 +8,7 @@ use mathlib.Core.Bool.{Bool, true, false, cond}
 use mathlib.Core.List.{List}
 use mathlib.Core.Option.{some}
 use lib.Dec.{eqb, ltb}
-use lib.ListN.{length, drop, replicate, length-drop, getD-replicate}
-use lib.Seq.{length-take-le}
+use lib.ListN.{length, drop, replicate, getD-replicate}
 use lib.Ieee.{binary32, ofBits}
 use borrow.Author.Tests.{eqb-true, eqb-false, ltb-true, ltb-false}
 use Rattle.float_laws.specs.Zero.{plusZero}
@@ -18,11 +17,12 @@ use Rattle.little_endian.proofs.Numbers.{numberAt-take, numberAt-drop}
 use Rattle.little_endian.proofs.Put.{numberAt-put, numberAt-put-else}
 use Rattle.vector_types.specs.Layout.{indexAt, hasIndexOutside}
 use Rattle.vector_types.specs.declared.VectorType.the-variants.{Float32Sparse}
-use Rattle.convert.specs.Dense.{count, entryBytes, spread, spreadBody}
-use Rattle.convert.proofs.Spread.{index-below, length-spread}
-use Rattle.distance_sums.specs.Sparse.{entriesOf}
-use Rattle.vector_laws.specs.Walk.{lookup, Below}
-use Rattle.vector_laws.proofs.Summed.{orZero, Elements}
+use Rattle.bodies.specs.Entries.{storedCount, entriesOf, Below}
+use Rattle.bodies.specs.Elements.{denseElement}
+use Rattle.convert_parts.specs.Spread.{entryBytes, spread, spreadBody}
+use Rattle.convert_parts.proofs.Spread.{index-below, length-entry, length-spread}
+use Rattle.bodies.specs.Walk.{lookup}
+use Rattle.vector_laws.proofs.Summed.{orZero, AreElements}
 
 zeros-number : (w n i : ℕ) → i + w ≤ n → numberAt w (replicate n 0) i ≡ 0
 unfolding numberAt
@@ -34,7 +34,7 @@ unfolding ofBits
 zeros-at d t l = ap (ofBits binary32) (zeros-number 4 (4 * d) (4 * t) (omega arith))
 
 -- four bytes put at the place of the element x: that element is they, another is as before
-module _ (l vs : List ℕ) (x : ℕ) (room : 4 * x + 4 ≤ length l) (four : length vs ≡ 4) where
+module _ (l vs : List ℕ) (x : ℕ) (room : 4 * x + 4 ≤ length l) (four-bytes : length vs ≡ 4) where
   put-here : f32At (put l (4 * x) vs) (4 * x) ≡ f32At vs 0
   put-here = ap (ofBits binary32) (rw add-zero at (numberAt-put l (4 * x) vs (omega arith) 4 0 (omega arith)))
 
@@ -49,13 +49,13 @@ module _ (d : ℕ) (body : List ℕ) (inside : hasIndexOutside Float32Sparse d b
   pub below : Below (entriesOf body) d
   below = index-below binary32 d body inside
 
-  spread-at : (n t : ℕ) → n ≤ count body → t < d → f32At (spread binary32 d body n) (4 * t) ≡ orZero (lookup (entriesOf body) n t)
+  spread-at : (n t : ℕ) → n ≤ storedCount body → t < d → f32At (spread binary32 d body n) (4 * t) ≡ orZero (lookup (entriesOf body) n t)
   unfolding spread lookup
   spread-at zero t h l = zeros-at d t l
   spread-at (suc n) t h l = go (eqb x t) refl (spread-at n t (omega arith) l)
     where
       x : ℕ
-      x = indexAt body (count body) n
+      x = indexAt body (storedCount body) n
 
       now : List ℕ
       now = spread binary32 d body n
@@ -63,8 +63,8 @@ module _ (d : ℕ) (body : List ℕ) (inside : hasIndexOutside Float32Sparse d b
       entry : List ℕ
       entry = entryBytes binary32 body n
 
-      four : length entry ≡ 4
-      four = length-take-le 4 (drop (4 * n) body) (rw length-drop (omega arith))
+      four-bytes : length entry ≡ 4
+      four-bytes = length-entry binary32 body n h
 
       value : f32At entry 0 ≡ f32At body (4 * n)
       value = ap (ofBits binary32) (numberAt-take 4 4 (drop (4 * n) body) 0 (omega arith) ∙ rw add-zero at (numberAt-drop 4 (4 * n) body 0))
@@ -74,8 +74,8 @@ module _ (d : ℕ) (body : List ℕ) (inside : hasIndexOutside Float32Sparse d b
 
       go : (c : Bool) → eqb x t ≡ c → f32At now (4 * t) ≡ orZero (lookup (entriesOf body) n t)
           → f32At (put now (4 * x) entry) (4 * t) ≡ orZero (cond c (some (f32At body (4 * n))) (lookup (entriesOf body) n t))
-      go true e rest = rw (← eqb-true x t e) (put-here now entry x room four ∙ value)
-      go false e rest = put-else now entry x room four t (eqb-false x t e) ∙ rest
+      go true e rest = rw (← eqb-true x t e) (put-here now entry x room four-bytes ∙ value)
+      go false e rest = put-else now entry x room four-bytes t (eqb-false x t e) ∙ rest
 
-  pub spread-elements : Elements (entriesOf body) (λ i. f32At (spreadBody binary32 d body) (4 * i)) d
-  spread-elements t l = spread-at (count body) t (le-refl (count body)) l
+  pub spread-elements : AreElements (entriesOf body) (denseElement binary32 (spreadBody binary32 d body)) d
+  spread-elements t l = spread-at (storedCount body) t (le-refl (storedCount body)) l

@@ -9,9 +9,10 @@ use mathlib.Core.Option.{Option, none, some}
 use lib.Dec.{eqb}
 use lib.Ieee.{Float}
 use Rattle.float_laws.specs.Zero.{plusZero}
-use Rattle.distance_sums.specs.Merged.{Entries, Rule, merge}
-use Rattle.vector_laws.specs.Walk.{lookup, turn, walked, Rising, Below}
-use Rattle.vector_laws.proofs.Walked.{merged-walked}
+use Rattle.bodies.specs.Entries.{Entries, Rising, Below}
+use Rattle.bodies.specs.Merged.{Rule, merge}
+use Rattle.bodies.specs.Walk.{lookup, turn, walked}
+use Rattle.bodies.proofs.Walked.{merged-walked}
 
 -- an absent element counts as +0.0
 abbrev pub orZero : Option Float → Float
@@ -19,11 +20,11 @@ orZero none = plusZero
 orZero (some x) = x
 
 -- x gives the first d elements of v
-abbrev pub Elements : Entries → (ℕ → Float) → ℕ → Type 0
-Elements v x d = (t : ℕ) → t < d → x t ≡ orZero (lookup v (v .count) t)
+abbrev pub AreElements : Entries → (ℕ → Float) → ℕ → Type 0
+AreElements v x d = (t : ℕ) → t < d → x t ≡ orZero (lookup v (v .count) t)
 
 -- K is known of every state on the way, and Q of every stored value
-pub record Agrees {S : Type 0} (r : Rule S) (K : S → Type 0) (Q : Float → Type 0) : Type 0 where
+pub record AbsentIsZero {S : Type 0} (r : Rule S) (K : S → Type 0) (Q : Float → Type 0) : Type 0 where
   pub zero-has : Q plusZero
   pub keeps : (s : S) (x y : Float) → K s → Q x → Q y → K (r .both s x y)
   pub on-none : (s : S) → K s → s ≡ r .both s plusZero plusZero
@@ -31,11 +32,11 @@ pub record Agrees {S : Type 0} (r : Rule S) (K : S → Type 0) (Q : Float → Ty
   pub on-right : (s : S) (y : Float) → K s → Q y → r .right s y ≡ r .both s plusZero y
 
 -- all stored values have Q
-abbrev pub All : (Float → Type 0) → Entries → Type 0
-All Q v = (i : ℕ) → i < v .count → Q (v .value i)
+abbrev pub AllValues : (Float → Type 0) → Entries → Type 0
+AllValues Q v = (i : ℕ) → i < v .count → Q (v .value i)
 
-module _ {S : Type 0} (r : Rule S) (K : S → Type 0) (Q : Float → Type 0) (law : Agrees r K Q) where
-  element-has : (v : Entries) → All Q v → (n t : ℕ) → n ≤ v .count → Q (orZero (lookup v n t))
+module _ {S : Type 0} (r : Rule S) (K : S → Type 0) (Q : Float → Type 0) (law : AbsentIsZero r K Q) where
+  element-has : (v : Entries) → AllValues Q v → (n t : ℕ) → n ≤ v .count → Q (orZero (lookup v n t))
   unfolding lookup
   element-has v q zero t h = law .zero-has
   element-has v q (suc n) t h = go (eqb (v .index n) t) (element-has v q n t (omega arith))
@@ -51,9 +52,9 @@ module _ {S : Type 0} (r : Rule S) (K : S → Type 0) (Q : Float → Type 0) (la
   one-index s (some x) (some y) k p q = refl
 
   -- `sum` adds element after element
-  module _ (v w : Entries) (qv : All Q v) (qw : All Q w) (x y : ℕ → Float) (sum : ℕ → S) (begins : K (sum 0))
+  module _ (v w : Entries) (qv : AllValues Q v) (qw : AllValues Q w) (x y : ℕ → Float) (sum : ℕ → S) (begins : K (sum 0))
       (more : (n : ℕ) → sum (suc n) ≡ r .both (sum n) (x n) (y n)) where
-    walked-summed : (d : ℕ) → Elements v x d → Elements w y d → K (sum d) × (walked r v w (sum 0) d ≡ sum d)
+    walked-summed : (d : ℕ) → AreElements v x d → AreElements w y d → K (sum d) × (walked r v w (sum 0) d ≡ sum d)
     unfolding walked
     walked-summed zero ex ey = (begins, refl)
     walked-summed (suc d) ex ey =
@@ -65,5 +66,5 @@ module _ {S : Type 0} (r : Rule S) (K : S → Type 0) (Q : Float → Type 0) (la
         let last : sum (suc d) ≡ r .both (sum d) (orZero a) (orZero b) = rw (← ex d (le-refl (suc d)), ← ey d (le-refl (suc d))) (more d) in
         (rw last (law .keeps (sum d) (orZero a) (orZero b) k p q), ap (λ (s : S). turn r s a b) e ∙ one-index (sum d) a b k p q ∙ sym last)
 
-    pub merged-summed : (d : ℕ) → Rising v → Rising w → Below v d → Below w d → Elements v x d → Elements w y d → merge r v w (sum 0) ≡ sum d
+    pub merged-summed : (d : ℕ) → Rising v → Rising w → Below v d → Below w d → AreElements v x d → AreElements w y d → merge r v w (sum 0) ≡ sum d
     merged-summed d vu wu vb wb ex ey = merged-walked r v w (sum 0) vu wu d vb wb ∙ walked-summed d ex ey .1

@@ -17,8 +17,8 @@ use Rattle.vector_types.specs.declared.VectorType.{VectorType}
 use Rattle.vector_types.specs.declared.VectorType.the-variants.{Float32Dense, Float64Dense, Float32Sparse, Float1Bit, Float8}
 use Rattle.vector_types.specs.declared.View.{View}
 use Rattle.vector_types.specs.declared.ReadAnswer.the-variants.{Accepted}
-use Rattle.convert.specs.Elements.{element}
-use Rattle.convert.proofs.Fitting.{element-fits}
+use Rattle.bodies.specs.Elements.{denseElement, float8Element}
+use Rattle.bodies.proofs.Elements.{dense-fits, float8-fits}
 use Rattle.distance_sums.specs.Dense.{denseCosine, dotBy, l2By, jaccardBy}
 use Rattle.distance_sums.specs.OneBit.{wholeBits, bitCosine, bitDot, bitJaccard}
 use Rattle.distance_sums.specs.Sparse.{sparseCosine, sparseProducts}
@@ -62,16 +62,19 @@ module _ (d : ℕ) (a b : List ℕ) where
   dot-swap Float1Bit o = ap (bitDot d) (differing-swap a b (wholeBits d))
   dot-swap Float8 o = absurd (false≢true o)
 
-  fit : (f : Format) (k : VectorType) (body : List ℕ) → AllFit f (element f k d body) d
-  fit f k body i l = element-fits f k d body i
+  dense-fit : (f : Format) (body : List ℕ) → AllFit f (denseElement f body) d
+  dense-fit f body i l = dense-fits f body i
+
+  float8-fit : (body : List ℕ) → AllFit binary64 (float8Element binary64 d body) d
+  float8-fit body i l = float8-fits binary64 d body i
 
   jaccard-swap : (k : VectorType) → jaccardOf k d a b ≡ jaccardOf k d b a
-  unfolding jaccardOf element
-  jaccard-swap Float32Dense = ap (jaccardBy binary32) (shares-swap binary32 _ _ d (fit binary32 Float32Dense a) (fit binary32 Float32Dense b))
-  jaccard-swap Float64Dense = ap (jaccardBy binary64) (shares-swap binary64 _ _ d (fit binary64 Float64Dense a) (fit binary64 Float64Dense b))
+  unfolding jaccardOf
+  jaccard-swap Float32Dense = ap (jaccardBy binary32) (shares-swap binary32 _ _ d (dense-fit binary32 a) (dense-fit binary32 b))
+  jaccard-swap Float64Dense = ap (jaccardBy binary64) (shares-swap binary64 _ _ d (dense-fit binary64 a) (dense-fit binary64 b))
   jaccard-swap Float32Sparse = ap (jaccardBy binary32) (sparse-shares-swap a b)
   jaccard-swap Float1Bit = ap bitJaccard (overlap-swap a b (wholeBits d))
-  jaccard-swap Float8 = ap (jaccardBy binary64) (shares-swap binary64 _ _ d (fit binary64 Float8 a) (fit binary64 Float8 b))
+  jaccard-swap Float8 = ap (jaccardBy binary64) (shares-swap binary64 _ _ d (float8-fit a) (float8-fit b))
 
 pub value-swap : (m : Distance) (k : VectorType) (d : ℕ) (a b : List ℕ) → symmetric m k ≡ true → valueOf m k d a b ≡ valueOf m k d b a
 unfolding valueOf

@@ -13,23 +13,24 @@ use Rattle.float_laws.proofs.Running.{plusZero-fromZero}
 use Rattle.float_laws.proofs.Squared.{sub-squared}
 use Rattle.float_laws.proofs.Swap.{mul-comm}
 use Rattle.little_endian.proofs.Floats.{floatAt-fits}
+use Rattle.bodies.specs.Entries.{Entries, entriesOf}
+use Rattle.bodies.specs.Merged.{Rule, merged, merge}
 use Rattle.distance_sums.specs.Extremes.{lesser, greater}
 use Rattle.distance_sums.specs.Dense.{noProducts, productsWith, squaresWith, dotsWith, Shares, noShares, sharesWith}
-use Rattle.distance_sums.specs.Merged.{Entries, Rule, merged, merge}
-use Rattle.distance_sums.specs.Sparse.{entriesOf, productsRule, squaresRule, dotsRule, sharesRule, sparseProducts, sparseSquares, sparseDots, sparseShares}
-use Rattle.distance_sums.proofs.EitherZero.{BothFromZero, one-more, ours-are}
-use Rattle.vector_laws.proofs.SwappedSums.{crossed, turned-are}
+use Rattle.distance_sums.specs.Sparse.{productsRule, squaresRule, dotsRule, sharesRule, sparseProducts, sparseSquares, sparseDots, sparseShares}
+use Rattle.distance_sums.proofs.EitherZero.{BothFromZero, one-more, ours-are-choices}
+use Rattle.vector_laws.proofs.SwappedSums.{crossed, exchanged-are-choices}
 
 -- a value that f32 holds
 abbrev Single : Float → Type 0
 Single x = T (fits binary32 x)
 
 -- of the next two entries the lower is taken, whichever vector comes first
-pick : {S : Type 0} (turn : S → S) (x y : ℕ) {b l r b′ l′ r′ : S} → turn b ≡ b′ → turn l ≡ r′ → turn r ≡ l′
-    → turn (cond (eqb x y) b (cond (ltb x y) l r)) ≡ cond (eqb y x) b′ (cond (ltb y x) l′ r′)
-pick turn x y {b} {l} {r} {b′} {l′} {r′} B L R = go (eqb x y) refl (ltb x y) refl
+pick : {S : Type 0} (exchange : S → S) (x y : ℕ) {b l r b′ l′ r′ : S} → exchange b ≡ b′ → exchange l ≡ r′ → exchange r ≡ l′
+    → exchange (cond (eqb x y) b (cond (ltb x y) l r)) ≡ cond (eqb y x) b′ (cond (ltb y x) l′ r′)
+pick exchange x y {b} {l} {r} {b′} {l′} {r′} B L R = go (eqb x y) refl (ltb x y) refl
   where
-    go : (e : Bool) → eqb x y ≡ e → (u : Bool) → ltb x y ≡ u → turn (cond e b (cond u l r)) ≡ cond (eqb y x) b′ (cond (ltb y x) l′ r′)
+    go : (e : Bool) → eqb x y ≡ e → (u : Bool) → ltb x y ≡ u → exchange (cond e b (cond u l r)) ≡ cond (eqb y x) b′ (cond (ltb y x) l′ r′)
     go true e u k = rw (eq-eqb y x (sym (eqb-true x y e))) B
     go false e true k =
         let h : x < y = ltb-true x y k in
@@ -38,21 +39,21 @@ pick turn x y {b} {l} {r} {b′} {l′} {r′} B L R = go (eqb x y) refl (ltb x 
         let h : y < x = omega (arith, eqb-false x y e, ltb-false x y k) in
         rw (ne-eqb y x (λ (z : y ≡ x). omega arith), lt-ltb y x h) R
 
--- from a state that the merge can reach, each step on values of f32 keeps so, and turned about it is the step of the exchanged vectors
-record Turns {S : Type 0} (r : Rule S) (turn : S → S) (Reached : S → Type 0) : Type 0 where
-  both : (s : S) (x y : Float) → Single x → Single y → Reached s → Reached (r .both s x y) × (turn (r .both s x y) ≡ r .both (turn s) y x)
-  left : (s : S) (x : Float) → Single x → Reached s → Reached (r .left s x) × (turn (r .left s x) ≡ r .right (turn s) x)
-  right : (s : S) (y : Float) → Single y → Reached s → Reached (r .right s y) × (turn (r .right s y) ≡ r .left (turn s) y)
+-- from a state that the merge can reach, each step on values of f32 keeps so, and exchanged it is the step of the exchanged vectors
+record StepsExchange {S : Type 0} (r : Rule S) (exchange : S → S) (Reached : S → Type 0) : Type 0 where
+  both : (s : S) (x y : Float) → Single x → Single y → Reached s → Reached (r .both s x y) × (exchange (r .both s x y) ≡ r .both (exchange s) y x)
+  left : (s : S) (x : Float) → Single x → Reached s → Reached (r .left s x) × (exchange (r .left s x) ≡ r .right (exchange s) x)
+  right : (s : S) (y : Float) → Single y → Reached s → Reached (r .right s y) × (exchange (r .right s y) ≡ r .left (exchange s) y)
 
-module _ {S : Type 0} {r : Rule S} {turn : S → S} {Reached : S → Type 0} (t : Turns r turn Reached) (v w : Entries)
+module _ {S : Type 0} {r : Rule S} {exchange : S → S} {Reached : S → Type 0} (t : StepsExchange r exchange Reached) (v w : Entries)
     (h : (i : ℕ) → Single (v .value i)) (k : (j : ℕ) → Single (w .value j)) where
-  abbrev Turned : S → S → ℕ → ℕ → Type 0
-  Turned a b p q = turn (merged r v w a p q) ≡ merged r w v b q p
+  abbrev Exchanged : S → S → ℕ → ℕ → Type 0
+  Exchanged a b p q = exchange (merged r v w a p q) ≡ merged r w v b q p
 
-  next : {a b : S} (p q : ℕ) → ((s : S) → Reached s → Turned s (turn s) p q) → Reached a × (turn a ≡ b) → Turned a b p q
+  next : {a b : S} (p q : ℕ) → ((s : S) → Reached s → Exchanged s (exchange s) p q) → Reached a × (exchange a ≡ b) → Exchanged a b p q
   next {a} p q all (z, e) = all a z ∙ ap (λ (s : S). merged r w v s q p) e
 
-  merged-swap : (p q : ℕ) (s : S) → Reached s → Turned s (turn s) p q
+  merged-swap : (p q : ℕ) (s : S) → Reached s → Exchanged s (exchange s) p q
   unfolding merged
   merged-swap zero zero s z = refl
   merged-swap zero (suc q) s z = next zero q (merged-swap zero q) (t .right s _ (k (w .count - suc q)) z)
@@ -60,7 +61,7 @@ module _ {S : Type 0} {r : Rule S} {turn : S → S} {Reached : S → Type 0} (t 
   merged-swap (suc p) (suc q) s z =
       let i = v .count - suc p in
       let j = w .count - suc q in
-      pick turn (v .index i) (w .index j)
+      pick exchange (v .index i) (w .index j)
       (next p q (merged-swap p q) (t .both s _ _ (h i) (k j) z))
       (next p (suc q) (merged-swap p (suc q)) (t .left s _ (h i) z))
       (next (suc p) q (merged-swap (suc p) q) (t .right s _ (k j) z))
@@ -70,47 +71,47 @@ module _ {S : Type 0} {r : Rule S} {turn : S → S} {Reached : S → Type 0} (t 
 abbrev Always : {S : Type 0} → S → Type 0
 Always s = Unit
 
-always : {S : Type 0} {r : Rule S} {turn : S → S} → ((s : S) (x y : Float) → turn (r .both s x y) ≡ r .both (turn s) y x)
-    → ((s : S) (x : Float) → turn (r .left s x) ≡ r .right (turn s) x) → ((s : S) (y : Float) → turn (r .right s y) ≡ r .left (turn s) y)
-    → Turns r turn Always
+always : {S : Type 0} {r : Rule S} {exchange : S → S} → ((s : S) (x y : Float) → exchange (r .both s x y) ≡ r .both (exchange s) y x)
+    → ((s : S) (x : Float) → exchange (r .left s x) ≡ r .right (exchange s) x) → ((s : S) (y : Float) → exchange (r .right s y) ≡ r .left (exchange s) y)
+    → StepsExchange r exchange Always
 always b l r = record { both = λ s x y h k z. (tt, b s x y); left = λ s x h z. (tt, l s x); right = λ s y h z. (tt, r s y) }
 
-products-turn : Turns (productsRule binary32) crossed Always
+products-exchange : StepsExchange (productsRule binary32) crossed Always
 unfolding productsWith
-products-turn = always (λ s x y. rw (mul-comm binary32 x y)) (λ s x. refl) (λ s y. refl)
+products-exchange = always (λ s x y. rw (mul-comm binary32 x y)) (λ s x. refl) (λ s y. refl)
 
-squares-turn : Turns (squaresRule binary32) (λ s. s) Always
+squares-exchange : StepsExchange (squaresRule binary32) (λ s. s) Always
 unfolding squaresWith
-squares-turn = always (λ s x y. ap (add binary32 s) (sub-squared binary32 x y)) (λ s x. refl) (λ s y. refl)
+squares-exchange = always (λ s x y. ap (add binary32 s) (sub-squared binary32 x y)) (λ s x. refl) (λ s y. refl)
 
-dots-turn : Turns dotsRule (λ s. s) Always
+dots-exchange : StepsExchange dotsRule (λ s. s) Always
 unfolding dotsWith
-dots-turn = always (λ s x y. rw (mul-comm binary64 x y)) (λ s x. refl) (λ s y. refl)
+dots-exchange = always (λ s x y. rw (mul-comm binary64 x y)) (λ s x. refl) (λ s y. refl)
 
 -- the lesser of y and x may be the other zero than that of x and y, which a sum from +0.0 does not show
 zero-from : FromZero binary32 plusZero
 zero-from = plusZero-fromZero binary32
 
-shares-kept : (s : Shares) (x y : Float) → Single x → Single y → BothFromZero binary32 s
+shares-from-zero : (s : Shares) (x y : Float) → Single x → Single y → BothFromZero binary32 s
     → BothFromZero binary32 (sharesWith lesser greater binary32 s x y)
-shares-kept s x y h k z = one-more binary32 lesser greater (ours-are binary32) x y h k s z .0
+shares-from-zero s x y h k z = one-more binary32 lesser greater (ours-are-choices binary32) x y h k s z .0
 
-shares-turned : (s : Shares) (x y : Float) → Single x → Single y → BothFromZero binary32 s
+shares-exchanged : (s : Shares) (x y : Float) → Single x → Single y → BothFromZero binary32 s
     → sharesWith lesser greater binary32 s x y ≡ sharesWith lesser greater binary32 s y x
 unfolding sharesWith
-shares-turned s x y h k z = sym (one-more binary32 (λ x y. lesser y x) (λ x y. greater y x) (turned-are binary32) x y h k s z .1)
+shares-exchanged s x y h k z = sym (one-more binary32 (λ x y. lesser y x) (λ x y. greater y x) (exchanged-are-choices binary32) x y h k s z .1)
 
-shares-turn : Turns (sharesRule binary32) (λ s. s) (BothFromZero binary32)
-shares-turn = record {
-  both = λ s x y h k z. (shares-kept s x y h k z, shares-turned s x y h k z);
-  left = λ s x h z. (shares-kept s x plusZero h (zero-from .fitting) z, refl);
-  right = λ s y h z. (shares-kept s y plusZero h (zero-from .fitting) z, refl);
+shares-exchange : StepsExchange (sharesRule binary32) (λ s. s) (BothFromZero binary32)
+shares-exchange = record {
+  both = λ s x y h k z. (shares-from-zero s x y h k z, shares-exchanged s x y h k z);
+  left = λ s x h z. (shares-from-zero s x plusZero h (zero-from .fitting) z, refl);
+  right = λ s y h z. (shares-from-zero s y plusZero h (zero-from .fitting) z, refl);
 }
 
 -- ---- two bodies
 module _ (a b : List ℕ) where
-  bodies-swap : {S : Type 0} {r : Rule S} {turn : S → S} {Reached : S → Type 0} → Turns r turn Reached → (s : S) → Reached s
-      → turn (merge r (entriesOf a) (entriesOf b) s) ≡ merge r (entriesOf b) (entriesOf a) (turn s)
+  bodies-swap : {S : Type 0} {r : Rule S} {exchange : S → S} {Reached : S → Type 0} → StepsExchange r exchange Reached → (s : S) → Reached s
+      → exchange (merge r (entriesOf a) (entriesOf b) s) ≡ merge r (entriesOf b) (entriesOf a) (exchange s)
   unfolding merged
   bodies-swap t =
       merged-swap t (entriesOf a) (entriesOf b) (λ i. floatAt-fits binary32 a (4 * i)) (λ j. floatAt-fits binary32 b (4 * j))
@@ -118,16 +119,16 @@ module _ (a b : List ℕ) where
 
   pub sparse-products-swap : crossed (sparseProducts a b) ≡ sparseProducts b a
   unfolding sparseProducts
-  sparse-products-swap = bodies-swap products-turn noProducts tt
+  sparse-products-swap = bodies-swap products-exchange noProducts tt
 
   pub sparse-squares-swap : sparseSquares a b ≡ sparseSquares b a
   unfolding sparseSquares
-  sparse-squares-swap = bodies-swap squares-turn plusZero tt
+  sparse-squares-swap = bodies-swap squares-exchange plusZero tt
 
   pub sparse-dots-swap : sparseDots a b ≡ sparseDots b a
   unfolding sparseDots
-  sparse-dots-swap = bodies-swap dots-turn plusZero tt
+  sparse-dots-swap = bodies-swap dots-exchange plusZero tt
 
   pub sparse-shares-swap : sparseShares a b ≡ sparseShares b a
   unfolding sparseShares
-  sparse-shares-swap = bodies-swap shares-turn noShares (zero-from, zero-from)
+  sparse-shares-swap = bodies-swap shares-exchange noShares (zero-from, zero-from)

@@ -59,12 +59,12 @@ chosen-swap before x y m (first, second, neither) =
     go true p q = first q ∙ is-nan x p ∙ sym (is-nan y q)
     go false p q = second q p
 
-pub turned-are : (f : Format) → AreChoices f (λ x y. lesser y x) (λ x y. greater y x)
-turned-are f = record {
+pub exchanged-are-choices : (f : Format) → AreChoices f (λ x y. lesser y x) (λ x y. greater y x)
+exchanged-are-choices f = record {
   low = λ x y h k. chosen-swap lt x y (lesser y x) (lesser-is y x);
   high = λ x y h k. chosen-swap (λ u v. lt v u) x y (greater y x) (greater-is y x);
 }
 
 pub shares-swap : (f : Format) (x y : ℕ → Float) (n : ℕ) → AllFit f x n → AllFit f y n → shares f x y n ≡ shares f y x n
 unfolding sharesBy
-shares-swap f x y n h k = sym (shares-either-zero f (λ x y. lesser y x) (λ x y. greater y x) (turned-are f) x y n h k)
+shares-swap f x y n h k = sym (shares-either-zero f (λ x y. lesser y x) (λ x y. greater y x) (exchanged-are-choices f) x y n h k)

@@ -1,6 +1,5 @@
 pub mod Symmetric
 pub mod SwapExamples
-pub mod Packed
-pub mod Walk
-pub mod Densely
-pub mod KeptExamples
+pub mod OneBitBlob
+pub mod DenseForm
+pub mod DenseFormExamples

@@ -16,18 +16,18 @@ use Rattle.distance.specs.declared.DistanceAnswer.{DistanceAnswer}
 use Rattle.distance.specs.declared.DistanceAnswer.the-variants.{Measured}
 
 -- dims 1, the byte 1 and the shift 2 ^ -26, of some alpha
-abbrev pub blob : List ℕ → List ℕ
-blob alpha = (1 ∷ 0 ∷ 0 ∷ 0 ∷ []) ++ alpha ++ (0 ∷ 0 ∷ 0x80 ∷ 0x32 ∷ []) ++ 0 ∷ 3 ∷ 4 ∷ []
+abbrev pub float8Blob : List ℕ → List ℕ
+float8Blob alpha = (1 ∷ 0 ∷ 0 ∷ 0 ∷ []) ++ alpha ++ (0 ∷ 0 ∷ 0x80 ∷ 0x32 ∷ []) ++ 0 ∷ 3 ∷ 4 ∷ []
 
 -- of alpha 2 ^ 26, and of alpha 2 ^ 27
-abbrev pub left : List ℕ
-left = blob (0 ∷ 0 ∷ 0x80 ∷ 0x4c ∷ [])
+abbrev pub lowAlpha : List ℕ
+lowAlpha = float8Blob (0 ∷ 0 ∷ 0x80 ∷ 0x4c ∷ [])
 
-abbrev pub right : List ℕ
-right = blob (0 ∷ 0 ∷ 0 ∷ 0x4d ∷ [])
+abbrev pub highAlpha : List ℕ
+highAlpha = float8Blob (0 ∷ 0 ∷ 0 ∷ 0x4d ∷ [])
 
 abbrev pub bothWays : Distance → List DistanceAnswer
-bothWays m = distanceOf m left right ∷ distanceOf m right left ∷ []
+bothWays m = distanceOf m lowAlpha highAlpha ∷ distanceOf m highAlpha lowAlpha ∷ []
 
 abbrev pub patterns : List ℕ → List DistanceAnswer
 patterns = map (λ n. Measured (ofBits binary64 n))

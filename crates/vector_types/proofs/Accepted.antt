@@ -7,9 +7,11 @@ use borrow.Author.Tests.{leb-true, le-leb, le-ltb}
 use lib.Dec.{leb}
 use lib.ListN.{length}
 use Rattle.vector_types.specs.Answers.{acceptedAs, isAccepted}
-use Rattle.vector_types.specs.Layout.{maxBlobLength, maxDims, Named, a, unsupported, unknown, namedKind, rowAccepts, blobAccepted, dimsOf, lengthOf}
+use Rattle.vector_types.specs.Layout.{maxBlobLength, maxDims, namedKind, rowAccepts, blobAccepted, dimsOf, lengthOf}
 use Rattle.vector_types.specs.Read.{readOf, refusals}
 use Rattle.vector_types.specs.declared.VectorType.{VectorType}
+use Rattle.vector_types.specs.declared.Named.{Named}
+use Rattle.vector_types.specs.declared.Named.the-variants.{Kind, Unsupported, Unknown}
 use Rattle.vector_types.specs.declared.ReadAnswer.{ReadAnswer}
 use Rattle.vector_types.specs.declared.ReadAnswer.the-variants.{Accepted, Refused}
 use Rattle.vector_types.proofs.Bools.{and-three, same}
@@ -18,26 +20,25 @@ use Rattle.vector_types.proofs.Rows.{accepted-passed}
 use Rattle.vector_types.proofs.Views.{view-facts}
 
 module _ (s : List ℕ) where
-  pub seen-exactly : (k : VectorType) → namedKind s ≡ a k → blobAccepted (namedKind s) s ≡ true → readOf s ≡ acceptedAs k (dimsOf k s) (lengthOf k s)
+  pub accepted-as-row : (k : VectorType) → namedKind s ≡ Kind k → blobAccepted (namedKind s) s ≡ true → readOf s ≡ acceptedAs k (dimsOf k s) (lengthOf k s)
   unfolding readOf blobAccepted
-  seen-exactly k e h =
+  accepted-as-row k e h =
       let d = dimsOf k s in
       let (row, short, few) = and-three (rowAccepts k s) (leb (length s) maxBlobLength) (leb d maxDims) (rw e at h) in
       let passed = accepted-passed s k row (le-ltb maxBlobLength (length s) (leb-true (length s) maxBlobLength short)) (le-ltb maxDims d (leb-true d maxDims few)) in
-      rw (e, passed-none (refusals (a k) s) passed)
+      rw (e, passed-none (refusals (Kind k) s) passed)
 
-  -- a blob that is shown has its row's and the limits' leave
-  leave : (r : ReadAnswer) → readOf s ≡ r → isAccepted r ≡ true → blobAccepted (namedKind s) s ≡ true
+  accepted-by-row : (r : ReadAnswer) → readOf s ≡ r → isAccepted r ≡ true → blobAccepted (namedKind s) s ≡ true
   unfolding blobAccepted
-  leave (Accepted v) e h = let t = view-facts s v e in
+  accepted-by-row (Accepted v) e h = let t = view-facts s v e in
       rw (t .names, t .accepts, le-leb (length s) maxBlobLength (t .short), ← (t .sized), le-leb (v .dims .0) maxDims (t .few))
-  leave (Refused r) e h = absurd (false≢true h)
+  accepted-by-row (Refused r) e h = absurd (false≢true h)
 
-  shows : (n : Named) → namedKind s ≡ n → blobAccepted n s ≡ true → isAccepted (readOf s) ≡ true
+  row-accepted : (n : Named) → namedKind s ≡ n → blobAccepted n s ≡ true → isAccepted (readOf s) ≡ true
   unfolding blobAccepted
-  shows (a k) e h = ap isAccepted (seen-exactly k e (rw e h))
-  shows unsupported e h = absurd (false≢true h)
-  shows unknown e h = absurd (false≢true h)
+  row-accepted (Kind k) e h = ap isAccepted (accepted-as-row k e (rw e h))
+  row-accepted Unsupported e h = absurd (false≢true h)
+  row-accepted Unknown e h = absurd (false≢true h)
 
   pub accepted-exactly : isAccepted (readOf s) ≡ blobAccepted (namedKind s) s
-  accepted-exactly = same (isAccepted (readOf s)) (blobAccepted (namedKind s) s) (leave (readOf s) refl) (shows (namedKind s) refl)
+  accepted-exactly = same (isAccepted (readOf s)) (blobAccepted (namedKind s) s) (accepted-by-row (readOf s) refl) (row-accepted (namedKind s) refl)

@@ -10,16 +10,17 @@ use borrow.Author.Tests.{eq-eqb, lt-ltb, le-ltb}
 use Rattle.little_endian.specs.Bytes.{u32At}
 use Rattle.vector_types.specs.Answers.{Given, given, unless, acceptedAs, refused, refusal}
 use Rattle.vector_types.specs.Search.{anyIndex}
-use Rattle.vector_types.specs.Layout.{maxBlobLength, maxDims, ceil, hasByte, a, unsupported, unknown, namedKind, lengthBeforeType, isOutside, bodyFits, layoutRow}
+use Rattle.vector_types.specs.Layout.{maxBlobLength, maxDims, ceil, hasByte, namedKind, lengthBeforeType, isOutside, bodyFits, layoutRow}
 use Rattle.vector_types.specs.Read.{readOf, refusals, shown}
 use Rattle.vector_types.specs.declared.Refusal.{Refusal}
 use Rattle.vector_types.specs.declared.ReadAnswer.{ReadAnswer}
 use Rattle.vector_types.specs.declared.VectorType.{VectorType}
+use Rattle.vector_types.specs.declared.Named.the-variants.{Kind, Unsupported, Unknown}
 use Rattle.vector_types.specs.declared.VectorType.the-variants.{Float32Dense, Float64Dense, Float32Sparse, Float1Bit, Float8}
-use Rattle.vector_types.proofs.Ends.{named-odd}
+use Rattle.vector_types.proofs.Ends.{named-typed}
 
-abbrev by : ℕ → ReadAnswer
-by k = refused (refusal k)
+abbrev refusedBy : ℕ → ReadAnswer
+refusedBy n = refused (refusal n)
 
 -- a test that comes first
 unless-cond : (b : Bool) (r : Refusal) (g : Given) (x : ReadAnswer) → unless (cond b (given r) g) refused x ≡ cond b (refused r) (unless g refused x)
@@ -27,61 +28,61 @@ unless-cond true r g x = refl
 unless-cond false r g x = refl
 
 module _ (s : List ℕ) where
-  pub read-long : maxBlobLength < length s → readOf s ≡ by 1
+  pub read-long : maxBlobLength < length s → readOf s ≡ refusedBy 1
   unfolding readOf refusals
   read-long h = rw (lt-ltb maxBlobLength (length s) h)
 
 -- what is left of the reader for a blob of a kind, of n bytes before the type byte, the last of which is t
 abbrev denseBy : VectorType → (w n : ℕ) → ReadAnswer
-denseBy k w n = cond (not (eqb n (w * (n / w)))) (by 7) (cond (ltb maxDims (n / w)) (by 9) (acceptedAs k (n / w) n))
+denseBy k w n = cond (not (eqb n (w * (n / w)))) (refusedBy 7) (cond (ltb maxDims (n / w)) (refusedBy 9) (acceptedAs k (n / w) n))
 
 abbrev oneBitBy : (n t : ℕ) → ReadAnswer
 oneBitBy n t = let d = 8 * n - t in
-    cond (eqb n 0) (by 4) (cond (ltb (8 * n) t) (by 5) (cond (leb n (ceil d 8)) (by 6)
-    (cond (eqb d 0) (by 7) (cond (ltb maxDims d) (by 9) (acceptedAs Float1Bit d (ceil d 8))))))
+    cond (eqb n 0) (refusedBy 4) (cond (ltb (8 * n) t) (refusedBy 5) (cond (leb n (ceil d 8)) (refusedBy 6)
+    (cond (eqb d 0) (refusedBy 7) (cond (ltb maxDims d) (refusedBy 9) (acceptedAs Float1Bit d (ceil d 8))))))
 
 abbrev float8By : (n t : ℕ) → ReadAnswer
 float8By n t = let d = n - 10 - t in
-    cond (eqb n 0) (by 4) (cond (ltb (n - 10) t || ltb n 10) (by 5) (cond (not (eqb (n - 2) (4 * ceil d 4 + 8)) || eqb d 0) (by 7)
-    (cond (ltb maxDims d) (by 9) (acceptedAs Float8 d (n - 2)))))
+    cond (eqb n 0) (refusedBy 4) (cond (ltb (n - 10) t || ltb n 10) (refusedBy 5) (cond (not (eqb (n - 2) (4 * ceil d 4 + 8)) || eqb d 0) (refusedBy 7)
+    (cond (ltb maxDims d) (refusedBy 9) (acceptedAs Float8 d (n - 2)))))
 
 abbrev sparseBy : List ℕ → (n : ℕ) → ReadAnswer
 sparseBy s n = let k = n / 8 in let d = u32At s (n - 4) in
-    cond (not (eqb n (4 + 8 * k))) (by 7) (cond (anyIndex (isOutside s k d) k) (by 8) (cond (ltb maxDims d) (by 9) (acceptedAs Float32Sparse d (8 * k))))
+    cond (not (eqb n (4 + 8 * k))) (refusedBy 7) (cond (anyIndex (isOutside s k d) k) (refusedBy 8) (cond (ltb maxDims d) (refusedBy 9) (acceptedAs Float32Sparse d (8 * k))))
 
-ended : (s : List ℕ) (k : VectorType) → namedKind s ≡ a k → hasByte 1 k ≡ false → lengthBeforeType s ≡ length s - 1
-ended s k e other = omega (arith, named-odd s k e other .one-more)
+before-typed : (s : List ℕ) (k : VectorType) → namedKind s ≡ Kind k → hasByte 1 k ≡ false → lengthBeforeType s ≡ length s - 1
+before-typed s k e other = omega (arith, named-typed s k e other .one-more)
 
 module _ (s : List ℕ) (short : length s ≤ maxBlobLength) where
-  pub read-dense32 : (n : ℕ) → namedKind s ≡ a Float32Dense → lengthBeforeType s ≡ n → readOf s ≡ denseBy Float32Dense 4 n
+  pub read-dense32 : (n : ℕ) → namedKind s ≡ Kind Float32Dense → lengthBeforeType s ≡ n → readOf s ≡ denseBy Float32Dense 4 n
   unfolding readOf refusals shown bodyFits layoutRow
-  read-dense32 n e at = rw (e, at) (simp (le-ltb maxBlobLength (length s) short, unless-cond, or-false))
+  read-dense32 n e size = rw (e, size) (simp (le-ltb maxBlobLength (length s) short, unless-cond, or-false))
 
-  pub read-dense64 : namedKind s ≡ a Float64Dense → readOf s ≡ denseBy Float64Dense 8 (length s - 1)
+  pub read-dense64 : (n : ℕ) → namedKind s ≡ Kind Float64Dense → lengthBeforeType s ≡ n → readOf s ≡ denseBy Float64Dense 8 n
   unfolding readOf refusals shown bodyFits layoutRow
-  read-dense64 e = rw (e, ended s Float64Dense e refl) (simp (le-ltb maxBlobLength (length s) short, unless-cond, or-false))
+  read-dense64 n e size = rw (e, size) (simp (le-ltb maxBlobLength (length s) short, unless-cond, or-false))
 
-  pub read-one-bit : namedKind s ≡ a Float1Bit → readOf s ≡ oneBitBy (length s - 1) (getD s (length s - 1 - 1) 0)
+  pub read-one-bit : namedKind s ≡ Kind Float1Bit → readOf s ≡ oneBitBy (length s - 1) (getD s (length s - 1 - 1) 0)
   unfolding readOf refusals shown bodyFits layoutRow
   read-one-bit e =
       let m = ceil (8 * (length s - 1) - getD s (length s - 1 - 1) 0) 8 in
-      rw (e, ended s Float1Bit e refl) (simp (le-ltb maxBlobLength (length s) short, eq-eqb m m refl, unless-cond, or-false))
+      rw (e, before-typed s Float1Bit e refl) (simp (le-ltb maxBlobLength (length s) short, eq-eqb m m refl, unless-cond, or-false))
 
-  pub read-float8 : namedKind s ≡ a Float8 → readOf s ≡ float8By (length s - 1) (getD s (length s - 1 - 1) 0)
+  pub read-float8 : namedKind s ≡ Kind Float8 → readOf s ≡ float8By (length s - 1) (getD s (length s - 1 - 1) 0)
   unfolding readOf refusals shown bodyFits layoutRow
-  read-float8 e = rw (e, ended s Float8 e refl) (simp (le-ltb maxBlobLength (length s) short, unless-cond, or-false))
+  read-float8 e = rw (e, before-typed s Float8 e refl) (simp (le-ltb maxBlobLength (length s) short, unless-cond, or-false))
 
-  pub read-sparse : namedKind s ≡ a Float32Sparse → readOf s ≡ sparseBy s (length s - 1)
+  pub read-sparse : namedKind s ≡ Kind Float32Sparse → readOf s ≡ sparseBy s (length s - 1)
   unfolding readOf refusals shown bodyFits layoutRow
   read-sparse e =
       let m = 8 * ((length s - 1) / 8) in
       let whole : m % 8 ≡ 0 = omega arith in
-      rw (e, ended s Float32Sparse e refl) (simp (le-ltb maxBlobLength (length s) short, eq-eqb (m % 8) 0 whole, unless-cond, or-false))
+      rw (e, before-typed s Float32Sparse e refl) (simp (le-ltb maxBlobLength (length s) short, eq-eqb (m % 8) 0 whole, unless-cond, or-false))
 
-  pub read-unsupported : namedKind s ≡ unsupported → readOf s ≡ by 2
+  pub read-unsupported : namedKind s ≡ Unsupported → readOf s ≡ refusedBy 2
   unfolding readOf refusals
   read-unsupported e = rw e (simp (le-ltb maxBlobLength (length s) short))
 
-  pub read-unknown : namedKind s ≡ unknown → readOf s ≡ by 3
+  pub read-unknown : namedKind s ≡ Unknown → readOf s ≡ refusedBy 3
   unfolding readOf refusals
   read-unknown e = rw e (simp (le-ltb maxBlobLength (length s) short))

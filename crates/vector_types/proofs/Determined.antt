@@ -1,18 +1,22 @@
--- Each public contract determines its outcome, the answer, the part shown and where it points, and the lent bytes: stated over the contract's own reading, so it changes with the contract.
+-- Determinism of the public contracts: any two outcomes agree in the answer, the part shown and where it points. Stated over the contract's own
+-- reading, so it changes with the contract.
 use mathlib.Core.Path.{ap₂, _∙_, sym}
 use mathlib.Core.List.{List}
 use Prim.Native.Nat.{ℕ}
 use denote.Ref.{now}
 use Rattle.promises.specs.Determined.{Determined}
-use Rattle.vector_types.specs.Write.{outcome}
 use Rattle.vector_types.proofs.kinds.type_byte.Reads as type-byte
 use Rattle.vector_types.proofs.kinds.is_same_kind.Reads as is-same-kind
+use Rattle.vector_types.proofs.kinds.kind_of_byte.Reads as kind-of-byte
+use Rattle.vector_types.proofs.Refusal.plain.Reads as plain
+use Rattle.vector_types.proofs.Refusal.needing.Reads as needing
+use Rattle.vector_types.proofs.reading.align4.Reads as align4
+use Rattle.vector_types.proofs.reading.has_index_outside.Reads as has-index-outside
 use Rattle.vector_types.proofs.reading.read.Reads as read
 use Rattle.vector_types.proofs.strictness.read_strict.Reads as read-strict
 use Rattle.vector_types.proofs.parts.body.Reads as body
 use Rattle.vector_types.proofs.parts.values.Reads as values
 use Rattle.vector_types.proofs.parts.indices.Reads as indices
-use Rattle.vector_types.proofs.writing.write.Reads as write
 
 -- the bytes of a part, and where it points
 abbrev pub part : List ℕ → ℕ × ℕ → List ℕ × (ℕ × ℕ)
@@ -23,6 +27,21 @@ type-byte-determined κs a r r′ x x′ p q = p ∙ sym q
 
 pub is-same-kind-determined : (κs : _) (a : _) → Determined (is-same-kind.Post κs a) (λ r x. r)
 is-same-kind-determined κs a r r′ x x′ p q = p ∙ sym q
+
+pub kind-of-byte-determined : (κs : _) (a : _) → Determined (kind-of-byte.Post κs a) (λ r x. r)
+kind-of-byte-determined κs a r r′ x x′ p q = p ∙ sym q
+
+pub plain-determined : (κs : _) (a : _) → Determined (plain.Post κs a) (λ r x. r)
+plain-determined κs a r r′ x x′ p q = p ∙ sym q
+
+pub needing-determined : (κs : _) (a : _) → Determined (needing.Post κs a) (λ r x. r)
+needing-determined κs a r r′ x x′ p q = p ∙ sym q
+
+pub align4-determined : (κs : _) (a : _) → Determined (align4.Post κs a) (λ r x. r)
+align4-determined κs a r r′ x x′ p q = p ∙ sym q
+
+pub has-index-outside-determined : (κs : _) (a : _) → Determined (has-index-outside.Post κs a) (λ r x. r)
+has-index-outside-determined κs a r r′ x x′ p q = p ∙ sym q
 
 pub read-determined : (κs : _) (a : _) → Determined (read.Post κs a) (λ r x. r)
 read-determined κs a r r′ x x′ p q = p ∙ sym q
@@ -38,6 +57,3 @@ values-determined κs a r r′ x x′ p q = ap₂ part (p .0 ∙ sym (q .0)) (p 
 
 pub indices-determined : (κs : _) (a : _) → Determined (indices.Post κs a) (λ r x. part (now r) (r .ptr))
 indices-determined κs a r r′ x x′ p q = ap₂ part (p .0 ∙ sym (q .0)) (p .1 ∙ sym (q .1))
-
-pub write-determined : (κs : _) (a : _) → Determined (write.Post κs a) (λ r x. outcome r (now (x .1 .1 .1 .0)))
-write-determined κs a r r′ x x′ p q = p ∙ sym q

@@ -18,25 +18,25 @@ abbrev IsNone : Given → Type 0
 IsNone none = Unit {0}
 IsNone (given r) = ⊥
 
-given-some : (r : Refusal) → given r ≡ none → ⊥
-given-some r e = subst IsNone (sym e) tt
+given-not-none : (r : Refusal) → given r ≡ none → ⊥
+given-not-none r e = subst IsNone (sym e) tt
 
-pub refused-unseen : (r : Refusal) (v : View) → Refused r ≡ Accepted v → ⊥
-refused-unseen r v e = false≢true (ap isAccepted e)
+pub refused-not-accepted : (r : Refusal) (v : View) → Refused r ≡ Accepted v → ⊥
+refused-not-accepted r v e = false≢true (ap isAccepted e)
 
 abbrev viewIn : View → ReadAnswer → View
 viewIn w (Accepted v) = v
 viewIn w (Refused r) = w
 
-pub seen-same : (v w : View) → Accepted v ≡ Accepted w → v ≡ w
-seen-same v w e = ap (viewIn v) e
+pub accepted-same-view : (v w : View) → Accepted v ≡ Accepted w → v ≡ w
+accepted-same-view v w e = ap (viewIn v) e
 
 none-first : (t : Test) (ts : List Test) → firstGiven (t ∷ ts) ≡ none → (t .holds ≡ false) × (firstGiven ts ≡ none)
-none-first t ts e = at (t .holds) refl
+none-first t ts e = by-test (t .holds) refl
   where
-    at : (b : Bool) → t .holds ≡ b → (t .holds ≡ false) × (firstGiven ts ≡ none)
-    at true h = absurd (given-some (t .gives) (rw h at e))
-    at false h = (h, rw h at e)
+    by-test : (b : Bool) → t .holds ≡ b → (t .holds ≡ false) × (firstGiven ts ≡ none)
+    by-test true h = absurd (given-not-none (t .gives) (rw h at e))
+    by-test false h = (h, rw h at e)
 
 pub none-passed : (ts : List Test) → firstGiven ts ≡ none → Passed ts
 none-passed [] e = tt
@@ -46,19 +46,19 @@ pub passed-none : (ts : List Test) → Passed ts → firstGiven ts ≡ none
 passed-none [] p = refl
 passed-none (t ∷ ts) (h, p) = rw h (passed-none ts p)
 
-pub unless-seen : (g : Given) (x : ReadAnswer) (v : View) → unless g refused x ≡ Accepted v → (g ≡ none) × (x ≡ Accepted v)
-unless-seen none x v e = (refl, e)
-unless-seen (given r) x v e = absurd (refused-unseen r v e)
+pub unless-accepted : (g : Given) (x : ReadAnswer) (v : View) → unless g refused x ≡ Accepted v → (g ≡ none) × (x ≡ Accepted v)
+unless-accepted none x v e = (refl, e)
+unless-accepted (given r) x v e = absurd (refused-not-accepted r v e)
 
 -- two lists: the first of the second is given only where the first list gives none
 pub first-append : (ts us : List Test) → firstGiven (ts ++ us) ≡ unless (firstGiven ts) given (firstGiven us)
 first-append [] us = refl
-first-append (t ∷ ts) us = at (t .holds) (first-append ts us)
+first-append (t ∷ ts) us = by-test (t .holds) (first-append ts us)
   where
-    at : (b : Bool) → firstGiven (ts ++ us) ≡ unless (firstGiven ts) given (firstGiven us)
+    by-test : (b : Bool) → firstGiven (ts ++ us) ≡ unless (firstGiven ts) given (firstGiven us)
         → cond b (given (t .gives)) (firstGiven (ts ++ us)) ≡ unless (cond b (given (t .gives)) (firstGiven ts)) given (firstGiven us)
-    at true rest = refl
-    at false rest = rest
+    by-test true rest = refl
+    by-test false rest = rest
 
 pub unless-twice : {A : Type 0} (g h : Given) (refuse : Refusal → A) (x : A)
     → unless (unless g given h) refuse x ≡ unless g refuse (unless h refuse x)

@@ -1,21 +1,17 @@
 -- Laws of blobs
 pub mod Accepted
-pub mod Appended
+pub mod Bodies
 pub mod Bools
 pub mod ByKind
 pub mod Determined
 pub mod Ends
 pub mod Given
-pub mod Rewritten
-pub mod RewrittenStrictly
 pub mod Rows
 pub mod SameKind
 pub mod Search
 pub mod Shapes
 pub mod Some
+pub mod Statements
 pub mod Strict
-pub mod Tails
-pub mod Unchanged
 pub mod Unused
 pub mod Views
-pub mod Written

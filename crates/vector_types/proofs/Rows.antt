@@ -7,13 +7,14 @@ use native.Mathlib.Omega.{arith}
 use borrow.Author.Tests.{ltb-false, leb-false, eqb-true, eqb-false, leb-true, le-leb, lt-leb, le-ltb, eq-eqb, ne-eqb, not-true, not-false}
 use lib.Dec.{ltb, leb, eqb}
 use lib.ListN.{length}
-use Rattle.vector_types.specs.Layout.{maxBlobLength, maxDims, a, namedKind, lengthBeforeType, trailingCount, rowAccepts, entryCount, sparseDims, isOutside, ceil, bodyUnfit, dimsOf, lengthOf, bodyFits, layoutRow}
+use Rattle.vector_types.specs.Layout.{maxBlobLength, maxDims, namedKind, lengthBeforeType, trailingCount, rowAccepts, entryCount, sparseDims, isOutside, ceil, bodyUnfit, dimsOf, lengthOf, bodyFits, layoutRow}
 use Rattle.vector_types.specs.Search.{anyIndex}
 use Rattle.vector_types.specs.Read.{refusals}
 use Rattle.vector_types.specs.declared.VectorType.{VectorType}
+use Rattle.vector_types.specs.declared.Named.the-variants.{Kind}
 use Rattle.vector_types.specs.declared.VectorType.the-variants.{Float32Dense, Float64Dense, Float32Sparse, Float1Bit, Float8}
 use Rattle.vector_types.proofs.Bools.{or-both, and-three}
-use Rattle.vector_types.proofs.Ends.{named-odd, before-within}
+use Rattle.vector_types.proofs.Ends.{named-typed, before-within}
 use Rattle.vector_types.proofs.Given.{Passed}
 
 -- a body is part of its blob
@@ -26,7 +27,7 @@ length-within s Float8 = omega (arith, before-within s)
 length-within s Float32Sparse = omega (arith, before-within s)
 
 -- what the tests tell where all of them fail
-module _ (s : List ℕ) (k : VectorType) (p : Passed (refusals (a k) s)) where
+module _ (s : List ℕ) (k : VectorType) (p : Passed (refusals (Kind k) s)) where
   pub passed-short : length s ≤ maxBlobLength
   unfolding refusals
   passed-short = ltb-false maxBlobLength (length s) (p .0)
@@ -40,7 +41,7 @@ module _ (s : List ℕ) (k : VectorType) (p : Passed (refusals (a k) s)) where
   passed-fit = not-false _ (or-both _ _ (or-both _ _ (p .1 .1 .1 .1 .1 .1 .0) .0) .0)
 
 module _ (s : List ℕ) where
-  pub passed-accepted : (k : VectorType) → namedKind s ≡ a k → Passed (refusals (a k) s) → rowAccepts k s ≡ true
+  pub passed-accepted : (k : VectorType) → namedKind s ≡ Kind k → Passed (refusals (Kind k) s) → rowAccepts k s ≡ true
   unfolding refusals layoutRow
   passed-accepted Float32Dense e p =
       let whole = eqb-true (lengthBeforeType s) (4 * (lengthBeforeType s / 4)) (passed-fit s Float32Dense p) in
@@ -52,7 +53,7 @@ module _ (s : List ℕ) where
       let n = lengthBeforeType s in
       let t = trailingCount s in
       let bytes = eqb-false n 0 full in
-      let pairs = named-odd s Float1Bit e refl .halved in
+      let pairs = named-typed s Float1Bit e refl .even in
       let counted = or-both (ltb (8 * n) t) false count in
       let elements = eqb-false (8 * n - t) 0 (or-both (bodyUnfit Float1Bit s) (eqb (8 * n - t) 0) fit .1) in
       let below = leb-false n (ceil (8 * n - t) 8) apart in
@@ -73,7 +74,7 @@ module _ (s : List ℕ) where
 
   -- and where the row and the limits accept the blob, every test fails
   pub accepted-passed : (k : VectorType) → rowAccepts k s ≡ true → ltb maxBlobLength (length s) ≡ false → ltb maxDims (dimsOf k s) ≡ false
-      → Passed (refusals (a k) s)
+      → Passed (refusals (Kind k) s)
   unfolding refusals layoutRow
   accepted-passed Float32Dense e short few =
       let whole = eqb-true (lengthBeforeType s % 4) 0 e in

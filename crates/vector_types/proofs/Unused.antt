@@ -21,30 +21,30 @@ half-zero (suc x) e = ne-eqb (suc x / 2) 0 (λ z. omega arith) ∙ sym (ne-eqb (
 
 -- a search over the bits of a number of n bits, from bit j on
 module _ (p : ℕ → Bool) (x n : ℕ) (bits : (j : ℕ) → j < n → p j ≡ eqb (x / 2 ^ j % 2) 1) where
-  abbrev Left : ℕ → Type 0
-  Left j = Searched p n j → anyIndex p n ≡ not (eqb (x / 2 ^ j) 0)
+  abbrev FromBit : ℕ → Type 0
+  FromBit j = Searched p n j → anyIndex p n ≡ not (eqb (x / 2 ^ j) 0)
 
   bit-next : (j : ℕ) → x / 2 ^ (j + 1) ≡ x / 2 ^ j / 2
   bit-next j = sym (shr-shr x j 1)
 
-  one-bit : (j : ℕ) → j < n → Left (j + 1) → (t : Bool) → p j ≡ t → Left j
-  one-bit j h rest true e s =
+  bit-step : (j : ℕ) → j < n → FromBit (j + 1) → (t : Bool) → p j ≡ t → FromBit j
+  bit-step j h rest true e s =
       let odd : x / 2 ^ j % 2 ≡ 1 = eqb-true (x / 2 ^ j % 2) 1 (sym (bits j h) ∙ e) in
       ap (λ (r : ℕ). ltb r n) (sym (search-hit p n j s h e)) ∙ lt-ltb j n h ∙ ap not (sym (ne-eqb (x / 2 ^ j) 0 (λ z. omega arith)))
-  one-bit j h rest false e s =
+  bit-step j h rest false e s =
       let not-one : x / 2 ^ j % 2 ≡ 1 → ⊥ = eqb-false (x / 2 ^ j % 2) 1 (sym (bits j h) ∙ e) in
       let even : x / 2 ^ j % 2 ≡ 0 = omega arith in
       rest (search-miss p n j s h e) ∙ rw bit-next (ap not (half-zero (x / 2 ^ j) even))
 
-  from-bit : (m j : ℕ) → j + m ≡ n → x / 2 ^ j < 2 ^ m → Left j
+  from-bit : (m j : ℕ) → j + m ≡ n → x / 2 ^ j < 2 ^ m → FromBit j
   from-bit zero j e h s =
       let none : x / 2 ^ j ≡ 0 = omega arith in
       ap (λ (r : ℕ). ltb r n) (sym (search-end p n j s (omega arith))) ∙ le-ltb n n (omega arith) ∙ rw none
   from-bit (suc m) j e h s =
-      one-bit j (omega arith) (from-bit m (j + 1) (omega arith) (rw bit-next (omega arith))) (p j) refl s
+      bit-step j (omega arith) (from-bit m (j + 1) (omega arith) (rw bit-next (omega arith))) (p j) refl s
 
-  some-bit : x < 2 ^ n → anyIndex p n ≡ not (eqb x 0)
-  some-bit h = rw div-one at (from-bit n 0 (omega arith) (rw div-one h) (search-start p n))
+  any-bit : x < 2 ^ n → anyIndex p n ≡ not (eqb x 0)
+  any-bit h = rw div-one at (from-bit n 0 (omega arith) (rw div-one h) (search-start p n))
 
 -- the byte in which bit d stands, and the bits of it from d on
 module _ (s : List ℕ) (d : ℕ) where
@@ -65,4 +65,4 @@ module _ (s : List ℕ) (d : ℕ) where
   some-unused h u =
       let n : 8 * ceil d 8 - d ≡ 8 - d % 8 = omega arith in
       let all : 8 - d % 8 + d % 8 ≡ 8 = omega arith in
-      rw n (sym (some-bit (unusedSet s d) (last / 2 ^ (d % 8)) (8 - d % 8) bit-past (shr-lt (8 - d % 8) (d % 8) (rw all h))))
+      rw n (sym (any-bit (unusedSet s d) (last / 2 ^ (d % 8)) (8 - d % 8) bit-past (shr-lt (8 - d % 8) (d % 8) (rw all h))))

@@ -5,20 +5,22 @@ use mathlib.Core.List.{List}
 use Prim.Native.Nat.{ℕ, _*_, _≤_}
 use native.Mathlib.Omega.{arith}
 use lib.ListN.{length}
-use Rattle.vector_types.specs.Layout.{maxBlobLength, maxDims, Named, a, unsupported, unknown, namedKind, rowAccepts, dimsOf, lengthOf, bodyFits}
+use Rattle.vector_types.specs.Layout.{maxBlobLength, maxDims, namedKind, rowAccepts, dimsOf, lengthOf, bodyFits}
 use Rattle.vector_types.specs.Read.{readOf, refusals, shown}
 use Rattle.vector_types.specs.Parts.{halfOf}
 use Rattle.vector_types.specs.declared.VectorType.{VectorType}
+use Rattle.vector_types.specs.declared.Named.{Named}
+use Rattle.vector_types.specs.declared.Named.the-variants.{Kind, Unsupported, Unknown}
 use Rattle.vector_types.specs.declared.VectorType.the-variants.{Float32Dense, Float64Dense, Float32Sparse, Float1Bit, Float8}
 use Rattle.vector_types.specs.declared.View.{View}
 use Rattle.vector_types.specs.declared.ReadAnswer.the-variants.{Accepted}
 use Rattle.vector_types.specs.Answers.{firstGiven, dims, refusal}
-use Rattle.vector_types.proofs.Given.{Passed, none-passed, unless-seen, seen-same, refused-unseen}
+use Rattle.vector_types.proofs.Given.{Passed, none-passed, unless-accepted, accepted-same-view, refused-not-accepted}
 use Rattle.vector_types.proofs.Rows.{passed-accepted, passed-fit, passed-few, passed-short, length-within}
 
 -- its kind is the one named; dims and length are those of the row, which accepts the blob, and fit each other; the limits are kept
 pub record ViewFacts (s : List ℕ) (v : View) : Type 0 where
-  pub names : namedKind s ≡ a (v .kind)
+  pub names : namedKind s ≡ Kind (v .kind)
   pub sized : v .dims .0 ≡ dimsOf (v .kind) s
   pub long : v .length ≡ lengthOf (v .kind) s
   pub accepts : rowAccepts (v .kind) s ≡ true
@@ -31,8 +33,8 @@ pub record ViewFacts (s : List ℕ) (v : View) : Type 0 where
 abbrev viewOf : VectorType → List ℕ → View
 viewOf k s = record { kind = k; dims = dims (dimsOf k s); length = lengthOf k s }
 
-told-at : (s : List ℕ) (k : VectorType) → namedKind s ≡ a k → Passed (refusals (a k) s) → ViewFacts s (viewOf k s)
-told-at s k e p = record {
+row-facts : (s : List ℕ) (k : VectorType) → namedKind s ≡ Kind k → Passed (refusals (Kind k) s) → ViewFacts s (viewOf k s)
+row-facts s k e p = record {
   names = e;
   sized = refl;
   long = refl;
@@ -46,13 +48,13 @@ told-at s k e p = record {
 pub view-facts : (s : List ℕ) (v : View) → readOf s ≡ Accepted v → ViewFacts s v
 unfolding readOf
 view-facts s v e =
-    let (none, shows) = unless-seen (firstGiven (refusals (namedKind s) s)) (shown (namedKind s) s) v e in
-    at (namedKind s) refl (none-passed (refusals (namedKind s) s) none) shows
+    let (none, shows) = unless-accepted (firstGiven (refusals (namedKind s) s)) (shown (namedKind s) s) v e in
+    by-name (namedKind s) refl (none-passed (refusals (namedKind s) s) none) shows
   where
-    at : (n : Named) → namedKind s ≡ n → Passed (refusals n s) → shown n s ≡ Accepted v → ViewFacts s v
-    at (a k) h p shows = subst (ViewFacts s) (seen-same (viewOf k s) v shows) (told-at s k h p)
-    at unsupported h p shows = absurd (refused-unseen (refusal 2) v shows)
-    at unknown h p shows = absurd (refused-unseen (refusal 3) v shows)
+    by-name : (n : Named) → namedKind s ≡ n → Passed (refusals n s) → shown n s ≡ Accepted v → ViewFacts s v
+    by-name (Kind k) h p shows = subst (ViewFacts s) (accepted-same-view (viewOf k s) v shows) (row-facts s k h p)
+    by-name Unsupported h p shows = absurd (refused-not-accepted (refusal 2) v shows)
+    by-name Unknown h p shows = absurd (refused-not-accepted (refusal 3) v shows)
 
 -- the two halves of a sparse body lie within the blob; another body has none
 two-halves : (k : VectorType) (m : ℕ) → 2 * halfOf k m ≤ m

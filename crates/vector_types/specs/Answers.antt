@@ -1,4 +1,4 @@
--- Answers of the reader and the writer, and the first of several refusals that is given.
+-- Refusals, the reader's answers, and the first of several refusals that is given.
 use Prim.Native.Nat.{ℕ}
 use mathlib.Core.Bool.{Bool, true, false, cond}
 use mathlib.Core.List.{List, [], _∷_}
@@ -8,9 +8,7 @@ use Rattle.vector_types.specs.declared.Dims.{Dims}
 use Rattle.vector_types.specs.declared.Detail.the-variants.{Nothing, Needs}
 use Rattle.vector_types.specs.declared.Refusal.{Refusal}
 use Rattle.vector_types.specs.declared.ReadAnswer.{ReadAnswer}
-use Rattle.vector_types.specs.declared.ReadAnswer.the-variants.{Accepted, Refused as ReadRefused}
-use Rattle.vector_types.specs.declared.WriteAnswer.{WriteAnswer}
-use Rattle.vector_types.specs.declared.WriteAnswer.the-variants.{Written, Refused as WriteRefused}
+use Rattle.vector_types.specs.declared.ReadAnswer.the-variants.{Accepted, Refused}
 
 abbrev pub dims : ℕ → Dims
 dims d = record { 0 = d }
@@ -27,27 +25,16 @@ abbrev pub acceptedAs : VectorType → ℕ → ℕ → ReadAnswer
 acceptedAs k d m = Accepted (record { kind = k; dims = dims d; length = m })
 
 abbrev pub refused : Refusal → ReadAnswer
-refused r = ReadRefused r
+refused r = Refused r
 
 abbrev pub isAccepted : ReadAnswer → Bool
 isAccepted (Accepted v) = true
-isAccepted (ReadRefused r) = false
+isAccepted (Refused r) = false
 
--- a writer's answers: the length of the blob, and a refusal
-abbrev pub written : ℕ → WriteAnswer
-written n = Written n
-
-abbrev pub writeRefused : Refusal → WriteAnswer
-writeRefused r = WriteRefused r
-
--- document 01's number for each answer, 0 where nothing is refused
+-- document 01's number for an answer, 0 where nothing is refused
 abbrev pub readNumber : ReadAnswer → ℕ
 readNumber (Accepted v) = 0
-readNumber (ReadRefused r) = r .number
-
-abbrev pub writeNumber : WriteAnswer → ℕ
-writeNumber (Written n) = 0
-writeNumber (WriteRefused r) = r .number
+readNumber (Refused r) = r .number
 
 -- a refusal, and whether it is to be given
 pub record Test : Type 0 where

@@ -8,6 +8,8 @@ use Rattle.little_endian.specs.Bytes.{u32At}
 use Rattle.vector_types.specs.Search.{anyIndex}
 use Rattle.vector_types.specs.declared.VectorType.{VectorType}
 use Rattle.vector_types.specs.declared.VectorType.the-variants.{Float32Dense, Float64Dense, Float32Sparse, Float1Bit, Float8}
+use Rattle.vector_types.specs.declared.Named.{Named}
+use Rattle.vector_types.specs.declared.Named.the-variants.{Kind, Unsupported, Unknown}
 
 -- the limits: the longest blob, and the greatest dims
 abbrev pub maxBlobLength : ℕ
@@ -35,20 +37,15 @@ hasByte b k = eqb (byteOf k) b
 abbrev pub hasTrailingCount : VectorType → Bool
 hasTrailingCount k = hasByte 3 k || hasByte 4 k
 
--- what a blob names: a kind, a kind that is not supported, or nothing known
-pub data Named : Type 0 where
-  a : VectorType → Named
-  unsupported : Named
-  unknown : Named
-
+-- what a type byte names: a kind, one that is not supported, or nothing known
 unfoldable pub byByte : ℕ → Named
 byByte b =
-    cond (eqb b 1) (a Float32Dense)
-    (cond (eqb b 2) (a Float64Dense)
-    (cond (eqb b 3) (a Float1Bit)
-    (cond (eqb b 4) (a Float8)
-    (cond (eqb b 9) (a Float32Sparse)
-    (cond (eqb b 5 || eqb b 6) unsupported unknown)))))
+    cond (eqb b 1) (Kind Float32Dense)
+    (cond (eqb b 2) (Kind Float64Dense)
+    (cond (eqb b 3) (Kind Float1Bit)
+    (cond (eqb b 4) (Kind Float8)
+    (cond (eqb b 9) (Kind Float32Sparse)
+    (cond (eqb b 5 || eqb b 6) Unsupported Unknown)))))
 
 -- a blob of even length names no kind and is Float32Dense; of odd length, the last byte names it
 abbrev pub hasEvenLength : List ℕ → Bool
@@ -56,7 +53,7 @@ hasEvenLength s = eqb (length s % 2) 0
 
 unfoldable pub namedKind : List ℕ → Named
 unfolding byByte
-namedKind s = cond (hasEvenLength s) (a Float32Dense) (byByte (getD s (length s - 1) 0))
+namedKind s = cond (hasEvenLength s) (Kind Float32Dense) (byByte (getD s (length s - 1) 0))
 
 -- n, how many bytes stand before the type byte: all, where there is none; and t, the last of these
 unfoldable pub lengthBeforeType : List ℕ → ℕ
@@ -124,9 +121,9 @@ lengthOf k s = layoutRow k s .body
 
 -- whether a blob is accepted, by its row and by the limits
 unfoldable pub blobAccepted : Named → List ℕ → Bool
-blobAccepted (a k) s = rowAccepts k s && leb (length s) maxBlobLength && leb (dimsOf k s) maxDims
-blobAccepted unsupported s = false
-blobAccepted unknown s = false
+blobAccepted (Kind k) s = rowAccepts k s && leb (length s) maxBlobLength && leb (dimsOf k s) maxDims
+blobAccepted Unsupported s = false
+blobAccepted Unknown s = false
 
 -- whether a body of m bytes is what a vector of d elements has; a sparse one has any number of entries
 unfoldable pub bodyFits : VectorType → ℕ → ℕ → Bool

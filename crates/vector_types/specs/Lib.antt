@@ -2,10 +2,6 @@ pub mod Answers
 pub mod Search
 pub mod Layout
 pub mod Read
-pub mod Strict
+pub mod Statements
 pub mod Parts
-pub mod Write
-pub mod inner
-pub mod Rewritten
-pub mod WrittenExamples
 pub mod Examples

@@ -7,25 +7,27 @@ use lib.Dec.{ltb, leb, eqb}
 use lib.ListN.{length}
 use Rattle.vector_types.specs.Answers.{Test, test, firstGiven, unless, acceptedAs, refused, refusal}
 use Rattle.vector_types.specs.Search.{anyIndex}
-use Rattle.vector_types.specs.Layout.{maxBlobLength, maxDims, ceil, Named, a, unsupported, unknown, namedKind, lengthBeforeType, trailingCount, hasTrailingCount, entryCount, indexAt, isOutside, hasByte, dimsOf, lengthOf, bodyUnfit, bodyFits, bitAt, layoutRow}
+use Rattle.vector_types.specs.Layout.{maxBlobLength, maxDims, ceil, namedKind, lengthBeforeType, trailingCount, hasTrailingCount, entryCount, indexAt, isOutside, hasByte, dimsOf, lengthOf, bodyUnfit, bodyFits, bitAt, layoutRow}
 use Rattle.vector_types.specs.declared.VectorType.{VectorType}
+use Rattle.vector_types.specs.declared.Named.{Named}
+use Rattle.vector_types.specs.declared.Named.the-variants.{Kind, Unsupported, Unknown}
 use Rattle.vector_types.specs.declared.ReadAnswer.{ReadAnswer}
 
 abbrev pub isUnsupported : Named → Bool
-isUnsupported (a k) = false
-isUnsupported unsupported = true
-isUnsupported unknown = false
+isUnsupported (Kind k) = false
+isUnsupported Unsupported = true
+isUnsupported Unknown = false
 
 abbrev pub isUnknown : Named → Bool
-isUnknown (a k) = false
-isUnknown unsupported = false
-isUnknown unknown = true
+isUnknown (Kind k) = false
+isUnknown Unsupported = false
+isUnknown Unknown = true
 
 -- what holds of the kind that is named
 abbrev pub ofKind : Named → (VectorType → Bool) → Bool
-ofKind (a k) p = p k
-ofKind unsupported p = false
-ofKind unknown p = false
+ofKind (Kind k) p = p k
+ofKind Unsupported p = false
+ofKind Unknown p = false
 
 -- the refusals of the plain reader
 unfoldable pub refusals : Named → List ℕ → List Test
@@ -64,9 +66,9 @@ strictRefusals names s =
 -- the view of a kind by its row; a byte that names none has its refusal
 unfoldable pub shown : Named → List ℕ → ReadAnswer
 unfolding layoutRow
-shown (a k) s = acceptedAs k (dimsOf k s) (lengthOf k s)
-shown unsupported s = refused (refusal 2)
-shown unknown s = refused (refusal 3)
+shown (Kind k) s = acceptedAs k (dimsOf k s) (lengthOf k s)
+shown Unsupported s = refused (refusal 2)
+shown Unknown s = refused (refusal 3)
 
 unfoldable pub readOf : List ℕ → ReadAnswer
 unfolding namedKind refusals shown

@@ -1,20 +1,21 @@
-// Blobs: the five kinds, reading, strict reading, the parts of a blob, and writing.
+// Blobs: the five kinds, answers, reading, strict reading, and the parts of a blob.
 mod kinds;
 mod parts;
 mod reading;
 mod strictness;
-mod writing;
 
 ghost use mathlib.Core.Path.{_≡_};
 ghost use Rattle.vector_types.specs.Answers.{refusal, needing};
 pub use kinds::is_same_kind;
+pub use kinds::kind_of_byte;
 pub use kinds::type_byte;
 pub use parts::body;
 pub use parts::indices;
 pub use parts::values;
+pub use reading::align4;
+pub use reading::has_index_outside;
 pub use reading::read;
 pub use strictness::read_strict;
-pub use writing::write;
 
 // The kinds of vectors, in the order of the Rust.
 pub enum VectorType {
@@ -23,6 +24,13 @@ pub enum VectorType {
     Float32Sparse,
     Float1Bit,
     Float8,
+}
+
+// What a type byte names: a kind, one of the two kinds that are not supported, or nothing known.
+pub enum Named {
+    Kind(VectorType),
+    Unsupported,
+    Unknown,
 }
 
 // How many elements a vector has.
@@ -77,12 +85,6 @@ impl Refusal {
 
 pub enum ReadAnswer {
     Accepted(View),
-    Refused(Refusal),
-}
-
-// A blob's length, or a refusal.
-pub enum WriteAnswer {
-    Written(usize),
     Refused(Refusal),
 }
 

@@ -6,18 +6,21 @@ ghost use lib.Dec.{ltb, eqb};
 ghost use lib.ListN.{length};
 ghost use Rattle.vector_types.specs.Answers.{acceptedAs, refused, refusal};
 ghost use Rattle.vector_types.specs.Search.{firstIndex};
-ghost use Rattle.vector_types.specs.Layout.{maxBlobLength, maxDims, a, namedKind, isOutside};
+ghost use Rattle.vector_types.specs.Layout.{maxBlobLength, maxDims, namedKind, isOutside, hasIndexOutside};
 ghost use Rattle.vector_types.specs.Read.{readOf};
 ghost use Rattle.vector_types.specs.declared.VectorType.the-variants.{Float32Sparse, Float1Bit, Float8};
+ghost use Rattle.vector_types.specs.declared.Named.the-variants.{Kind};
 use crate::Dims;
 use crate::MAX_BLOB_LENGTH;
 use crate::MAX_DIMS;
+use crate::Named;
 use crate::ReadAnswer;
 use crate::Refusal;
 use crate::TrailingBits;
 use crate::TrailingBytes;
 use crate::VectorType;
 use crate::View;
+use crate::kinds::kind_of_byte;
 
 // Refuses by a number of the rules.
 pub(crate) fn refuse(number: u8) -> ReadAnswer
@@ -51,7 +54,7 @@ fn dense(kind: VectorType, width: usize, n: usize) -> ReadAnswer
 // A 1-bit blob.
 fn one_bit(blob: &[u8]) -> ReadAnswer
     requires { ⌜ length (now blob) ≤ maxBlobLength ⌝ }
-    requires { ⌜ namedKind (now blob) ≡ a Float1Bit ⌝ }
+    requires { ⌜ namedKind (now blob) ≡ Kind Float1Bit ⌝ }
     ensures { λ r. ⌜ r ≡ readOf (now (blob .entry)) ⌝ }
 {
     let n = blob.len() - 1;
@@ -74,7 +77,7 @@ fn one_bit(blob: &[u8]) -> ReadAnswer
 }
 
 // The next multiple of 4.
-pub(crate) fn align4(n: usize) -> usize
+pub fn align4(n: usize) -> usize
     requires { ⌜ n ≤ maxBlobLength ⌝ }
     ensures { λ r. ⌜ r ≡ 4 * ((n + 3) / 4) ⌝ }
 {
@@ -84,7 +87,7 @@ pub(crate) fn align4(n: usize) -> usize
 // A Float8 blob.
 fn float8(blob: &[u8]) -> ReadAnswer
     requires { ⌜ length (now blob) ≤ maxBlobLength ⌝ }
-    requires { ⌜ namedKind (now blob) ≡ a Float8 ⌝ }
+    requires { ⌜ namedKind (now blob) ≡ Kind Float8 ⌝ }
     ensures { λ r. ⌜ r ≡ readOf (now (blob .entry)) ⌝ }
 {
     let n = blob.len() - 1;
@@ -110,7 +113,7 @@ fn float8(blob: &[u8]) -> ReadAnswer
 }
 
 // The first of the count indices of a sparse body that is not below dims, or count.
-pub(crate) fn first_outside(s: &[u8], count: usize, dims: usize) -> usize
+fn first_outside(s: &[u8], count: usize, dims: usize) -> usize
     requires { ⌜ 8 * count ≤ length (now s) ⌝ }
     ensures { λ r. ⌜ r ≡ firstIndex (isOutside (now (s .entry)) count dims) count ⌝ }
 {
@@ -125,10 +128,26 @@ pub(crate) fn first_outside(s: &[u8], count: usize, dims: usize) -> usize
     count
 }
 
+// Whether an index of a sparse body is not below dims; a body of another kind has no index.
+pub fn has_index_outside(kind: VectorType, dims: Dims, body: &[u8]) -> bool
+    ensures { λ r. ⌜ r ≡ hasIndexOutside kind (dims .0) (now (body .entry)) ⌝ }
+{
+    match kind {
+        VectorType::Float32Sparse => {
+            let count = body.len() / 8;
+            first_outside(body, count, dims.0) < count
+        }
+        VectorType::Float32Dense => false,
+        VectorType::Float64Dense => false,
+        VectorType::Float1Bit => false,
+        VectorType::Float8 => false,
+    }
+}
+
 // A sparse blob.
 fn sparse(blob: &[u8]) -> ReadAnswer
     requires { ⌜ length (now blob) ≤ maxBlobLength ⌝ }
-    requires { ⌜ namedKind (now blob) ≡ a Float32Sparse ⌝ }
+    requires { ⌜ namedKind (now blob) ≡ Kind Float32Sparse ⌝ }
     ensures { λ r. ⌜ r ≡ readOf (now (blob .entry)) ⌝ }
 {
     let n = blob.len() - 1;
@@ -144,27 +163,44 @@ fn sparse(blob: &[u8]) -> ReadAnswer
     show(VectorType::Float32Sparse, Dims(dims), length)
 }
 
+// What a blob names: Float32Dense if its length is even, else what its last byte names.
+fn named_kind(blob: &[u8]) -> Named
+    ensures { λ r. ⌜ r ≡ namedKind (now (blob .entry)) ⌝ }
+{
+    let length = blob.len();
+    if length % 2 == 0 {
+        return Named::Kind(VectorType::Float32Dense);
+    }
+    kind_of_byte(blob[length - 1])
+}
+
+// A blob that names a kind. Before the type byte, if there is one, stands an even number of bytes.
+fn read_as(kind: VectorType, blob: &[u8]) -> ReadAnswer
+    requires { ⌜ length (now blob) ≤ maxBlobLength ⌝ }
+    requires { ⌜ namedKind (now blob) ≡ Kind kind ⌝ }
+    ensures { λ r. ⌜ r ≡ readOf (now (blob .entry)) ⌝ }
+{
+    let length = blob.len();
+    let n = length - length % 2;
+    match kind {
+        VectorType::Float32Dense => dense(kind, 4, n),
+        VectorType::Float64Dense => dense(kind, 8, n),
+        VectorType::Float32Sparse => sparse(blob),
+        VectorType::Float1Bit => one_bit(blob),
+        VectorType::Float8 => float8(blob),
+    }
+}
+
 // What a blob shows, or the first refusal in the order of the rules.
 pub fn read(blob: &[u8]) -> ReadAnswer
     ensures { λ r. ⌜ r ≡ readOf (now (blob .entry)) ⌝ }
 {
-    let length = blob.len();
-    if MAX_BLOB_LENGTH < length {
+    if MAX_BLOB_LENGTH < blob.len() {
         return refuse(1);
     }
-    if length % 2 == 0 {
-        return dense(VectorType::Float32Dense, 4, length);
-    }
-    let n = length - 1;
-    let byte = blob[n];
-    match byte {
-        1 => dense(VectorType::Float32Dense, 4, n),
-        2 => dense(VectorType::Float64Dense, 8, n),
-        3 => one_bit(blob),
-        4 => float8(blob),
-        5 => refuse(2),
-        6 => refuse(2),
-        9 => sparse(blob),
-        _ => refuse(3),
+    match named_kind(blob) {
+        Named::Kind(kind) => read_as(kind, blob),
+        Named::Unsupported => refuse(2),
+        Named::Unknown => refuse(3),
     }
 }

@@ -13,7 +13,7 @@ use crate::reading::read;
 use crate::reading::refuse;
 
 // The first of the count indices of a sparse body that is below the one before it, or count.
-fn first_fall(s: &[u8], count: usize) -> usize
+fn first_below_previous(s: &[u8], count: usize) -> usize
     requires { ⌜ 8 * count ≤ length (now s) ⌝ }
     ensures { λ r. ⌜ r ≡ firstIndex (isBelowPrevious (now (s .entry)) count) count ⌝ }
 {
@@ -42,8 +42,8 @@ fn unused_set(s: &[u8], dims: usize) -> bool
     s[dims / 8] >> used != 0
 }
 
-// The view of an accepted blob, unless a strict test refuses it.
-fn hold(blob: &[u8], view: View) -> ReadAnswer
+// The view of a blob that the plain reader accepts, unless a strict test refuses it.
+fn check_strict(blob: &[u8], view: View) -> ReadAnswer
     requires { ⌜ readOf (now blob) ≡ Accepted view ⌝ }
     ensures { λ r. ⌜ r ≡ strictOf (now (blob .entry)) ⌝ }
 {
@@ -51,7 +51,7 @@ fn hold(blob: &[u8], view: View) -> ReadAnswer
     match kind {
         VectorType::Float32Sparse => {
             let count = view.length / 8;
-            if first_fall(blob, count) < count {
+            if first_below_previous(blob, count) < count {
                 return refuse(10);
             }
             ReadAnswer::Accepted(view)
@@ -73,7 +73,7 @@ pub fn read_strict(blob: &[u8]) -> ReadAnswer
     ensures { λ r. ⌜ r ≡ strictOf (now (blob .entry)) ⌝ }
 {
     match read(blob) {
-        ReadAnswer::Accepted(view) => hold(blob, view),
+        ReadAnswer::Accepted(view) => check_strict(blob, view),
         ReadAnswer::Refused(refusal) => ReadAnswer::Refused(refusal),
     }
 }

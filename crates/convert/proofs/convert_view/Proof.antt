@@ -3,7 +3,7 @@ use native.Mathlib.Omega.{arith}
 use lib.ListN.{length-take}
 use borrow.Author.Needs.{needs}
 use Rattle.vector_types.proofs.Views.{view-facts}
-use Rattle.vector_types.proofs.Rewritten.{body-is}
+use Rattle.vector_types.proofs.Bodies.{body-is}
 use Rattle.convert.proofs.Shown.{shown-fitting}
 use Rattle.convert.proofs.convert_view.Statement.{statement}
 use Rattle.convert.proofs.convert_view.Tie as tie

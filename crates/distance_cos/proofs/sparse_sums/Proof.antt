@@ -3,11 +3,11 @@ use Prim.Native.Nat.{_+_, _-_}
 use native.Mathlib.Omega.{arith}
 use borrow.Author.Needs.{needs}
 use lib.Ieee.{binary32}
-use Rattle.convert.specs.Dense.{count}
+use Rattle.bodies.specs.Entries.{storedCount, entriesOf}
 use Rattle.distance_sums.specs.Dense.{noProducts}
-use Rattle.distance_sums.specs.Sparse.{entriesOf, productsRule, sparseProducts}
-use Rattle.distance_cos.specs.Sums.{products32}
-use Rattle.distance_sums.proofs.Merging.{Merging, merging-none, merging-done, merging-both, merging-left, merging-right}
+use Rattle.distance_sums.specs.Sparse.{productsRule, sparseProducts}
+use Rattle.distance_cos.specs.inner.Sums.{products32}
+use Rattle.bodies.proofs.Merging.{Merging, merging-none, merging-done, merging-both, merging-left, merging-right}
 use Rattle.distance_cos.proofs.sparse_sums.Statement.{statement}
 use Rattle.distance_cos.proofs.sparse_sums.Tie as tie
 
@@ -15,7 +15,7 @@ abbrev Inv-loop : tie.InvT-loop
 Inv-loop a b left right sums₀ i₀ j₀ sums i j = Merging (productsRule binary32) (entriesOf a) (entriesOf b) noProducts (products32 sums) i j
 
 abbrev μ-loop : tie.MeasureT-loop
-μ-loop a b left right sums₀ i₀ j₀ sums i j = (count a - i) + (count b - j)
+μ-loop a b left right sums₀ i₀ j₀ sums i j = (storedCount a - i) + (storedCount b - j)
 
 loop-holds : tie.Need-loop-holds Inv-loop μ-loop
 loop-holds c = merging-none (c .new .ensures)

@@ -14,15 +14,17 @@ returns c =
     let n = m .before in
     let d = n .before in
     let root = root-unique binary64 (mul binary64 (n .norm-of .result) (m .norm-of2 .result)) (c .root64 .result) (c .root64 .ensures) in
-    let t = d .before .totals-of .ensures in
-    let v = d .before .before .scale-of2 .ensures in
-    let u = d .before .before .before .scale-of .ensures in
-    rw (root, m .norm-of2 .ensures, n .norm-of .ensures, d .dot-of .ensures, t, v, u)
+    let totals = d .before in
+    let v = totals .before in
+    let u = v .before .before in
+    rw (root, m .norm-of2 .ensures, n .norm-of .ensures, d .dot-of .ensures, totals .totals-of .ensures)
+    (rw (v .widened2 .ensures, v .before .scale-of2 .ensures, u .widened .ensures, u .before .scale-of .ensures))
 
 pub vector-f8-distance-cos-spec : {M : Type 1} → statement M
 vector-f8-distance-cos-spec =
     tie.close
     (tie.spec
-    (λ c κs. search needs) (λ c κs. search needs) (λ c κs. search needs) (λ c. search needs) (λ c κs. search needs)
+    (λ c κs. search needs) (λ c κs. search needs) (λ c κs. search needs) (λ c κs. search needs) (λ c κs. search needs)
+    (λ c. search needs) (λ c κs. search needs)
     (λ c κs. search needs) (λ c κs. search needs) (λ c κs. search needs)
     returns)

@@ -1,5 +1,5 @@
 -- Each arm is the distance of its kind, and the body is as long as the kind has it.
-use Rattle.convert.proofs.Bodies.{float32-length, float64-length, one-bit-length, float8-length}
+use Rattle.bodies.proofs.Lengths.{float32-length, float64-length, one-bit-length, float8-length}
 use Rattle.distance_sums.specs.Values.{dotOf}
 use borrow.Author.Needs.{needs}
 use Rattle.distance_dot.proofs.measure_dot.Statement.{statement}

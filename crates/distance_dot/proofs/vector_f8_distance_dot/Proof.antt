@@ -7,14 +7,16 @@ use Rattle.distance_dot.proofs.vector_f8_distance_dot.Tie as tie
 returns : tie.Need-returns
 unfolding dotOf
 returns c =
-    let t = c .before .totals-of .ensures in
-    let v = c .before .before .scale-of2 .ensures in
-    let u = c .before .before .before .scale-of .ensures in
-    rw (c .dot-of .ensures, t, v, u)
+    let totals = c .before in
+    let v = totals .before in
+    let u = v .before .before in
+    rw (c .dot-of .ensures, totals .totals-of .ensures)
+    (rw (v .widened2 .ensures, v .before .scale-of2 .ensures, u .widened .ensures, u .before .scale-of .ensures))
 
 pub vector-f8-distance-dot-spec : {M : Type 1} → statement M
 vector-f8-distance-dot-spec =
     tie.close
     (tie.spec
-    (λ c κs. search needs) (λ c κs. search needs) (λ c κs. search needs) (λ c. search needs) (λ c κs. search needs)
+    (λ c κs. search needs) (λ c κs. search needs) (λ c κs. search needs) (λ c κs. search needs) (λ c κs. search needs)
+    (λ c. search needs) (λ c κs. search needs)
     returns)

@@ -5,28 +5,28 @@ use native.Mathlib.Omega.{arith}
 use borrow.Author.Needs.{needs}
 use lib.Dec.{T}
 use lib.Ieee.{Float, binary32, fits}
-use Rattle.convert.specs.Dense.{count}
+use Rattle.bodies.specs.Entries.{storedCount, entriesOf}
 use Rattle.distance_sums.specs.Extremes.{lesser, greater}
 use Rattle.distance_sums.specs.Dense.{Shares, noShares, sharesWith}
-use Rattle.distance_sums.specs.Sparse.{entriesOf, sharesRule, sparseShares}
-use Rattle.jaccard.specs.Sums.{shares32}
+use Rattle.distance_sums.specs.Sparse.{sharesRule, sparseShares}
+use Rattle.jaccard.specs.inner.Sums.{shares32}
 use Rattle.float_laws.proofs.Running.{plusZero-fromZero}
-use Rattle.distance_sums.proofs.EitherZero.{BothFromZero, one-more, ours-are}
-use Rattle.distance_sums.proofs.Merging.{Merging, merging-none, merging-done, merging-both, merging-left, merging-right}
+use Rattle.distance_sums.proofs.EitherZero.{BothFromZero, one-more, ours-are-choices}
+use Rattle.bodies.proofs.Merging.{Merging, merging-none, merging-done, merging-both, merging-left, merging-right}
 use Rattle.jaccard.proofs.sparse_sums.Statement.{statement}
 use Rattle.jaccard.proofs.sparse_sums.Tie as tie
 
 -- a pair more leaves both sums what a sum from 0.0 can be
-kept : {s t : Shares} (x y : Float) → t ≡ sharesWith lesser greater binary32 s x y → T (fits binary32 x) → T (fits binary32 y)
+both-fromZero : {s t : Shares} (x y : Float) → t ≡ sharesWith lesser greater binary32 s x y → T (fits binary32 x) → T (fits binary32 y)
     → BothFromZero binary32 s → BothFromZero binary32 t
-kept {s} x y e h k z = subst (BothFromZero binary32) (sym e) (one-more binary32 lesser greater (ours-are binary32) x y h k s z .0)
+both-fromZero {s} x y e h k z = subst (BothFromZero binary32) (sym e) (one-more binary32 lesser greater (ours-are-choices binary32) x y h k s z .0)
 
 abbrev Inv-loop : tie.InvT-loop
 Inv-loop a b left right sums₀ i₀ j₀ sums i j =
     Merging (sharesRule binary32) (entriesOf a) (entriesOf b) noShares (shares32 sums) i j × BothFromZero binary32 (shares32 sums)
 
 abbrev μ-loop : tie.MeasureT-loop
-μ-loop a b left right sums₀ i₀ j₀ sums i j = (count a - i) + (count b - j)
+μ-loop a b left right sums₀ i₀ j₀ sums i j = (storedCount a - i) + (storedCount b - j)
 
 loop-holds : tie.Need-loop-holds Inv-loop μ-loop
 loop-holds c =
@@ -48,21 +48,21 @@ loop-again c =
     let t = c .before .before in
     let l = t .before .before .before .loop in
     let merging = merging-both (l .inv .0) (t .before .before .next-turn .ensures) (t .x .given .1) (c .step .ensures) in
-    (merging, kept _ _ (c .step .ensures) (search needs) (search needs) (l .inv .1))
+    (merging, both-fromZero _ _ (c .step .ensures) (search needs) (search needs) (l .inv .1))
 
 loop-again-2 : tie.Need-loop-again-2 Inv-loop μ-loop
 loop-again-2 c =
     let t = c .before .before in
     let l = t .before .before .before .loop in
     let merging = merging-left (l .inv .0) (t .before .before .next-turn .ensures) (t .x2 .given .1) (c .alone .ensures) in
-    (merging, kept _ _ (c .alone .ensures) (search needs) (plusZero-fromZero binary32 .fitting) (l .inv .1))
+    (merging, both-fromZero _ _ (c .alone .ensures) (search needs) (plusZero-fromZero binary32 .fitting) (l .inv .1))
 
 loop-again-3 : tie.Need-loop-again-3 Inv-loop μ-loop
 loop-again-3 c =
     let t = c .before .before in
     let l = t .before .before .before .loop in
     let merging = merging-right (l .inv .0) (t .before .before .next-turn .ensures) (t .y .given .1) (c .alone2 .ensures) in
-    (merging, kept _ _ (c .alone2 .ensures) (search needs) (plusZero-fromZero binary32 .fitting) (l .inv .1))
+    (merging, both-fromZero _ _ (c .alone2 .ensures) (search needs) (plusZero-fromZero binary32 .fitting) (l .inv .1))
 
 pub sparse-sums-spec : {M : Type 1} → statement M
 sparse-sums-spec =

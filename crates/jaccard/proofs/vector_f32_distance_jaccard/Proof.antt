@@ -4,18 +4,17 @@ use Prim.Native.Nat.{_-_, _≤_}
 use native.Mathlib.Omega.{arith}
 use borrow.Author.Needs.{needs}
 use lib.Ieee.{binary32, ofBits}
-use Rattle.convert.specs.Elements.{element}
-use Rattle.vector_types.specs.declared.VectorType.the-variants.{Float32Dense}
+use Rattle.bodies.specs.Elements.{denseElement}
 use Rattle.distance_sums.specs.Extremes.{lesser, greater}
 use Rattle.distance_sums.specs.Dense.{shares, jaccardBy}
-use Rattle.jaccard.specs.Sums.{shares32}
-use Rattle.distance_sums.specs.Values.{elements, jaccardOf}
+use Rattle.jaccard.specs.inner.Sums.{shares32}
+use Rattle.distance_sums.specs.Values.{jaccardOf}
 use Rattle.distance_sums.proofs.Sums.{shares-none, shares-more}
 use Rattle.jaccard.proofs.vector_f32_distance_jaccard.Statement.{statement}
 use Rattle.jaccard.proofs.vector_f32_distance_jaccard.Tie as tie
 
 abbrev Inv-loop : tie.InvT-loop
-Inv-loop dims a b sums₀ i₀ sums i = (i ≤ dims) × (shares32 sums ≡ shares binary32 (elements Float32Dense dims a) (elements Float32Dense dims b) i)
+Inv-loop dims a b sums₀ i₀ sums i = (i ≤ dims) × (shares32 sums ≡ shares binary32 (denseElement binary32 a) (denseElement binary32 b) i)
 
 abbrev μ-loop : tie.MeasureT-loop
 μ-loop dims a b sums₀ i₀ sums i = dims - i
@@ -24,7 +23,6 @@ loop-holds : tie.Need-loop-holds Inv-loop μ-loop
 loop-holds c = (omega arith, c .new .ensures ∙ shares-none _ _ lesser greater binary32)
 
 loop-again : tie.Need-loop-again Inv-loop μ-loop
-unfolding element
 loop-again c =
     let p = ap (ofBits binary32) (c .before .before .u32-at .ensures) in
     let q = ap (ofBits binary32) (c .before .u32-at2 .ensures) in

@@ -4,18 +4,17 @@ use Prim.Native.Nat.{_-_, _≤_}
 use native.Mathlib.Omega.{arith}
 use borrow.Author.Needs.{needs}
 use lib.Ieee.{binary64, ofBits}
-use Rattle.convert.specs.Elements.{element}
-use Rattle.vector_types.specs.declared.VectorType.the-variants.{Float64Dense}
+use Rattle.bodies.specs.Elements.{denseElement}
 use Rattle.distance_sums.specs.Extremes.{lesser, greater}
 use Rattle.distance_sums.specs.Dense.{shares, jaccardBy}
-use Rattle.jaccard.specs.Sums.{shares64}
-use Rattle.distance_sums.specs.Values.{elements, jaccardOf}
+use Rattle.jaccard.specs.inner.Sums.{shares64}
+use Rattle.distance_sums.specs.Values.{jaccardOf}
 use Rattle.distance_sums.proofs.Sums.{shares-none, shares-more}
 use Rattle.jaccard.proofs.vector_f64_distance_jaccard.Statement.{statement}
 use Rattle.jaccard.proofs.vector_f64_distance_jaccard.Tie as tie
 
 abbrev Inv-loop : tie.InvT-loop
-Inv-loop dims a b sums₀ i₀ sums i = (i ≤ dims) × (shares64 sums ≡ shares binary64 (elements Float64Dense dims a) (elements Float64Dense dims b) i)
+Inv-loop dims a b sums₀ i₀ sums i = (i ≤ dims) × (shares64 sums ≡ shares binary64 (denseElement binary64 a) (denseElement binary64 b) i)
 
 abbrev μ-loop : tie.MeasureT-loop
 μ-loop dims a b sums₀ i₀ sums i = dims - i
@@ -24,7 +23,6 @@ loop-holds : tie.Need-loop-holds Inv-loop μ-loop
 loop-holds c = (omega arith, c .new .ensures ∙ shares-none _ _ lesser greater binary64)
 
 loop-again : tie.Need-loop-again Inv-loop μ-loop
-unfolding element
 loop-again c =
     let p = ap (ofBits binary64) (c .before .before .u64-at .ensures) in
     let q = ap (ofBits binary64) (c .before .u64-at2 .ensures) in

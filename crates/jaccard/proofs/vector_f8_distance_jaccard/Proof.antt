@@ -4,18 +4,17 @@ use Prim.Native.Nat.{_-_, _≤_}
 use native.Mathlib.Omega.{arith}
 use borrow.Author.Needs.{needs}
 use lib.Ieee.{binary64}
-use Rattle.convert.specs.Elements.{element}
-use Rattle.vector_types.specs.declared.VectorType.the-variants.{Float8}
+use Rattle.bodies.specs.Elements.{float8Element}
 use Rattle.distance_sums.specs.Extremes.{lesser, greater}
 use Rattle.distance_sums.specs.Dense.{shares, jaccardBy}
-use Rattle.jaccard.specs.Sums.{shares64}
-use Rattle.distance_sums.specs.Values.{elements, jaccardOf}
+use Rattle.jaccard.specs.inner.Sums.{shares64}
+use Rattle.distance_sums.specs.Values.{jaccardOf}
 use Rattle.distance_sums.proofs.Sums.{shares-none, shares-more}
 use Rattle.jaccard.proofs.vector_f8_distance_jaccard.Statement.{statement}
 use Rattle.jaccard.proofs.vector_f8_distance_jaccard.Tie as tie
 
 abbrev Inv-loop : tie.InvT-loop
-Inv-loop dims a b u v sums₀ i₀ sums i = (i ≤ dims) × (shares64 sums ≡ shares binary64 (elements Float8 dims a) (elements Float8 dims b) i)
+Inv-loop dims a b u v sums₀ i₀ sums i = (i ≤ dims) × (shares64 sums ≡ shares binary64 (float8Element binary64 dims a) (float8Element binary64 dims b) i)
 
 abbrev μ-loop : tie.MeasureT-loop
 μ-loop dims a b u v sums₀ i₀ sums i = dims - i
@@ -24,22 +23,29 @@ loop-holds : tie.Need-loop-holds Inv-loop μ-loop
 loop-holds c = (omega arith, c .new .ensures ∙ shares-none _ _ lesser greater binary64)
 
 loop-again : tie.Need-loop-again Inv-loop μ-loop
-unfolding element
 loop-again c =
-    let p = rw (c .before .before .before .before .before .before .before .before .before .scale-of .ensures) at (c .before .before .before .element .ensures) in
-    let q = rw (c .before .before .before .before .before .before .before .before .scale-of2 .ensures) at (c .before .element2 .ensures) in
-    (omega arith, shares-more _ _ _ _ _ p q lesser greater binary64 _ _ (c .before .before .before .before .before .before .loop .inv .1) (c .step .ensures))
+    let y = c .before in
+    let x = y .before .before in
+    let l = x .before .before .before in
+    let v = l .before .before in
+    let u = v .before .before in
+    let p = rw (u .widened .ensures, u .before .scale-of .ensures) at (x .element .ensures) in
+    let q = rw (v .widened2 .ensures, v .before .scale-of2 .ensures) at (y .element2 .ensures) in
+    (omega arith, shares-more _ _ _ _ _ p q lesser greater binary64 _ _ (l .loop .inv .1) (c .step .ensures))
 
 returns : tie.Need-returns Inv-loop μ-loop
 unfolding jaccardOf
 returns c =
-    let e : c .before .before .loop .i ≡ c .before .before .before .before .before .before .before .before .args .dims = omega arith in
-    c .distance .ensures ∙ ap (jaccardBy binary64) (rw e at (c .before .before .loop .inv .1))
+    let l = c .before .before in
+    let all : l .loop .i ≡ l .before .before .before .before .before .before .before .before .args .dims = omega arith in
+    c .distance .ensures ∙ ap (jaccardBy binary64) (rw all at (l .loop .inv .1))
 
 pub vector-f8-distance-jaccard-spec : {M : Type 1} → statement M
 vector-f8-distance-jaccard-spec =
     tie.close
     (tie.spec
-    Inv-loop μ-loop (λ c κs. search needs) (λ c κs. search needs) (λ c κs. search needs) loop-holds
+    Inv-loop μ-loop
+    (λ c κs. search needs) (λ c κs. search needs) (λ c κs. search needs) (λ c κs. search needs) (λ c κs. search needs)
+    loop-holds
     (λ c. omega arith) (λ c κs. search needs) (λ c. omega arith) (λ c κs. search needs) (λ c κs. search needs) (λ c. omega arith) (λ c. omega arith)
     loop-again (λ c κs. search needs) returns)

@@ -1,6 +1,7 @@
--- Each return is a path of `chosen`, told by the comparisons.
-use mathlib.Core.Path.{refl, sym, _∙_}
-use Rattle.nearer.proofs.Compared.{chosen-by}
+-- Each return is a path of `nearerBy`, told by the comparisons.
+use mathlib.Core.Path.{refl, sym, ap, _∙_}
+use Rattle.nearer.specs.Nearer.{refusedNamingNone}
+use Rattle.nearer.proofs.Compared.{nearer-by-tests}
 use borrow.Author.Needs.{needs}
 use Rattle.nearer.proofs.choose.Statement.{statement}
 use Rattle.nearer.proofs.choose.Tie as tie
@@ -8,23 +9,24 @@ use Rattle.nearer.proofs.choose.Tie as tie
 returns : tie.Need-returns
 returns c =
     let a = c .before .before .args in
-    c .answer .ensures ∙ sym (chosen-by (a .x) (a .y) (c .before .if1 .taken) refl refl)
+    c .answer .ensures ∙ sym (nearer-by-tests (a .x) (a .y) (c .before .if1 .taken) refl refl)
 
 returns-2 : tie.Need-returns-2
 returns-2 c =
     let a = c .before .before .before .args in
-    c .answer2 .ensures ∙ sym (chosen-by (a .x) (a .y) (c .before .before .if1 .left) (c .before .if2 .taken) refl)
+    c .answer2 .ensures ∙ sym (nearer-by-tests (a .x) (a .y) (c .before .before .if1 .left) (c .before .if2 .taken) refl)
 
 returns-3 : tie.Need-returns-3
 returns-3 c =
     let a = c .before .before .before .before .args in
     c .answer3 .ensures
-    ∙ sym (chosen-by (a .x) (a .y) (c .before .before .before .if1 .left) (c .before .before .if2 .left) (c .before .if3 .taken))
+    ∙ sym (nearer-by-tests (a .x) (a .y) (c .before .before .before .if1 .left) (c .before .before .if2 .left) (c .before .if3 .taken))
 
 returns-4 : tie.Need-returns-4
 returns-4 c =
-    let a = c .before .before .before .args in
-    sym (chosen-by (a .x) (a .y) (c .before .before .if1 .left) (c .before .if2 .left) (c .if3 .left))
+    let a = c .before .before .before .before .args in
+    ap refusedNamingNone (c .plain .ensures)
+    ∙ sym (nearer-by-tests (a .x) (a .y) (c .before .before .before .if1 .left) (c .before .before .if2 .left) (c .before .if3 .left))
 
 pub choose-spec : {M : Type 1} → statement M
 choose-spec =
@@ -32,4 +34,5 @@ choose-spec =
     (tie.spec
     (λ c κs. search needs) returns
     (λ c κs. search needs) returns-2
-    (λ c κs. search needs) returns-3 returns-4)
+    (λ c κs. search needs) returns-3
+    (λ c κs. search needs) returns-4)

@@ -7,9 +7,9 @@ use lib.Seq.{length-take-le}
 use Rattle.lines.specs.Text.{word}
 use Rattle.lines.specs.Hex.{hexOf}
 use Rattle.vector_types.specs.Layout.{maxBlobLength}
-use Rattle.vector_types.specs.Write.{blobOf, writeOf, writeOutcome}
-use Rattle.vector_types.specs.declared.WriteAnswer.{WriteAnswer}
-use Rattle.vector_types.proofs.Written.{outcome-parts}
+use Rattle.blob_writer.specs.Write.{blobOf, writeOf, writeOutcome}
+use Rattle.blob_writer.specs.declared.WriteAnswer.{WriteAnswer}
+use Rattle.blob_writer.proofs.Written.{outcome-parts}
 use Rattle.lines.proofs.Fields.{same-text, puts-then}
 use Rattle.probe_blobs.specs.Blobs.{blobText, madeText}
 use Rattle.probe_blobs.proofs.BlobTexts.{written-room}

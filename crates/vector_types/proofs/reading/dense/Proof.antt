@@ -8,20 +8,20 @@ use borrow.Author.Needs.{needs}
 use Rattle.vector_types.proofs.reading.dense.Statement.{statement}
 use Rattle.vector_types.proofs.reading.dense.Tie as tie
 
-times : (n w : ℕ) → n % w ≡ 0 → n ≡ w * (n / w)
-times n w e = omega (arith, e, div-add-mod n w)
+whole-by-remainder : (n w : ℕ) → n % w ≡ 0 → n ≡ w * (n / w)
+whole-by-remainder n w e = omega (arith, e, div-add-mod n w)
 
-rest : (n w : ℕ) → n ≡ w * (n / w) → n % w ≡ 0
-rest n w e = omega (arith, e, div-add-mod n w)
+remainder-by-whole : (n w : ℕ) → n ≡ w * (n / w) → n % w ≡ 0
+remainder-by-whole n w e = omega (arith, e, div-add-mod n w)
 
 returns : tie.Need-returns
 returns c = let a = c .before .before .args in
-    let uneven : a .n ≡ a .width * (a .n / a .width) → ⊥ = λ e. c .before .if1 .taken (rest (a .n) (a .width) e) in
+    let uneven : a .n ≡ a .width * (a .n / a .width) → ⊥ = λ e. c .before .if1 .taken (remainder-by-whole (a .n) (a .width) e) in
     rw (ne-eqb _ _ uneven) (c .refuse .ensures)
 
 returns-2 : tie.Need-returns-2
 returns-2 c = let a = c .before .before .args in
-    rw (eq-eqb _ _ (times (a .n) (a .width) (c .before .if1 .left))) (c .show .ensures)
+    rw (eq-eqb _ _ (whole-by-remainder (a .n) (a .width) (c .before .if1 .left))) (c .show .ensures)
 
 pub dense-spec : {M : Type 1} → statement M
 dense-spec = tie.close (tie.spec (λ c. search needs) (λ c κs. search needs) returns (λ c. search needs) (λ c κs. search needs) returns-2)

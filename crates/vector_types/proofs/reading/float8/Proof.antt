@@ -5,7 +5,7 @@ use lib.ListN.{length}
 use mathlib.Core.Bool.{or-true}
 use borrow.Author.Tests.{eq-eqb, ne-eqb, lt-ltb, le-ltb}
 use Rattle.vector_types.proofs.ByKind.{read-float8}
-use Rattle.vector_types.proofs.Ends.{named-odd}
+use Rattle.vector_types.proofs.Ends.{named-typed}
 use Rattle.vector_types.specs.declared.VectorType.the-variants.{Float8}
 use borrow.Author.Needs.{needs}
 use native.Mathlib.Omega.{arith}
@@ -13,7 +13,7 @@ use Rattle.vector_types.proofs.reading.float8.Statement.{statement}
 use Rattle.vector_types.proofs.reading.float8.Tie as tie
 
 sub-n : tie.Need-sub-n
-sub-n c = omega (arith, named-odd _ Float8 (c .before .pre .1) refl .one-more)
+sub-n c = omega (arith, named-typed _ Float8 (c .before .pre .1) refl .one-more)
 
 returns : tie.Need-returns
 returns c =

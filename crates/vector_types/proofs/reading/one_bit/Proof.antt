@@ -4,7 +4,7 @@ use Prim.Native.Nat.{_-_}
 use lib.ListN.{length}
 use borrow.Author.Tests.{eq-eqb, ne-eqb, lt-ltb, le-ltb, le-leb, lt-leb}
 use Rattle.vector_types.proofs.ByKind.{read-one-bit}
-use Rattle.vector_types.proofs.Ends.{named-odd}
+use Rattle.vector_types.proofs.Ends.{named-typed}
 use Rattle.vector_types.specs.declared.VectorType.the-variants.{Float1Bit}
 use borrow.Author.Needs.{needs}
 use native.Mathlib.Omega.{arith}
@@ -12,7 +12,7 @@ use Rattle.vector_types.proofs.reading.one_bit.Statement.{statement}
 use Rattle.vector_types.proofs.reading.one_bit.Tie as tie
 
 sub-n : tie.Need-sub-n
-sub-n c = omega (arith, named-odd _ Float1Bit (c .before .pre .1) refl .one-more)
+sub-n c = omega (arith, named-typed _ Float1Bit (c .before .pre .1) refl .one-more)
 
 returns : tie.Need-returns
 returns c =

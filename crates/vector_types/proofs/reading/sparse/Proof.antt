@@ -2,7 +2,7 @@
 use mathlib.Core.Path.{refl, sym, _∙_}
 use borrow.Author.Tests.{eq-eqb, ne-eqb, lt-ltb, le-ltb}
 use Rattle.vector_types.proofs.ByKind.{read-sparse}
-use Rattle.vector_types.proofs.Ends.{named-odd}
+use Rattle.vector_types.proofs.Ends.{named-typed}
 use Rattle.vector_types.specs.declared.VectorType.the-variants.{Float32Sparse}
 use borrow.Author.Needs.{needs}
 use native.Mathlib.Omega.{arith}
@@ -10,7 +10,7 @@ use Rattle.vector_types.proofs.reading.sparse.Statement.{statement}
 use Rattle.vector_types.proofs.reading.sparse.Tie as tie
 
 sub-n : tie.Need-sub-n
-sub-n c = omega (arith, named-odd _ Float32Sparse (c .before .pre .1) refl .one-more)
+sub-n c = omega (arith, named-typed _ Float32Sparse (c .before .pre .1) refl .one-more)
 
 returns : tie.Need-returns
 returns c =

@@ -1,7 +1,7 @@
 -- The root is the one of the definition.
 use borrow.Author.Needs.{needs}
 use lib.Ieee.{binary32, ofBits}
-use Rattle.distance_cos.specs.Sums.{products32}
+use Rattle.distance_cos.specs.inner.Sums.{products32}
 use Rattle.distance_cos.proofs.Cosines.{angle-by}
 use Rattle.distance_cos.proofs.sums.CosSums32.angle.Statement.{statement}
 use Rattle.distance_cos.proofs.sums.CosSums32.angle.Tie as tie

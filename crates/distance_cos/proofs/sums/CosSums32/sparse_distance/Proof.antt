@@ -2,7 +2,7 @@
 use mathlib.Core.Path.{_∙_}
 use borrow.Author.Needs.{needs}
 use lib.Ieee.{ofBits, div}
-use Rattle.distance_cos.specs.Sums.{products32}
+use Rattle.distance_cos.specs.inner.Sums.{products32}
 use Rattle.distance_cos.proofs.Cosines.{sparse-nan, sparse-angle}
 use Rattle.distance_cos.proofs.sums.CosSums32.sparse_distance.Statement.{statement}
 use Rattle.distance_cos.proofs.sums.CosSums32.sparse_distance.Tie as tie

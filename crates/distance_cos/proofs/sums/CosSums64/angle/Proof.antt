@@ -1,7 +1,7 @@
 -- The root is the one of the definition.
 use borrow.Author.Needs.{needs}
 use lib.Ieee.{binary64, ofBits}
-use Rattle.distance_cos.specs.Sums.{products64}
+use Rattle.distance_cos.specs.inner.Sums.{products64}
 use Rattle.distance_cos.proofs.Cosines.{angle-by}
 use Rattle.distance_cos.proofs.sums.CosSums64.angle.Statement.{statement}
 use Rattle.distance_cos.proofs.sums.CosSums64.angle.Tie as tie

@@ -1,0 +1,8 @@
+-- Laws of blobs that are written, and of those that are read and written again
+pub mod Appended
+pub mod Determined
+pub mod Rewritten
+pub mod RewrittenStrictly
+pub mod Tails
+pub mod Unchanged
+pub mod Written

@@ -1,0 +1,39 @@
+-- A sparse blob as a Float32Dense one, and what each distance asks of two sparse bodies so that it stays the same.
+use Prim.Native.Nat.{ℕ, _*_, _<_}
+use mathlib.Core.Path.{_≡_}
+use mathlib.Core.Bool.{false}
+use mathlib.Core.List.{List}
+use lib.Dec.{T}
+use lib.Ieee.Scale.{finite}
+use Rattle.little_endian.specs.Bytes.{f32At}
+use Rattle.vector_types.specs.Parts.{bodyOf}
+use Rattle.blob_writer.specs.Write.{blobOf}
+use Rattle.vector_types.specs.declared.View.{View}
+use Rattle.vector_types.specs.declared.VectorType.the-variants.{Float32Dense, Float32Sparse}
+use Rattle.bodies.specs.Entries.{storedCount}
+use Rattle.convert_parts.specs.Result.{resultOf}
+use Rattle.distance_sums.specs.Dense.{Products, isZero}
+use Rattle.distance_sums.specs.Sparse.{sparseProducts}
+use Rattle.distance.specs.declared.Distance.{Distance}
+use Rattle.distance.specs.declared.Distance.the-variants.{Cos, L2, Dot, Jaccard}
+
+-- the blob that the writer makes of what the blob s, with the view v, is converted to
+abbrev pub denseForm : List ℕ → View → List ℕ
+denseForm s v = blobOf Float32Dense (v .dims .0) (resultOf Float32Sparse Float32Dense (v .dims .0) (bodyOf s))
+
+-- all stored values are finite
+abbrev pub AllFinite : List ℕ → Type 0
+AllFinite body = (j : ℕ) → j < storedCount body → T (finite (f32At body (4 * j)))
+
+-- no sum is a zero of either sign, as computed; NaN and the infinities are none
+pub record NoZero (s : Products) : Type 0 where
+  pub dot : isZero (s .dot) ≡ false
+  pub norm1 : isZero (s .norm1) ≡ false
+  pub norm2 : isZero (s .norm2) ≡ false
+
+-- what is asked of two bodies, besides that their indices rise
+abbrev pub Premises : Distance → List ℕ → List ℕ → Type 0
+Premises Cos a b = AllFinite a × AllFinite b × NoZero (sparseProducts a b)
+Premises L2 a b = Unit
+Premises Dot a b = AllFinite a × AllFinite b
+Premises Jaccard a b = Unit
