@@ -8,20 +8,31 @@
  *
  * - The result is 0 for an answer, else the number of a refusal (below). No call ends the program,
  *   allocates, keeps a pointer or has a state: calls may run side by side on buffers of their own.
- * - A lent number (`*kind`, `*dims`, ..) is written only where there is a value for it, as its function
- *   says. Else it keeps what it held, so look at the result first. No refusal changes a byte of a
- *   lent buffer.
- * - A blob, body or buffer is a pointer and a length in bytes. Bytes need no alignment; a `size_t *`
- *   or `double *` needs that of its type. Where the length is 0 nothing is read or written through
- *   the pointer, and it may be NULL. A pointer to a number may never be NULL.
- * - What is written (`out`, `scratch`, every number) overlaps nothing else that the same call is lent.
- *   What is only read (blobs, a body) may overlap or be the same.
+ * - Values are handed out in one struct that the caller lends, `struct fulandewu_answer`. A call writes
+ *   the fields that its answer or its refusal has, as its function says, and leaves every bit of the
+ *   others: look at the result first. No refusal changes a byte of `out` or `scratch`.
+ * - A blob, body or buffer is a pointer and a length in bytes. Bytes need no alignment; the answer needs
+ *   that of its type. Where the length is 0 nothing is read or written through the pointer, and it may
+ *   be NULL. `answer` may never be NULL.
+ *
+ * What every caller keeps to. Else nothing is promised, and memory may be corrupted:
+ *
+ * - A length is that of real memory: all of these bytes may be read or, of `out` and `scratch`, written.
+ * - Nothing that is lent changes until the call returns, by a thread, a signal handler or a device:
+ *   indices are tested, and then used.
+ * - What is written (`out`, `scratch`, `answer`) overlaps nothing else that the same call is lent. What
+ *   is only read (blobs, a body) may overlap or be the same.
+ * - The floating-point environment is the default one: rounding to nearest, subnormals kept, exceptions
+ *   masked. A program that is linked with -ffast-math, or loads a library that is, may not have it: the
+ *   start-up code then flushes subnormals to zero.
+ *
+ * What is only written (`out`, `scratch`, `answer`) may be uninitialised.
  *
  * Three mistakes that lose sessions:
  *
  * - An absent reading is not a reading of 0: a sparse vector without entries has cosine NaN; made dense
  *   it is a vector of zeros, and the difference is gone. And after a refusal there is no distance,
- *   whatever the double holds.
+ *   whatever the field holds.
  * - Distance zero is not likeness: cosine is 0.0 for two vectors of zeros, and for vectors that only
  *   point the same way. NaN is an answer too, always the pattern 7ff8000000000000, and says that there
  *   is no likeness to measure: test `x != x` before comparing, since every comparison with it is false.
@@ -83,73 +94,101 @@ enum fulandewu_which {
 #define FULANDEWU_LONGEST 524293
 #define FULANDEWU_MOST_DIMS 65536
 
-/* Reads a blob: its kind, its dims, and the length of its body. No byte is copied: the body is the
- * first `*length` bytes of the caller's own blob. A sparse body is its values (f32) in the first half
- * and its indices (u32) in the second; numbers are little-endian.
- * Refusals: 1 to 9, in that order. */
-uint32_t fulandewu_read(const uint8_t *blob, size_t blob_length,
-                        uint8_t *kind, size_t *dims, size_t *length);
+/* What the functions hand out: 32 fields of 8 bytes, whose order and number never change. Those that no
+ * function below names are for later ones; today none is written. */
+struct fulandewu_answer {
+    double distance; /* NaN is always the pattern 7ff8000000000000 */
+    uint64_t kind;   /* an enum fulandewu_kind */
+    uint64_t dims;   /* the number of elements */
+    uint64_t length; /* of a body, or of a blob that is written, in bytes */
+    uint64_t needed; /* how long a buffer has to be that is too short, in bytes */
+    uint64_t which;  /* an enum fulandewu_which: the blob that a refusal is about */
+    uint64_t nearer; /* FULANDEWU_FIRST or FULANDEWU_SECOND: the nearer candidate */
+    uint64_t entry;
+    uint64_t readings;
+    uint64_t other_readings;
+    uint64_t start;
+    uint64_t next;
+    uint64_t place;
+    uint64_t reserved[19];
+};
 
-/* The same, and asks besides that sparse indices are in order and unused bits zero.
- * Refusals: 1 to 11, in that order. Conversions and distances read plainly. */
-uint32_t fulandewu_read_strict(const uint8_t *blob, size_t blob_length,
-                               uint8_t *kind, size_t *dims, size_t *length);
+/* Where this does not compile, the archive is not for the target: it is for 64-bit x86-64 Linux. */
+typedef char fulandewu_answer_has_256_bytes[sizeof(struct fulandewu_answer) == 256 ? 1 : -1];
+typedef char fulandewu_lengths_have_8_bytes[sizeof(size_t) == 8 ? 1 : -1];
+
+/* Reads a blob. No byte is copied: the body is the first `length` bytes of the caller's own blob. A
+ * sparse body is its values (f32) in the first half and its indices (u32) in the second; numbers are
+ * little-endian.
+ * An answer writes `kind`, `dims` and `length`, a refusal nothing.
+ * Refusals: 1 to 9, in that order. */
+uint32_t fulandewu_read(const uint8_t *blob, size_t blob_length, struct fulandewu_answer *answer);
+
+/* The same, and asks besides that sparse indices are in order and unused bits zero. Conversions and
+ * distances read plainly.
+ * Refusals: 1 to 11, in that order. */
+uint32_t fulandewu_read_strict(const uint8_t *blob, size_t blob_length, struct fulandewu_answer *answer);
 
 /* Writes the blob of a kind, dims and body (a sparse body: values, then indices, without dims) to the
- * first `*written` bytes of `out`, and changes no byte past them. It reads back as the same kind, dims
- * and body. Refusals: 2 or 3 where `kind` names no kind, then 9, 7, 1, 8, 16, 15, in that order.
- * 15 writes into `*needed`, and nothing else does, how long `out` has to be; `out` may have length 0
- * to ask for that. */
+ * first `length` bytes of `out`, and changes no byte past them. It reads back as the same kind, dims
+ * and body. `out` may have length 0, to ask how long it has to be.
+ * An answer writes `length`, refusal 15 `needed`, another refusal nothing.
+ * Refusals: 2 or 3 where `kind` names no kind, then 9, 7, 1, 8, 16, 15, in that order. */
 uint32_t fulandewu_write(uint8_t kind, size_t dims, const uint8_t *body, size_t body_length,
-                         uint8_t *out, size_t out_length, size_t *written, size_t *needed);
+                         uint8_t *out, size_t out_length, struct fulandewu_answer *answer);
 
 /* Converts a blob to another kind, or the same: the new body (not a blob: fulandewu_write makes one of
- * it) goes to the first `*length` bytes of `out`, and no byte past them changes. `scratch` is used only
+ * it) goes to the first `length` bytes of `out`, and no byte past them changes. `scratch` is used only
  * from sparse to 1-bit or Float8: 4 * dims bytes, where the dense body is left; else it may have
- * length 0. Refusals: 2 or 3 where `kind` names no kind, then the reader's 1 to 9, then 17, 15.
- * 17 and 15 write into `*needed`, and nothing else does, how long `scratch` or `out` has to be. */
+ * length 0.
+ * An answer writes `dims` and `length`, refusals 17 (of `scratch`) and 15 (of `out`) write `needed`,
+ * another refusal nothing.
+ * Refusals: 2 or 3 where `kind` names no kind, then the reader's 1 to 9, then 17, 15. */
 uint32_t fulandewu_convert(const uint8_t *blob, size_t blob_length, uint8_t kind,
                            uint8_t *scratch, size_t scratch_length, uint8_t *out, size_t out_length,
-                           size_t *dims, size_t *length, size_t *needed);
+                           struct fulandewu_answer *answer);
 
 /* The distance of two blobs. Dot is the negated dot product; cosine of 1-bit vectors is the count of
- * differing bits. Refusals: the reader's 1 to 9 of the first blob, then of the second; 12, 13; L2 of
- * 1-bit vectors: 14. An answer writes `*distance` only, and it may be NaN; a refusal writes `*which`
- * only: FULANDEWU_FIRST or FULANDEWU_SECOND, from 12 on FULANDEWU_NEITHER. */
+ * differing bits.
+ * An answer writes `distance`, which may be NaN; a refusal writes `which`: FULANDEWU_FIRST or
+ * FULANDEWU_SECOND, from 12 on FULANDEWU_NEITHER.
+ * Refusals: the reader's 1 to 9 of the first blob, then of the second; 12, 13; L2 of 1-bit vectors:
+ * 14. */
 uint32_t fulandewu_distance_cos(const uint8_t *first, size_t first_length,
                                 const uint8_t *second, size_t second_length,
-                                double *distance, uint8_t *which);
+                                struct fulandewu_answer *answer);
 uint32_t fulandewu_distance_l2(const uint8_t *first, size_t first_length,
                                const uint8_t *second, size_t second_length,
-                               double *distance, uint8_t *which);
+                               struct fulandewu_answer *answer);
 uint32_t fulandewu_distance_dot(const uint8_t *first, size_t first_length,
                                 const uint8_t *second, size_t second_length,
-                                double *distance, uint8_t *which);
+                                struct fulandewu_answer *answer);
 uint32_t fulandewu_distance_jaccard(const uint8_t *first, size_t first_length,
                                     const uint8_t *second, size_t second_length,
-                                    double *distance, uint8_t *which);
+                                    struct fulandewu_answer *answer);
 
 /* The nearer of two candidates to a probe, which is the first vector of each pair. A tie (0.0 against
- * -0.0 too) gives the first, and NaN loses to all else. Refusals: the reader's of the probe, the first
- * and the second; 12, 13 of the first pair, then of the second; 14; 18. An answer writes `*nearer`
- * (FULANDEWU_FIRST or FULANDEWU_SECOND) and `*distance`, never NaN; a refusal writes `*which` only:
- * FULANDEWU_PROBE, FULANDEWU_FIRST or FULANDEWU_SECOND, from 12 on FULANDEWU_NEITHER. */
+ * -0.0 too) gives the first, and NaN loses to all else.
+ * An answer writes `nearer` and `distance`, which is never NaN; a refusal writes `which`:
+ * FULANDEWU_PROBE, FULANDEWU_FIRST or FULANDEWU_SECOND, from 12 on FULANDEWU_NEITHER.
+ * Refusals: the reader's 1 to 9 of the probe, the first and the second; 12, 13 of the first pair, then
+ * of the second; 14; 18. */
 uint32_t fulandewu_nearer_cos(const uint8_t *probe, size_t probe_length,
                               const uint8_t *first, size_t first_length,
                               const uint8_t *second, size_t second_length,
-                              uint8_t *nearer, double *distance, uint8_t *which);
+                              struct fulandewu_answer *answer);
 uint32_t fulandewu_nearer_l2(const uint8_t *probe, size_t probe_length,
                              const uint8_t *first, size_t first_length,
                              const uint8_t *second, size_t second_length,
-                             uint8_t *nearer, double *distance, uint8_t *which);
+                             struct fulandewu_answer *answer);
 uint32_t fulandewu_nearer_dot(const uint8_t *probe, size_t probe_length,
                               const uint8_t *first, size_t first_length,
                               const uint8_t *second, size_t second_length,
-                              uint8_t *nearer, double *distance, uint8_t *which);
+                              struct fulandewu_answer *answer);
 uint32_t fulandewu_nearer_jaccard(const uint8_t *probe, size_t probe_length,
                                   const uint8_t *first, size_t first_length,
                                   const uint8_t *second, size_t second_length,
-                                  uint8_t *nearer, double *distance, uint8_t *which);
+                                  struct fulandewu_answer *answer);
 
 #ifdef __cplusplus
 }

@@ -1,9 +1,21 @@
 //! Our side: the exports of the archive, `crates/fulandewu`, which start from blobs.
 
+use std::mem::MaybeUninit;
+
 use crate::rules::{Kind, Measure};
 
-pub type Function =
-    unsafe extern "C" fn(*const u8, usize, *const u8, usize, *mut f64, *mut u8) -> u32;
+/// The answer that a call is lent, as include/fulandewu.h has it. It is only written.
+#[repr(C)]
+#[allow(dead_code)]
+pub struct Answer {
+    distance: f64,
+    kind: u64,
+    dims: u64,
+    length: u64,
+    others: [u64; 28],
+}
+
+pub type Function = unsafe extern "C" fn(*const u8, usize, *const u8, usize, *mut Answer) -> u32;
 
 #[link(name = "fulandewu", kind = "static")]
 extern "C" {
@@ -12,32 +24,28 @@ extern "C" {
         first_len: usize,
         second: *const u8,
         second_len: usize,
-        distance: *mut f64,
-        which: *mut u8,
+        answer: *mut Answer,
     ) -> u32;
     fn fulandewu_distance_l2(
         first: *const u8,
         first_len: usize,
         second: *const u8,
         second_len: usize,
-        distance: *mut f64,
-        which: *mut u8,
+        answer: *mut Answer,
     ) -> u32;
     fn fulandewu_distance_dot(
         first: *const u8,
         first_len: usize,
         second: *const u8,
         second_len: usize,
-        distance: *mut f64,
-        which: *mut u8,
+        answer: *mut Answer,
     ) -> u32;
     fn fulandewu_distance_jaccard(
         first: *const u8,
         first_len: usize,
         second: *const u8,
         second_len: usize,
-        distance: *mut f64,
-        which: *mut u8,
+        answer: *mut Answer,
     ) -> u32;
     fn fulandewu_convert(
         blob: *const u8,
@@ -47,9 +55,7 @@ extern "C" {
         scratch_len: usize,
         out: *mut u8,
         out_len: usize,
-        dims: *mut usize,
-        length: *mut usize,
-        needed: *mut usize,
+        answer: *mut Answer,
     ) -> u32;
 }
 
@@ -64,20 +70,20 @@ pub fn function(measure: Measure) -> Function {
 
 /// A distance, or the number of the refusal.
 pub fn distance(function: Function, first: &[u8], second: &[u8]) -> Result<f64, u32> {
-    let (mut distance, mut which) = (0.0, 0);
-    // SAFETY: each pair is a slice, and the two places are this function's own.
+    let mut answer = MaybeUninit::<Answer>::uninit();
+    // SAFETY: each pair is a slice, and the answer is this function's own.
     let number = unsafe {
         function(
             first.as_ptr(),
             first.len(),
             second.as_ptr(),
             second.len(),
-            &mut distance,
-            &mut which,
+            answer.as_mut_ptr(),
         )
     };
     if number == 0 {
-        Ok(distance)
+        // SAFETY: an answer has its distance written.
+        Ok(unsafe { (*answer.as_ptr()).distance })
     } else {
         Err(number)
     }
@@ -105,8 +111,8 @@ pub fn convert<'a>(
     room: &'a mut Room,
 ) -> Result<(usize, &'a [u8]), u32> {
     let Room { scratch, out } = room;
-    let (mut dims, mut length, mut needed) = (0, 0, 0);
-    // SAFETY: each pair is a slice, no two overlap, and the three places are this function's own.
+    let mut answer = MaybeUninit::<Answer>::uninit();
+    // SAFETY: each pair is a slice, no two overlap, and the answer is this function's own.
     let number = unsafe {
         fulandewu_convert(
             blob.as_ptr(),
@@ -116,13 +122,13 @@ pub fn convert<'a>(
             scratch.len(),
             out.as_mut_ptr(),
             out.len(),
-            &mut dims,
-            &mut length,
-            &mut needed,
+            answer.as_mut_ptr(),
         )
     };
     if number == 0 {
-        Ok((dims, &out[..length]))
+        // SAFETY: an answer has its dims and its length written.
+        let (dims, length) = unsafe { ((*answer.as_ptr()).dims, (*answer.as_ptr()).length) };
+        Ok((dims as usize, &out[..length as usize]))
     } else {
         Err(number)
     }

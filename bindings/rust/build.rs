@@ -1,5 +1,5 @@
 //! Links libfulandewu.a: from the directory that FULANDEWU_LIB_DIR names, else from the repository's
-//! target/staticlib.
+//! target/staticlib. It is for 64-bit x86-64 Linux, and another target is refused.
 
 use std::env;
 use std::path::PathBuf;
@@ -8,6 +8,7 @@ const ARCHIVE: &str = "libfulandewu.a";
 
 fn main() {
     println!("cargo:rerun-if-env-changed=FULANDEWU_LIB_DIR");
+    refuse_other_targets();
     let folder = match env::var_os("FULANDEWU_LIB_DIR") {
         Some(named) => PathBuf::from(named),
         None => PathBuf::from(
@@ -28,14 +29,19 @@ fn main() {
         );
         std::process::exit(1);
     }
-    let target = env::var("CARGO_CFG_TARGET_ARCH").unwrap_or_default();
-    if target != "x86_64" {
+    println!("cargo:rustc-link-search=native={}", folder.display());
+    println!("cargo:rustc-link-lib=static=fulandewu");
+}
+
+fn refuse_other_targets() {
+    let about = |name: &str| env::var(format!("CARGO_CFG_TARGET_{}", name)).unwrap_or_default();
+    let (processor, width, system) = (about("ARCH"), about("POINTER_WIDTH"), about("OS"));
+    if (&processor[..], &width[..], &system[..]) != ("x86_64", "64", "linux") {
         eprintln!(
-            "{} is for x86-64, and this build is for {}.",
-            ARCHIVE, target
+            "{} is for 64-bit x86-64 Linux, and this build is for {}-bit {} {}.\n\
+             `cargo build --target x86_64-unknown-linux-gnu` builds for the former.",
+            ARCHIVE, width, processor, system
         );
         std::process::exit(1);
     }
-    println!("cargo:rustc-link-search=native={}", folder.display());
-    println!("cargo:rustc-link-lib=static=fulandewu");
 }

@@ -12,32 +12,53 @@ const char *const EXPORT_NAMES[EXPORTS] = {
     "fulandewu_nearer_cos", "fulandewu_nearer_l2", "fulandewu_nearer_dot", "fulandewu_nearer_jaccard",
 };
 
-unsigned long calls;
+unsigned long calls, fields_seen;
 unsigned long seen[EXPORTS][REFUSALS];
 
-static const char *const NUMBER_NAMES[NUMBERS] = {"kind", "dims", "length", "written", "needed", "distance", "nearer",
-                                                  "which"};
-static const size_t SIZES[NUMBERS] = {1, sizeof(size_t), sizeof(size_t), sizeof(size_t), sizeof(size_t),
-                                      sizeof(double), 1, 1};
+static const char *const FIELD_NAMES[FIELDS] = {
+    "distance", "kind", "dims", "length", "needed", "which", "nearer",
+    "entry", "readings", "other_readings", "start", "next", "place",
+    "reserved[0]", "reserved[1]", "reserved[2]", "reserved[3]", "reserved[4]", "reserved[5]", "reserved[6]",
+    "reserved[7]", "reserved[8]", "reserved[9]", "reserved[10]", "reserved[11]", "reserved[12]", "reserved[13]",
+    "reserved[14]", "reserved[15]", "reserved[16]", "reserved[17]", "reserved[18]",
+};
+
+/* The places of the fields, which never change. */
+#define STANDS_AT(field, place) \
+    typedef char field##_stands_at_##place[offsetof(struct fulandewu_answer, field) == 8 * place ? 1 : -1]
+STANDS_AT(distance, 0);
+STANDS_AT(kind, 1);
+STANDS_AT(dims, 2);
+STANDS_AT(length, 3);
+STANDS_AT(needed, 4);
+STANDS_AT(which, 5);
+STANDS_AT(nearer, 6);
+STANDS_AT(entry, 7);
+STANDS_AT(readings, 8);
+STANDS_AT(other_readings, 9);
+STANDS_AT(start, 10);
+STANDS_AT(next, 11);
+STANDS_AT(place, 12);
+STANDS_AT(reserved, 13);
 
 /* The three ways in which everything is lent: against either guarded page, and at an odd address with
- * NULL for what is empty. What is to be written holds another byte each time. */
+ * NULL for what is empty. What is to be written holds another byte each time; 0xff makes a field a NaN. */
 static const struct way {
-    enum place bytes, numbers;
+    enum place bytes, answer;
     uint8_t fill;
     int empty_is_null;
-} WAYS[3] = {{AT_START, AT_START, 0xa5, 0}, {AT_END, AT_END, 0x5a, 0}, {ODD, AT_START, 0x3c, 1}};
+} WAYS[3] = {{AT_START, AT_START, 0xa5, 0}, {AT_END, AT_END, 0xff, 0}, {ODD, AT_START, 0x3c, 1}};
 
 struct call {
     const uint8_t *bytes[3];
     uint8_t *scratch, *out;
-    void *number[NUMBERS];
+    struct fulandewu_answer *answer;
 };
 
-typedef uint32_t reader(const uint8_t *, size_t, uint8_t *, size_t *, size_t *);
-typedef uint32_t measure(const uint8_t *, size_t, const uint8_t *, size_t, double *, uint8_t *);
+typedef uint32_t reader(const uint8_t *, size_t, struct fulandewu_answer *);
+typedef uint32_t measure(const uint8_t *, size_t, const uint8_t *, size_t, struct fulandewu_answer *);
 typedef uint32_t chooser(const uint8_t *, size_t, const uint8_t *, size_t, const uint8_t *, size_t,
-                         uint8_t *, double *, uint8_t *);
+                         struct fulandewu_answer *);
 
 static reader *const READERS[] = {fulandewu_read, fulandewu_read_strict};
 static measure *const MEASURES[] = {fulandewu_distance_cos, fulandewu_distance_l2, fulandewu_distance_dot,
@@ -48,26 +69,22 @@ static chooser *const CHOOSERS[] = {fulandewu_nearer_cos, fulandewu_nearer_l2, f
 static uint32_t call_export(const struct request *r, const struct call *c) {
     const uint8_t *const *b = c->bytes;
     const struct bytes *l = r->bytes;
-    void *const *n = c->number;
     calls++;
-    if (r->export <= READ_STRICT)
-        return READERS[r->export - READ](b[0], l[0].length, n[KIND], n[DIMS], n[LENGTH]);
+    if (r->export <= READ_STRICT) return READERS[r->export - READ](b[0], l[0].length, c->answer);
     if (r->export == WRITE)
-        return fulandewu_write(r->kind, r->dims, b[0], l[0].length, c->out, r->out, n[WRITTEN], n[NEEDED]);
+        return fulandewu_write(r->kind, r->dims, b[0], l[0].length, c->out, r->out, c->answer);
     if (r->export == CONVERT)
-        return fulandewu_convert(b[0], l[0].length, r->kind, c->scratch, r->scratch, c->out, r->out,
-                                 n[DIMS], n[LENGTH], n[NEEDED]);
+        return fulandewu_convert(b[0], l[0].length, r->kind, c->scratch, r->scratch, c->out, r->out, c->answer);
     if (r->export <= DISTANCE_JACCARD)
-        return MEASURES[r->export - DISTANCE_COS](b[0], l[0].length, b[1], l[1].length, n[DISTANCE], n[WHICH]);
-    return CHOOSERS[r->export - NEARER_COS](b[0], l[0].length, b[1], l[1].length, b[2], l[2].length,
-                                            n[NEARER], n[DISTANCE], n[WHICH]);
+        return MEASURES[r->export - DISTANCE_COS](b[0], l[0].length, b[1], l[1].length, c->answer);
+    return CHOOSERS[r->export - NEARER_COS](b[0], l[0].length, b[1], l[1].length, b[2], l[2].length, c->answer);
 }
 
-/* The numbers that an answer or a refusal writes, as a set. */
-static unsigned told_by(enum export export, uint32_t refusal) {
+/* The fields that an answer or a refusal writes, as a set. */
+static uint32_t written_by(enum export export, uint32_t refusal) {
     int short_of = refusal == FULANDEWU_OUTPUT_TOO_SHORT || refusal == FULANDEWU_SCRATCH_TOO_SHORT;
     if (export <= READ_STRICT) return refusal ? 0 : 1u << KIND | 1u << DIMS | 1u << LENGTH;
-    if (export == WRITE) return short_of ? 1u << NEEDED : refusal ? 0 : 1u << WRITTEN;
+    if (export == WRITE) return short_of ? 1u << NEEDED : refusal ? 0 : 1u << LENGTH;
     if (export == CONVERT) return short_of ? 1u << NEEDED : refusal ? 0 : 1u << DIMS | 1u << LENGTH;
     if (export <= DISTANCE_JACCARD) return refusal ? 1u << WHICH : 1u << DISTANCE;
     return refusal ? 1u << WHICH : 1u << NEARER | 1u << DISTANCE;
@@ -75,14 +92,13 @@ static unsigned told_by(enum export export, uint32_t refusal) {
 
 /* How many first bytes of the buffers an answer writes. */
 static size_t output_of(const struct request *r, const struct answer *a) {
-    if (a->refusal) return 0;
-    return r->export == WRITE ? a->number[WRITTEN] : r->export == CONVERT ? a->number[LENGTH] : 0;
+    return !a->refusal && (r->export == WRITE || r->export == CONVERT) ? a->field[LENGTH] : 0;
 }
 static size_t scratch_of(const struct request *r, const struct answer *a) {
     struct bytes blob = r->bytes[0];
     int sparse = blob.length % 2 == 1 && blob.at[blob.length - 1] == FULANDEWU_FLOAT32_SPARSE;
     int packed = r->kind == FULANDEWU_FLOAT1BIT || r->kind == FULANDEWU_FLOAT8;
-    return r->export == CONVERT && !a->refusal && sparse && packed ? 4 * a->number[DIMS] : 0;
+    return r->export == CONVERT && !a->refusal && sparse && packed ? 4 * a->field[DIMS] : 0;
 }
 
 static struct call lend_all(const struct request *r, const struct way *way) {
@@ -95,22 +111,22 @@ static struct call lend_all(const struct request *r, const struct way *way) {
     c.out = lend_buffer(OUTPUT, way->bytes, r->out, way->fill);
     if (way->empty_is_null && r->scratch == 0) c.scratch = NULL;
     if (way->empty_is_null && r->out == 0) c.out = NULL;
-    for (int n = 0; n < NUMBERS; n++)
-        c.number[n] = lend_buffer((enum room)(NUMBER_1 + n), way->numbers, SIZES[n], way->fill);
+    c.answer = (struct fulandewu_answer *)(void *)lend_buffer(ANSWER, way->answer, sizeof *c.answer, way->fill);
     return c;
 }
 
-/* The numbers that are told; every other one holds what it held. */
-static void hear(struct answer *a, const struct call *c, unsigned told, uint8_t fill) {
-    for (int n = 0; n < NUMBERS; n++) {
-        if (!(told >> n & 1)) {
-            untouched_from((enum room)(NUMBER_1 + n), 0);
-            continue;
-        }
-        uint64_t before = 0;
-        memset(&before, fill, SIZES[n]);
-        memcpy(&a->number[n], c->number[n], SIZES[n]);
-        if (a->number[n] == before) fail("%s is not written", NUMBER_NAMES[n]);
+/* Looks at every field: one that is to be written holds another value than before, and every other one
+ * all of its bits. */
+static void look_at_fields(struct answer *a, const struct call *c, uint32_t written, uint8_t fill) {
+    uint64_t before, now[FIELDS];
+    memset(&before, fill, sizeof before);
+    memcpy(now, c->answer, sizeof now);
+    for (int f = 0; f < FIELDS; f++) {
+        int is_written = written >> f & 1;
+        if (is_written && now[f] == before) fail("%s is not written", FIELD_NAMES[f]);
+        if (!is_written && now[f] != before) fail("%s is written", FIELD_NAMES[f]);
+        a->field[f] = is_written ? now[f] : 0;
+        fields_seen++;
     }
 }
 
@@ -120,7 +136,7 @@ static struct answer ask_one_way(const struct request *r, const struct way *way,
     memset(&a, 0, sizeof a);
     a.refusal = call_export(r, &c);
     if (a.refusal >= REFUSALS) fail("the result is %lu, no refusal's number", (unsigned long)a.refusal);
-    hear(&a, &c, told_by(r->export, a.refusal), way->fill);
+    look_at_fields(&a, &c, written_by(r->export, a.refusal), way->fill);
     a.out.length = output_of(r, &a);
     a.scratch.length = scratch_of(r, &a);
     untouched_from(OUTPUT, a.out.length);
@@ -145,7 +161,7 @@ struct answer ask(struct request request) {
     for (int way = 1; way < 3; way++) {
         struct answer again = ask_one_way(&request, &WAYS[way], kept[1]);
         if (again.refusal != first.refusal) fail("another result at another place");
-        if (memcmp(again.number, first.number, sizeof first.number) != 0) fail("other numbers at another place");
+        if (memcmp(again.field, first.field, sizeof first.field) != 0) fail("other fields at another place");
         if (!equal(again.out, first.out) || !equal(again.scratch, first.scratch))
             fail("other bytes at another place");
     }

@@ -14,8 +14,8 @@ enum export {
 
 extern const char *const EXPORT_NAMES[EXPORTS];
 
-/* The numbers that answers are told in. */
-enum number { KIND, DIMS, LENGTH, WRITTEN, NEEDED, DISTANCE, NEARER, WHICH, NUMBERS };
+/* The fields of `struct fulandewu_answer` by their places; the others are never written. */
+enum field { DISTANCE, KIND, DIMS, LENGTH, NEEDED, WHICH, NEARER, FIELDS = 32 };
 
 struct bytes {
     const uint8_t *at;
@@ -31,11 +31,11 @@ struct request {
     size_t dims, scratch, out;
 };
 
-/* What is answered: a refusal or 0, the numbers told (a double by its pattern, 0 for one not told),
- * and what stands in the first bytes of out and scratch, good until the next call. */
+/* What is answered: a refusal or 0, the fields that were written (a double by its pattern, 0 for one
+ * that was not), and what stands in the first bytes of out and scratch, good until the next call. */
 struct answer {
     uint32_t refusal;
-    uint64_t number[NUMBERS];
+    uint64_t field[FIELDS];
     struct bytes out, scratch;
 };
 
@@ -43,8 +43,8 @@ struct answer ask(struct request request);
 
 enum { REFUSALS = 19 };
 
-/* How often exports were called, and how many requests were answered how. */
-extern unsigned long calls;
+/* How often exports were called, how many fields were looked at, and how many requests were answered how. */
+extern unsigned long calls, fields_seen;
 extern unsigned long seen[EXPORTS][REFUSALS];
 
 #endif

@@ -38,9 +38,15 @@ static struct answer expect(struct request request, uint32_t refusal) {
     return a;
 }
 
+static void expect_field(const struct answer *a, enum field field, uint64_t value) {
+    if (a->field[field] != value)
+        fail("field %d is %llx and not %llx", (int)field, (unsigned long long)a->field[field],
+             (unsigned long long)value);
+}
+
 static void expect_which(struct request request, uint32_t refusal, uint64_t which) {
     struct answer a = expect(request, refusal);
-    if (a.number[WHICH] != which) fail("refusal %u is not about blob %u", (unsigned)refusal, (unsigned)which);
+    expect_field(&a, WHICH, which);
 }
 
 static struct request on(enum export export, struct bytes a, struct bytes b, struct bytes c) {
@@ -125,11 +131,22 @@ static void writer_refusals(void) {
     r = (struct request){.export = WRITE, .kind = FULANDEWU_FLOAT8, .bytes = {eight}};
     expect(r, FULANDEWU_WRITER_DIMS_0);
     r = (struct request){.export = WRITE, .kind = FULANDEWU_FLOAT64_DENSE, .dims = 1, .bytes = {eight}, .out = 8};
-    if (expect(r, FULANDEWU_OUTPUT_TOO_SHORT).number[NEEDED] != 9) fail("needed is not 9");
+    struct answer a = expect(r, FULANDEWU_OUTPUT_TOO_SHORT);
+    expect_field(&a, NEEDED, 9);
 }
 
-/* The longest blob, 65,536 entries, and the most dims: read, strictly too, written and converted. */
+/* How long the body of a vector of so many elements, all in entries, is in each kind. */
+static uint64_t body_length(unsigned kind, uint64_t dims) {
+    return kind == FULANDEWU_FLOAT32_DENSE ? 4 * dims
+           : kind == FULANDEWU_FLOAT1BIT   ? dims / 8
+           : kind == FULANDEWU_FLOAT8      ? dims + 8
+                                           : 8 * dims;
+}
+
+/* The longest blob, 65,536 entries of 1.0, and the most dims: read, written, converted and measured. */
 static void at_the_limits(void) {
+    /* cosine, L2, dot and Jaccard of the blob and itself: 0.0, 0.0, -65,536.0 and 0.0 */
+    static const uint64_t distances[] = {0, 0, 0xc0f0000000000000u, 0};
     static uint8_t longest[ROOM];
     const struct bytes sparse = {longest, FULANDEWU_LONGEST};
     now_from = "blobs at the limits";
@@ -141,7 +158,9 @@ static void at_the_limits(void) {
     longest[FULANDEWU_LONGEST - 3] = 1;
     longest[FULANDEWU_LONGEST - 1] = FULANDEWU_FLOAT32_SPARSE;
     struct answer a = expect(on(READ_STRICT, sparse, REFUSED[0], REFUSED[0]), 0);
-    if (a.number[DIMS] != FULANDEWU_MOST_DIMS || a.number[LENGTH] != FULANDEWU_LONGEST - 5) fail("another view");
+    expect_field(&a, KIND, FULANDEWU_FLOAT32_SPARSE);
+    expect_field(&a, DIMS, FULANDEWU_MOST_DIMS);
+    expect_field(&a, LENGTH, FULANDEWU_LONGEST - 5);
     struct request write = {.export = WRITE, .kind = FULANDEWU_FLOAT32_SPARSE, .dims = FULANDEWU_MOST_DIMS,
                             .bytes = {{longest, FULANDEWU_LONGEST - 5}}, .out = FULANDEWU_LONGEST};
     a = expect(write, 0);
@@ -149,31 +168,39 @@ static void at_the_limits(void) {
     for (unsigned kind = 1; kind <= 9; kind++) {
         struct request convert = {.export = CONVERT, .bytes = {sparse}, .kind = (uint8_t)kind,
                                   .scratch = 4 * FULANDEWU_MOST_DIMS, .out = FULANDEWU_LONGEST};
-        if (names_a_kind(kind)) expect(convert, 0);
+        if (!names_a_kind(kind)) continue;
+        a = expect(convert, 0);
+        expect_field(&a, DIMS, FULANDEWU_MOST_DIMS);
+        expect_field(&a, LENGTH, body_length(kind, FULANDEWU_MOST_DIMS));
     }
-    for (enum export e = DISTANCE_COS; e <= DISTANCE_JACCARD; e++) expect(on(e, sparse, sparse, REFUSED[0]), 0);
-    for (enum export e = NEARER_COS; e <= NEARER_JACCARD; e++) expect(on(e, sparse, sparse, sparse), 0);
+    for (int d = 0; d < 4; d++) {
+        a = expect(on((enum export)(DISTANCE_COS + d), sparse, sparse, REFUSED[0]), 0);
+        expect_field(&a, DISTANCE, distances[d]);
+        a = expect(on((enum export)(NEARER_COS + d), sparse, sparse, sparse), 0);
+        expect_field(&a, DISTANCE, distances[d]);
+        expect_field(&a, NEARER, FULANDEWU_FIRST);
+    }
 }
 
-/* One blob lent as both of a pair, which its places in `ask` never show; and NaN by its pattern. */
+/* One blob lent as both of a pair, which its places in `ask` never show, by the names of the header. */
 static void the_same_blob_twice(void) {
-    double distance = -1;
-    uint8_t which = 9, nearer = 9;
+    struct fulandewu_answer answer;
     uint64_t pattern;
+    memset(&answer, 0xff, sizeof answer);
     now_from = "one blob lent twice";
-    now_calling = EXPORT_NAMES[DISTANCE_L2];
-    if (fulandewu_distance_l2(DENSE, sizeof DENSE, DENSE, sizeof DENSE, &distance, &which) != 0 || distance != 0)
-        fail("L2 of a blob and itself is not 0.0");
     now_calling = EXPORT_NAMES[NEARER_L2];
-    if (fulandewu_nearer_l2(DENSE, sizeof DENSE, DENSE, sizeof DENSE, DENSE, sizeof DENSE, &nearer, &distance,
-                            &which) != 0 || nearer != FULANDEWU_FIRST || distance != 0)
+    if (fulandewu_nearer_l2(DENSE, sizeof DENSE, DENSE, sizeof DENSE, DENSE, sizeof DENSE, &answer) != 0
+        || answer.nearer != FULANDEWU_FIRST || answer.distance != 0)
         fail("a tie does not give the first at 0.0");
+    now_calling = EXPORT_NAMES[DISTANCE_DOT];
+    if (fulandewu_distance_dot(DENSE, sizeof DENSE, DENSE, sizeof DENSE, &answer) != 0 || answer.distance != -10000)
+        fail("dot of 60, 80 and itself is not -10,000.0");
     now_calling = EXPORT_NAMES[DISTANCE_COS];
-    if (fulandewu_distance_cos(SPARSE, sizeof SPARSE, SPARSE, sizeof SPARSE, &distance, &which) != 0)
+    if (fulandewu_distance_cos(SPARSE, sizeof SPARSE, SPARSE, sizeof SPARSE, &answer) != 0)
         fail("no reading is refused");
-    memcpy(&pattern, &distance, sizeof pattern);
+    memcpy(&pattern, &answer.distance, sizeof pattern);
     if (pattern != 0x7ff8000000000000u) fail("NaN has the pattern %016llx", (unsigned long long)pattern);
-    if (which != 9) fail("an answer writes which");
+    if (answer.which != UINT64_MAX || answer.nearer != FULANDEWU_FIRST) fail("a field of another answer is written");
     calls += 3;
 }
 

@@ -76,7 +76,7 @@ static void open_room(struct lent *room, size_t size) {
 }
 
 void open_rooms(void) {
-    for (int r = 0; r < ROOMS; r++) open_room(&rooms[r], r < NUMBER_1 ? LARGE : PAGE);
+    for (int r = 0; r < ROOMS; r++) open_room(&rooms[r], r < ANSWER ? LARGE : PAGE);
     signal(SIGSEGV, fault);
     signal(SIGBUS, fault);
 }

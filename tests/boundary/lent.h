@@ -6,11 +6,11 @@
 #include <stddef.h>
 #include <stdint.h>
 
-/* Where in its room a buffer stands. A number keeps its alignment: it is never at ODD. */
+/* Where in its room a buffer stands. An answer keeps its alignment: it is never at ODD. */
 enum place { AT_START, AT_END, ODD };
 
-/* The rooms: three blobs or bodies, scratch, output, and the numbers that answers are told in. */
-enum room { BYTES_1, BYTES_2, BYTES_3, SCRATCH, OUTPUT, NUMBER_1, ROOMS = NUMBER_1 + 8 };
+/* The rooms: three blobs or bodies, scratch, output, and the answer. */
+enum room { BYTES_1, BYTES_2, BYTES_3, SCRATCH, OUTPUT, ANSWER, ROOMS };
 
 /* Prints what went wrong, in which call, and ends the program. */
 void fail(const char *format, ...);

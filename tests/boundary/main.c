@@ -9,6 +9,7 @@
 
 int main(int count, char **folders) {
     unsigned long lines = 0;
+    if (count < 2) fail("no folder is named whose lines are to be replayed");
     open_rooms();
     for (int f = 1; f < count; f++) {
         struct replayed r = replay(folders[f]);
@@ -19,6 +20,7 @@ int main(int count, char **folders) {
     try_cases();
     printf("refusals by number, 0 an answer (requests):\n");
     all_refusals_seen();
-    printf("boundary: %lu lines replayed, %lu calls of %d exports, all as they should be\n", lines, calls, EXPORTS);
+    printf("boundary: %lu lines replayed, %lu calls of %d exports, %lu fields looked at, all as they should be\n",
+           lines, calls, EXPORTS, fields_seen);
     return 0;
 }

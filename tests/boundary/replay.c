@@ -10,7 +10,7 @@
 #include "ask.h"
 #include "lent.h"
 
-enum { FIELDS = 6, LONGEST_REPLY = 2200000 };
+enum { PARTS = 6, LONGEST_REPLY = 2200000 };
 
 /* A text of a known length: a line may have any byte in it. */
 struct text {
@@ -93,21 +93,22 @@ static void answer_view(char letter, uint64_t kind, uint64_t dims, struct bytes 
 /* A refusal, and the blob that it is about where there are several. */
 static void answer_refusal(const struct answer *a, const char *which) {
     char text[32];
+    if (a->field[WHICH] > FULANDEWU_PROBE) fail("which is no blob");
     snprintf(text, sizeof text, which ? "R\t%u\t%c" : "R\t%u", (unsigned)a->refusal,
-             which ? which[a->number[WHICH]] : 0);
+             which ? which[a->field[WHICH]] : 0);
     answer_text(text);
 }
 
-static void replay_read(enum export export, struct text *field) {
+static void replay_read(enum export export, struct text *part) {
     static uint8_t blob[600000];
-    struct request r = {.export = export, .bytes = {unhex(field[1], blob)}};
+    struct request r = {.export = export, .bytes = {unhex(part[1], blob)}};
     struct answer a = ask(r);
     if (a.refusal) {
         answer_refusal(&a, NULL);
         return;
     }
-    if (a.number[LENGTH] > r.bytes[0].length) fail("a body longer than its blob");
-    answer_view('V', a.number[KIND], a.number[DIMS], (struct bytes){blob, a.number[LENGTH]});
+    if (a.field[LENGTH] > r.bytes[0].length) fail("a body longer than its blob");
+    answer_view('V', a.field[KIND], a.field[DIMS], (struct bytes){blob, a.field[LENGTH]});
 }
 
 /* Asks with empty buffers, then with each as long as was said to be needed: one byte less than that is
@@ -116,11 +117,11 @@ static struct answer ask_for_room(struct request *r) {
     struct answer a = ask(*r);
     while (a.refusal == FULANDEWU_OUTPUT_TOO_SHORT || a.refusal == FULANDEWU_SCRATCH_TOO_SHORT) {
         size_t *room = a.refusal == FULANDEWU_OUTPUT_TOO_SHORT ? &r->out : &r->scratch;
-        if (a.number[NEEDED] <= *room) fail("what is needed was there");
-        *room = a.number[NEEDED] - 1;
+        if (a.field[NEEDED] <= *room) fail("what is needed was there");
+        *room = a.field[NEEDED] - 1;
         struct answer less = ask(*r);
-        if (less.refusal != a.refusal || less.number[NEEDED] != a.number[NEEDED]) fail("needed, but not always");
-        *room = a.number[NEEDED];
+        if (less.refusal != a.refusal || less.field[NEEDED] != a.field[NEEDED]) fail("needed, but not always");
+        *room = a.field[NEEDED];
         a = ask(*r);
     }
     if (a.refusal) return a;
@@ -129,10 +130,10 @@ static struct answer ask_for_room(struct request *r) {
     return ask(*r);
 }
 
-static void replay_write(struct text *field) {
+static void replay_write(struct text *part) {
     static uint8_t body[600000];
-    struct request r = {.export = WRITE, .kind = (uint8_t)decimal(field[1]), .dims = decimal(field[2])};
-    r.bytes[0] = unhex(field[3], body);
+    struct request r = {.export = WRITE, .kind = (uint8_t)decimal(part[1]), .dims = decimal(part[2])};
+    r.bytes[0] = unhex(part[3], body);
     struct answer a = ask_for_room(&r);
     if (a.refusal) {
         answer_refusal(&a, NULL);
@@ -154,16 +155,16 @@ static void check_scratch(struct request r, struct bytes left) {
     if (memcmp(dense.out.at, kept, left.length) != 0) fail("scratch is not the dense body");
 }
 
-static void replay_convert(struct text *field) {
+static void replay_convert(struct text *part) {
     static uint8_t blob[600000];
-    struct request r = {.export = CONVERT, .kind = (uint8_t)decimal(field[1])};
-    r.bytes[0] = unhex(field[2], blob);
+    struct request r = {.export = CONVERT, .kind = (uint8_t)decimal(part[1])};
+    r.bytes[0] = unhex(part[2], blob);
     struct answer a = ask_for_room(&r);
     if (a.refusal) {
         answer_refusal(&a, NULL);
         return;
     }
-    answer_view('C', r.kind, a.number[DIMS], a.out);
+    answer_view('C', r.kind, a.field[DIMS], a.out);
     if (a.scratch.length) check_scratch(r, a.scratch);
 }
 
@@ -176,14 +177,14 @@ static int distance_of(struct text name) {
 
 static void answer_distance(const struct answer *a) {
     char text[32];
-    snprintf(text, sizeof text, "%016llx", (unsigned long long)a->number[DISTANCE]);
+    snprintf(text, sizeof text, "%016llx", (unsigned long long)a->field[DISTANCE]);
     answer_text(text);
 }
 
-static void replay_distance(struct text *field) {
+static void replay_distance(struct text *part) {
     static uint8_t blobs[2][600000];
-    struct request r = {.export = (enum export)(DISTANCE_COS + distance_of(field[0]))};
-    for (int i = 0; i < 2; i++) r.bytes[i] = unhex(field[1 + i], blobs[i]);
+    struct request r = {.export = (enum export)(DISTANCE_COS + distance_of(part[0]))};
+    for (int i = 0; i < 2; i++) r.bytes[i] = unhex(part[1 + i], blobs[i]);
     struct answer a = ask(r);
     if (a.refusal) {
         answer_refusal(&a, "-ab?");
@@ -193,32 +194,33 @@ static void replay_distance(struct text *field) {
     answer_distance(&a);
 }
 
-static void replay_nearer(struct text *field) {
+static void replay_nearer(struct text *part) {
     static uint8_t blobs[3][600000];
-    int distance = distance_of(field[1]);
+    int distance = distance_of(part[1]);
     if (distance < 0) fail("no distance, but an answer is stored");
     struct request r = {.export = (enum export)(NEARER_COS + distance)};
-    for (int i = 0; i < 3; i++) r.bytes[i] = unhex(field[2 + i], blobs[i]);
+    for (int i = 0; i < 3; i++) r.bytes[i] = unhex(part[2 + i], blobs[i]);
     struct answer a = ask(r);
     if (a.refusal) {
         answer_refusal(&a, "-abp");
         return;
     }
-    answer_text(a.number[NEARER] == FULANDEWU_FIRST ? "N\t1\t" : "N\t2\t");
+    if (a.field[NEARER] != FULANDEWU_FIRST && a.field[NEARER] != FULANDEWU_SECOND) fail("nearer is no candidate");
+    answer_text(a.field[NEARER] == FULANDEWU_FIRST ? "N\t1\t" : "N\t2\t");
     answer_distance(&a);
 }
 
 /* Puts a line to its export; false for one about rounding. */
 static int replay_line(struct text line) {
-    struct text field[FIELDS];
-    for (int f = 0; f < FIELDS; f++) field[f] = cut(&line, '\t');
+    struct text part[PARTS];
+    for (int f = 0; f < PARTS; f++) part[f] = cut(&line, '\t');
     replied = 0;
-    if (is(field[0], "read")) replay_read(READ, field);
-    else if (is(field[0], "strict")) replay_read(READ_STRICT, field);
-    else if (is(field[0], "write")) replay_write(field);
-    else if (is(field[0], "conv")) replay_convert(field);
-    else if (is(field[0], "near")) replay_nearer(field);
-    else if (distance_of(field[0]) >= 0) replay_distance(field);
+    if (is(part[0], "read")) replay_read(READ, part);
+    else if (is(part[0], "strict")) replay_read(READ_STRICT, part);
+    else if (is(part[0], "write")) replay_write(part);
+    else if (is(part[0], "conv")) replay_convert(part);
+    else if (is(part[0], "near")) replay_nearer(part);
+    else if (distance_of(part[0]) >= 0) replay_distance(part);
     else return 0;
     return 1;
 }
@@ -227,6 +229,7 @@ struct replayed replay(const char *folder) {
     struct replayed counts = {0, 0, 0};
     struct text asked = contents(folder, "stdin"), stored = contents(folder, "stdout");
     char from[64];
+    snprintf(from, sizeof from, "%.60s", folder);
     now_from = from;
     for (unsigned long number = 1; asked.length > 0; number++) {
         struct text line = cut(&asked, '\n'), answer = cut(&stored, '\n');
@@ -239,6 +242,7 @@ struct replayed replay(const char *folder) {
         else counts.lines++;
     }
     if (stored.length > 0) fail("more answers than lines");
+    if (counts.lines == 0) fail("no line was replayed");
     now_from = "no input";
     return counts;
 }

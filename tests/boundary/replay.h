@@ -7,7 +7,8 @@ struct replayed {
     unsigned long lines, rounding, shapeless;
 };
 
-/* Replays a program's lines from folder/stdin; fails unless each answer is that of folder/stdout. */
+/* Replays a program's lines from folder/stdin; fails unless each answer is that of folder/stdout, and
+ * where no line was replayed. */
 struct replayed replay(const char *folder);
 
 #endif

@@ -1,35 +1,31 @@
-//! The exports of libfulandewu.a, as include/fulandewu.h has them.
+//! The exports of libfulandewu.a and the answer that they are lent, as include/fulandewu.h has them.
 
-pub type Reader = unsafe extern "C" fn(*const u8, usize, *mut u8, *mut usize, *mut usize) -> u32;
-pub type Measure =
-    unsafe extern "C" fn(*const u8, usize, *const u8, usize, *mut f64, *mut u8) -> u32;
-pub type Chooser = unsafe extern "C" fn(
-    *const u8,
-    usize,
-    *const u8,
-    usize,
-    *const u8,
-    usize,
-    *mut u8,
-    *mut f64,
-    *mut u8,
-) -> u32;
+/// What a call hands out: it writes the fields that its answer or its refusal has, and no other.
+#[repr(C)]
+#[derive(Default)]
+pub struct Answer {
+    pub distance: f64,
+    pub kind: u64,
+    pub dims: u64,
+    pub length: u64,
+    pub needed: u64,
+    pub which: u64,
+    pub nearer: u64,
+    /// For later exports.
+    #[allow(dead_code)]
+    reserved: [u64; 25],
+}
+
+const _: () = assert!(std::mem::size_of::<Answer>() == 256 && std::mem::align_of::<Answer>() == 8);
+
+pub type Reader = unsafe extern "C" fn(*const u8, usize, *mut Answer) -> u32;
+pub type Measure = unsafe extern "C" fn(*const u8, usize, *const u8, usize, *mut Answer) -> u32;
+pub type Chooser =
+    unsafe extern "C" fn(*const u8, usize, *const u8, usize, *const u8, usize, *mut Answer) -> u32;
 
 extern "C" {
-    pub fn fulandewu_read(
-        blob: *const u8,
-        blob_length: usize,
-        kind: *mut u8,
-        dims: *mut usize,
-        length: *mut usize,
-    ) -> u32;
-    pub fn fulandewu_read_strict(
-        blob: *const u8,
-        blob_length: usize,
-        kind: *mut u8,
-        dims: *mut usize,
-        length: *mut usize,
-    ) -> u32;
+    pub fn fulandewu_read(blob: *const u8, blob_length: usize, answer: *mut Answer) -> u32;
+    pub fn fulandewu_read_strict(blob: *const u8, blob_length: usize, answer: *mut Answer) -> u32;
     pub fn fulandewu_write(
         kind: u8,
         dims: usize,
@@ -37,8 +33,7 @@ extern "C" {
         body_length: usize,
         out: *mut u8,
         out_length: usize,
-        written: *mut usize,
-        needed: *mut usize,
+        answer: *mut Answer,
     ) -> u32;
     pub fn fulandewu_convert(
         blob: *const u8,
@@ -48,41 +43,35 @@ extern "C" {
         scratch_length: usize,
         out: *mut u8,
         out_length: usize,
-        dims: *mut usize,
-        length: *mut usize,
-        needed: *mut usize,
+        answer: *mut Answer,
     ) -> u32;
     pub fn fulandewu_distance_cos(
         first: *const u8,
         first_length: usize,
         second: *const u8,
         second_length: usize,
-        distance: *mut f64,
-        which: *mut u8,
+        answer: *mut Answer,
     ) -> u32;
     pub fn fulandewu_distance_l2(
         first: *const u8,
         first_length: usize,
         second: *const u8,
         second_length: usize,
-        distance: *mut f64,
-        which: *mut u8,
+        answer: *mut Answer,
     ) -> u32;
     pub fn fulandewu_distance_dot(
         first: *const u8,
         first_length: usize,
         second: *const u8,
         second_length: usize,
-        distance: *mut f64,
-        which: *mut u8,
+        answer: *mut Answer,
     ) -> u32;
     pub fn fulandewu_distance_jaccard(
         first: *const u8,
         first_length: usize,
         second: *const u8,
         second_length: usize,
-        distance: *mut f64,
-        which: *mut u8,
+        answer: *mut Answer,
     ) -> u32;
     pub fn fulandewu_nearer_cos(
         probe: *const u8,
@@ -91,9 +80,7 @@ extern "C" {
         first_length: usize,
         second: *const u8,
         second_length: usize,
-        nearer: *mut u8,
-        distance: *mut f64,
-        which: *mut u8,
+        answer: *mut Answer,
     ) -> u32;
     pub fn fulandewu_nearer_l2(
         probe: *const u8,
@@ -102,9 +89,7 @@ extern "C" {
         first_length: usize,
         second: *const u8,
         second_length: usize,
-        nearer: *mut u8,
-        distance: *mut f64,
-        which: *mut u8,
+        answer: *mut Answer,
     ) -> u32;
     pub fn fulandewu_nearer_dot(
         probe: *const u8,
@@ -113,9 +98,7 @@ extern "C" {
         first_length: usize,
         second: *const u8,
         second_length: usize,
-        nearer: *mut u8,
-        distance: *mut f64,
-        which: *mut u8,
+        answer: *mut Answer,
     ) -> u32;
     pub fn fulandewu_nearer_jaccard(
         probe: *const u8,
@@ -124,8 +107,6 @@ extern "C" {
         first_length: usize,
         second: *const u8,
         second_length: usize,
-        nearer: *mut u8,
-        distance: *mut f64,
-        which: *mut u8,
+        answer: *mut Answer,
     ) -> u32;
 }

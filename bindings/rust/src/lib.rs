@@ -42,6 +42,7 @@ mod exports;
 mod refusal;
 mod view;
 
+use exports::Answer;
 pub use refusal::{Reason, Refusal, Which};
 pub use view::{VectorType, View};
 
@@ -64,17 +65,25 @@ pub enum Distance {
     Jaccard,
 }
 
-fn answered(number: u32) -> Result<(), Refusal> {
-    Refusal::numbered(number).map_or(Ok(()), Err)
+/// Nothing for an answer, else the refusal with the need that it carries.
+fn answered(number: u32, answer: &Answer) -> Result<(), Refusal> {
+    match Refusal::numbered(number) {
+        None => Ok(()),
+        Some(refusal) => Err(refusal.needing(answer.needed as usize)),
+    }
 }
 
 fn read_by(reader: exports::Reader, blob: &[u8]) -> Result<View<'_>, Refusal> {
-    let (mut kind, mut dims, mut length) = (0, 0, 0);
-    // SAFETY: the blob is a slice, and the numbers are locals of their own.
-    let number = unsafe { reader(blob.as_ptr(), blob.len(), &mut kind, &mut dims, &mut length) };
-    answered(number)?;
-    let kind = VectorType::named(kind).expect("an accepted blob has a kind");
-    Ok(View::new(kind, dims, &blob[..length]))
+    let mut answer = Answer::default();
+    // SAFETY: the blob is a slice, which is only read, and the answer is a local of its own.
+    let number = unsafe { reader(blob.as_ptr(), blob.len(), &mut answer) };
+    answered(number, &answer)?;
+    let kind = VectorType::named(answer.kind as u8).expect("an accepted blob has a kind");
+    Ok(View::new(
+        kind,
+        answer.dims as usize,
+        &blob[..answer.length as usize],
+    ))
 }
 
 /// Reads a blob. Refusals: 1 to 9, in that order.
@@ -130,8 +139,8 @@ pub fn read_strict(blob: &[u8]) -> Result<View<'_>, Refusal> {
 /// # Ok::<(), fulandewu::Refusal>(())
 /// ```
 pub fn write(kind: VectorType, dims: usize, body: &[u8], out: &mut [u8]) -> Result<usize, Refusal> {
-    let (mut written, mut needed) = (0, 0);
-    // SAFETY: body and out are slices, which do not overlap, and the numbers are locals of their own.
+    let mut answer = Answer::default();
+    // SAFETY: body and out are slices, which do not overlap, and the answer is a local of its own.
     let number = unsafe {
         exports::fulandewu_write(
             kind.byte(),
@@ -140,12 +149,11 @@ pub fn write(kind: VectorType, dims: usize, body: &[u8], out: &mut [u8]) -> Resu
             body.len(),
             out.as_mut_ptr(),
             out.len(),
-            &mut written,
-            &mut needed,
+            &mut answer,
         )
     };
-    answered(number).map_err(|refusal| refusal.needing(needed))?;
-    Ok(written)
+    answered(number, &answer)?;
+    Ok(answer.length as usize)
 }
 
 /// Converts a blob to another kind, or the same: the new body goes to the first bytes of `out`, no byte
@@ -173,9 +181,9 @@ pub fn convert<'a>(
     scratch: &mut [u8],
     out: &'a mut [u8],
 ) -> Result<View<'a>, Refusal> {
-    let (mut dims, mut length, mut needed) = (0, 0, 0);
-    // SAFETY: blob, scratch and out are slices, which do not overlap, and the numbers are locals of
-    // their own.
+    let mut answer = Answer::default();
+    // SAFETY: blob, scratch and out are slices, which do not overlap, and the answer is a local of its
+    // own.
     let number = unsafe {
         exports::fulandewu_convert(
             blob.as_ptr(),
@@ -185,13 +193,15 @@ pub fn convert<'a>(
             scratch.len(),
             out.as_mut_ptr(),
             out.len(),
-            &mut dims,
-            &mut length,
-            &mut needed,
+            &mut answer,
         )
     };
-    answered(number).map_err(|refusal| refusal.needing(needed))?;
-    Ok(View::new(kind, dims, &out[..length]))
+    answered(number, &answer)?;
+    Ok(View::new(
+        kind,
+        answer.dims as usize,
+        &out[..answer.length as usize],
+    ))
 }
 
 /// The distance of two blobs, which may be NaN. Refusals: 1 to 9 of the first blob, then of the second,
@@ -213,20 +223,19 @@ pub fn distance(asked: Distance, first: &[u8], second: &[u8]) -> Result<f64, Ref
         Distance::Dot => exports::fulandewu_distance_dot,
         Distance::Jaccard => exports::fulandewu_distance_jaccard,
     };
-    let (mut value, mut which) = (0.0, 0);
-    // SAFETY: the blobs are slices, which are only read, and the numbers are locals of their own.
+    let mut answer = Answer::default();
+    // SAFETY: the blobs are slices, which are only read, and the answer is a local of its own.
     let number = unsafe {
         measure(
             first.as_ptr(),
             first.len(),
             second.as_ptr(),
             second.len(),
-            &mut value,
-            &mut which,
+            &mut answer,
         )
     };
-    answered(number).map_err(|refusal| refusal.about(which))?;
-    Ok(value)
+    answered(number, &answer).map_err(|refusal| refusal.about(answer.which))?;
+    Ok(answer.distance)
 }
 
 /// The nearer of two candidates.
@@ -276,8 +285,8 @@ pub fn nearer(
         Distance::Dot => exports::fulandewu_nearer_dot,
         Distance::Jaccard => exports::fulandewu_nearer_jaccard,
     };
-    let (mut candidate, mut value, mut which) = (0, 0.0, 0);
-    // SAFETY: the blobs are slices, which are only read, and the numbers are locals of their own.
+    let mut answer = Answer::default();
+    // SAFETY: the blobs are slices, which are only read, and the answer is a local of its own.
     let number = unsafe {
         chooser(
             probe.as_ptr(),
@@ -286,19 +295,17 @@ pub fn nearer(
             first.len(),
             second.as_ptr(),
             second.len(),
-            &mut candidate,
-            &mut value,
-            &mut which,
+            &mut answer,
         )
     };
-    answered(number).map_err(|refusal| refusal.about(which))?;
-    let candidate = if candidate == 1 {
+    answered(number, &answer).map_err(|refusal| refusal.about(answer.which))?;
+    let candidate = if answer.nearer == 1 {
         Candidate::First
     } else {
         Candidate::Second
     };
     Ok(Nearer {
         candidate,
-        distance: value,
+        distance: answer.distance,
     })
 }

@@ -133,8 +133,8 @@ impl Refusal {
         self
     }
 
-    /// With the blob that it is about, by the byte of an export.
-    pub(crate) fn about(mut self, which: u8) -> Refusal {
+    /// With the blob that it is about, by the field `which` of an answer.
+    pub(crate) fn about(mut self, which: u64) -> Refusal {
         self.which = match which {
             1 => Some(Which::First),
             2 => Some(Which::Second),

@@ -10,7 +10,7 @@ use lib.Dec.{T, eqb, ltb}
 use lib.Ieee.{Float, Format, add, lt, eq, isNan, fits}
 use Rattle.float_laws.specs.Zero.{plusZero, FromZero}
 use Rattle.float_laws.specs.Running.{running, AllFit}
-use Rattle.float_laws.proofs.Order.{nan-lt, lt-nan, lt-asym, eq-self, nan-self, Alike, level}
+use Rattle.float_laws.proofs.Order.{nan-lt, lt-nan, lt-asym, eq-self, nan-self, Alike, not-less-alike}
 use Rattle.float_laws.proofs.Running.{plusZero-fromZero, add-fromZero, add-zero-term}
 use Rattle.bodies.specs.Entries.{Entries}
 use Rattle.bodies.specs.Merged.{Rule, merged}
@@ -63,7 +63,7 @@ Chooses f before pick = (x y : Float) → T (fits f x) → T (fits f y) → Chos
 
 module _ (f : Format) where
   level-above : Tied f above
-  level-above x y a b h k p q = level f x y a b h k q p
+  level-above x y a b h k p q = not-less-alike f x y a b h k q p
 
   add-alike : (s x y : Float) → FromZero f s → Alike x y → add f s x ≡ add f s y
   add-alike s x y z (inl e) = ap (add f s) e
@@ -152,7 +152,7 @@ module _ (f : Format) (s : Shares) (z : BothFromZero f s) (x : Float) (h : T (fi
       let k = plusZero-fromZero f .fitting in
       let less = second-chosen lt nan-lt lt-asym x plusZero refl in
       let more = second-chosen above (λ u v. lt-nan v u) (λ u v. lt-asym v u) x plusZero refl in
-      let low = chosen-alike f lt (level f) x plusZero h k (lesser-is x plusZero) less in
+      let low = chosen-alike f lt (not-less-alike f) x plusZero h k (lesser-is x plusZero) less in
       let high = chosen-alike f above (level-above f) x plusZero h k (greater-is x plusZero) more in
       rw (add-alike f (s .low) _ _ (z .0) low, add-alike f (s .high) _ _ (z .1) high)
 
@@ -167,7 +167,7 @@ module _ (f : Format) (lo hi : Float → Float → Float) (c : AreChoices f lo h
   pub shares-either-zero : (x y : ℕ → Float) (n : ℕ) → AllFit f x n → AllFit f y n → sharesBy lo hi f x y n ≡ shares f x y n
   unfolding sharesBy
   shares-either-zero x y n h k =
-      let low = summed f lt (level f) lo lesser (c .low) (ours-are-choices f .low) x y n h k in
+      let low = summed f lt (not-less-alike f) lo lesser (c .low) (ours-are-choices f .low) x y n h k in
       let high = summed f above (level-above f) hi greater (c .high) (ours-are-choices f .high) x y n h k in
       rw (low .1, high .1)
 
@@ -176,7 +176,7 @@ module _ (f : Format) (lo hi : Float → Float → Float) (c : AreChoices f lo h
       → BothFromZero f (sharesWith lo hi f s x y) × (sharesWith lo hi f s x y ≡ sharesWith lesser greater f s x y)
   unfolding sharesWith
   one-more x y h k s (l, g) =
-      let low = added f lt (level f) lo lesser (c .low) (ours-are-choices f .low) x y h k (s .low) l in
+      let low = added f lt (not-less-alike f) lo lesser (c .low) (ours-are-choices f .low) x y h k (s .low) l in
       let high = added f above (level-above f) hi greater (c .high) (ours-are-choices f .high) x y h k (s .high) g in
       ((low .0, high .0), rw (low .1, high .1))
 

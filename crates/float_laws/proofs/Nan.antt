@@ -1,4 +1,4 @@
--- The two tests for a NaN, of a pattern and of a value, and what code answers by them: 0 / 0, and one pattern.
+-- The two tests for a NaN, of a pattern and of a value, by the kit's laws of patterns; and what code answers by them: 0 / 0, and one pattern.
 use mathlib.Core.Path.{_≡_, refl, sym, ap, subst, _∙_}
 use mathlib.Core.Bool.{true, false, not}
 use Prim.Native.Nat.{ℕ, _+_, _*_, _/_, _%_, _<_, _≤_}

@@ -1,4 +1,4 @@
--- The sign goes through a rounding and a product as it is: negating what goes in negates what comes out.
+-- Negation commutes with rounding and with products: negating an operand negates the result. By cases.
 use mathlib.Core.Path.{_≡_, refl, sym, ap, _∙_}
 use Prim.Native.Nat.{ℕ, zero, suc, _+_, _*_, _^_}
 use mathlib.Core.Bool.{Bool, true, false, not, cond, Bool·not-not}

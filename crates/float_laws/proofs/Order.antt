@@ -1,4 +1,4 @@
--- The order of floats is that of the fractions that they are; a NaN is in it nowhere. Two numbers of which neither is less are equal, or zeros.
+-- The order of floats is that of their fractions, and a NaN is not in it: it is transitive and asymmetric. Two numbers of which neither is less are equal, or zeros. By cases of the two.
 use mathlib.Core.Path.{_≡_, refl, sym, ap, _∙_}
 use mathlib.Core.Logic.{_⊎_, inl, inr}
 use mathlib.Core.Bool.{Bool, true, false, true≢false, false≢true}
@@ -35,25 +35,25 @@ below-trans true true false a b c p q r P R g h =
     lt-ltb 0 (a * r + c * p) (omega arith)
 below-trans true true true a b c p q r P R g h = lt-ltb (c * p) (a * r) (less-through c b a r q p R (ltb-true _ _ h) (ltb-true _ _ g))
 
-infinity-last : (x : Float) → lt (inf false) x ≡ true → ⊥
+infinity-greatest : (x : Float) → lt (inf false) x ≡ true → ⊥
 unfolding lt
-infinity-last nan h = false≢true h
-infinity-last (inf t) h = false≢true h
-infinity-last (fin t n d) h = false≢true h
+infinity-greatest nan h = false≢true h
+infinity-greatest (inf t) h = false≢true h
+infinity-greatest (fin t n d) h = false≢true h
 
 pub lt-trans : (x y z : Float) → lt x y ≡ true → lt y z ≡ true → lt x z ≡ true
 unfolding lt
 lt-trans nan y z g h = absurd (false≢true g)
-lt-trans (inf false) y z g h = absurd (infinity-last y g)
+lt-trans (inf false) y z g h = absurd (infinity-greatest y g)
 lt-trans (inf true) nan z g h = absurd (false≢true g)
 lt-trans (inf true) (inf true) z g h = absurd (false≢true g)
-lt-trans (inf true) (inf false) z g h = absurd (infinity-last z h)
+lt-trans (inf true) (inf false) z g h = absurd (infinity-greatest z h)
 lt-trans (inf true) (fin t n d) nan g h = h
 lt-trans (inf true) (fin t n d) (inf u) g h = h
 lt-trans (inf true) (fin t n d) (fin u k i) g h = refl
 lt-trans (fin s m e) nan z g h = absurd (false≢true g)
 lt-trans (fin s m e) (inf true) z g h = absurd (false≢true g)
-lt-trans (fin s m e) (inf false) z g h = absurd (infinity-last z h)
+lt-trans (fin s m e) (inf false) z g h = absurd (infinity-greatest z h)
 lt-trans (fin s m e) (fin t n d) nan g h = h
 lt-trans (fin s m e) (fin t n d) (inf u) g h = h
 lt-trans (fin s m e) (fin t n d) (fin u k i) g h =
@@ -91,15 +91,15 @@ lt-asym x y h = go (lt y x) refl
     go false k = refl
 
 -- so a NaN is less than nothing, and nothing than it
-unless-nan : (b c : Bool) → (b ≡ true → c ≡ false) → c ≡ true → b ≡ false
-unless-nan true c h n = absurd (true≢false (sym n ∙ h refl))
-unless-nan false c h n = refl
+contrapositive : (b c : Bool) → (b ≡ true → c ≡ false) → c ≡ true → b ≡ false
+contrapositive true c h n = absurd (true≢false (sym n ∙ h refl))
+contrapositive false c h n = refl
 
 pub nan-lt : (x y : Float) → isNan x ≡ true → lt x y ≡ false
-nan-lt x y = unless-nan (lt x y) (isNan x) (lesser-number x y)
+nan-lt x y = contrapositive (lt x y) (isNan x) (lesser-number x y)
 
 pub lt-nan : (x y : Float) → isNan y ≡ true → lt x y ≡ false
-lt-nan x y = unless-nan (lt x y) (isNan y) (greater-number y x)
+lt-nan x y = contrapositive (lt x y) (isNan y) (greater-number y x)
 
 -- and the same of less or equal
 pub nan-le : (x y : Float) → isNan x ≡ true → le x y ≡ false
@@ -142,26 +142,26 @@ abbrev pub Alike : Float → Float → Type 0
 Alike x y = (x ≡ y) ⊎ (IsZero x × IsZero y)
 
 module _ (f : Format) where
-  zero-of : (s : Bool) (m : ℕ) (e d : ℤ) → T (fits f (fin s m e)) → m * up e * down d ≡ 0 → fin s m e ≡ signedZero s
-  zero-of s zero e d h v = ap (fin s zero) (zero-exp f s e h)
-  zero-of s (suc m) e d h v = absurd (omega (arith, mul-pos (mul-pos (zero-lt-suc m) (up-pos e)) (down-pos d)))
+  is-signedZero : (s : Bool) (m : ℕ) (e d : ℤ) → T (fits f (fin s m e)) → m * up e * down d ≡ 0 → fin s m e ≡ signedZero s
+  is-signedZero s zero e d h v = ap (fin s zero) (zero-exp f s e h)
+  is-signedZero s (suc m) e d h v = absurd (omega (arith, mul-pos (mul-pos (zero-lt-suc m) (up-pos e)) (down-pos d)))
 
-  pub level : (x y : Float) → isNan x ≡ false → isNan y ≡ false → T (fits f x) → T (fits f y) → lt x y ≡ false → lt y x ≡ false → Alike x y
+  pub not-less-alike : (x y : Float) → isNan x ≡ false → isNan y ≡ false → T (fits f x) → T (fits f y) → lt x y ≡ false → lt y x ≡ false → Alike x y
   unfolding lt isNan
-  level nan y a b h k p q = absurd (true≢false a)
-  level (inf s) nan a b h k p q = absurd (true≢false b)
-  level (inf true) (inf true) a b h k p q = inl refl
-  level (inf true) (inf false) a b h k p q = absurd (true≢false p)
-  level (inf false) (inf true) a b h k p q = absurd (true≢false q)
-  level (inf false) (inf false) a b h k p q = inl refl
-  level (inf true) (fin t n d) a b h k p q = absurd (true≢false p)
-  level (inf false) (fin t n d) a b h k p q = absurd (true≢false q)
-  level (fin s m e) nan a b h k p q = absurd (true≢false b)
-  level (fin s m e) (inf true) a b h k p q = absurd (true≢false q)
-  level (fin s m e) (inf false) a b h k p q = absurd (true≢false p)
-  level (fin true m e) (fin true n d) a b h k p q = inl (fin-unique f true m e n d h k (omega (arith, ltb-false)))
-  level (fin false m e) (fin false n d) a b h k p q = inl (fin-unique f false m e n d h k (omega (arith, ltb-false)))
-  level (fin true m e) (fin false n d) a b h k p q =
-      inr ((true, zero-of true m e d h (omega (arith, ltb-false))), (false, zero-of false n d e k (omega (arith, ltb-false))))
-  level (fin false m e) (fin true n d) a b h k p q =
-      inr ((false, zero-of false m e d h (omega (arith, ltb-false))), (true, zero-of true n d e k (omega (arith, ltb-false))))
+  not-less-alike nan y a b h k p q = absurd (true≢false a)
+  not-less-alike (inf s) nan a b h k p q = absurd (true≢false b)
+  not-less-alike (inf true) (inf true) a b h k p q = inl refl
+  not-less-alike (inf true) (inf false) a b h k p q = absurd (true≢false p)
+  not-less-alike (inf false) (inf true) a b h k p q = absurd (true≢false q)
+  not-less-alike (inf false) (inf false) a b h k p q = inl refl
+  not-less-alike (inf true) (fin t n d) a b h k p q = absurd (true≢false p)
+  not-less-alike (inf false) (fin t n d) a b h k p q = absurd (true≢false q)
+  not-less-alike (fin s m e) nan a b h k p q = absurd (true≢false b)
+  not-less-alike (fin s m e) (inf true) a b h k p q = absurd (true≢false q)
+  not-less-alike (fin s m e) (inf false) a b h k p q = absurd (true≢false p)
+  not-less-alike (fin true m e) (fin true n d) a b h k p q = inl (fin-unique f true m e n d h k (omega (arith, ltb-false)))
+  not-less-alike (fin false m e) (fin false n d) a b h k p q = inl (fin-unique f false m e n d h k (omega (arith, ltb-false)))
+  not-less-alike (fin true m e) (fin false n d) a b h k p q =
+      inr ((true, is-signedZero true m e d h (omega (arith, ltb-false))), (false, is-signedZero false n d e k (omega (arith, ltb-false))))
+  not-less-alike (fin false m e) (fin true n d) a b h k p q =
+      inr ((false, is-signedZero false m e d h (omega (arith, ltb-false))), (true, is-signedZero true n d e k (omega (arith, ltb-false))))

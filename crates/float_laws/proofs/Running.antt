@@ -1,5 +1,5 @@
--- A sum that starts from +0 is never -0, so a zero term of either sign leaves it as it is. Each step is a law of its own, for sums whose terms come in
--- any order.
+-- A sum that starts from +0 is never -0, so a zero term of either sign does not change it: from the laws of a zero. Each step is a law of its own, for
+-- sums whose terms come in any order.
 use mathlib.Core.Path.{_≡_, refl, ap, ap₂}
 use Prim.Native.Nat.{ℕ, zero, suc, _<_}
 use native.Mathlib.Nat.{le-refl}

@@ -1,4 +1,4 @@
--- Signs: two that are equal or opposite, what swapping them or turning both over does, and the sign of a product.
+-- Signs: opposite ones, swapped or both negated, and the sign of a product. By cases.
 use mathlib.Core.Path.{_≡_, refl}
 use mathlib.Core.Bool.{Bool, true, false, not, Bool·beq}
 use lib.Ieee.{unlike}

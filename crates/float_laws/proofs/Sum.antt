@@ -1,5 +1,5 @@
 -- ±a / c + ±b / c, before it is rounded: like signs add the sizes, opposite ones leave the difference with the larger's sign,
--- and opposite ones of equal size leave +0. `way` tells which, by comparing a and b.
+-- and opposite ones of equal size leave +0. `sum-case` decides, by comparing a and b.
 use mathlib.Core.Path.{_≡_, refl, subst}
 use Prim.Native.Nat.{ℕ, _+_, _-_, _<_}
 use native.Mathlib.Nat.{sub-self, le-refl, le-of-lt}
@@ -10,41 +10,41 @@ use borrow.Author.Tests.{lt-ltb, le-ltb, ltb-true, ltb-false}
 use lib.Ieee.{Format, round, sum}
 use Rattle.float_laws.proofs.Sign.{Opposite, plus-minus, minus-plus, beq-opposite, beq-self}
 
--- how ±a and ±b meet
-pub data Way : Bool → ℕ → Bool → ℕ → Type 0 where
-  like : {s : Bool} {a b : ℕ} → Way s a s b
-  less : {s t : Bool} {a b : ℕ} → Opposite s t → a < b → Way s a t b
-  more : {s t : Bool} {a b : ℕ} → Opposite s t → b < a → Way s a t b
-  level : {s t : Bool} {a : ℕ} → Opposite s t → Way s a t a
+-- the cases of ±a + ±b
+pub data SumCase : Bool → ℕ → Bool → ℕ → Type 0 where
+  same-sign : {s : Bool} {a b : ℕ} → SumCase s a s b
+  right-larger : {s t : Bool} {a b : ℕ} → Opposite s t → a < b → SumCase s a t b
+  left-larger : {s t : Bool} {a b : ℕ} → Opposite s t → b < a → SumCase s a t b
+  cancelling : {s t : Bool} {a : ℕ} → Opposite s t → SumCase s a t a
 
-apart : {s t : Bool} → Opposite s t → (a b : ℕ) (p q : Bool) → ltb a b ≡ p → ltb b a ≡ q → Way s a t b
-apart o a b true q x y = less o (ltb-true a b x)
-apart o a b false true x y = more o (ltb-true b a y)
-apart {s} {t} o a b false false x y =
-    subst (λ (b : ℕ). Way s a t b) (omega (arith, ltb-false a b x, ltb-false b a y)) (level o)
+opposite-case : {s t : Bool} → Opposite s t → (a b : ℕ) (p q : Bool) → ltb a b ≡ p → ltb b a ≡ q → SumCase s a t b
+opposite-case o a b true q x y = right-larger o (ltb-true a b x)
+opposite-case o a b false true x y = left-larger o (ltb-true b a y)
+opposite-case {s} {t} o a b false false x y =
+    subst (λ (b : ℕ). SumCase s a t b) (omega (arith, ltb-false a b x, ltb-false b a y)) (cancelling o)
 
-pub way : (s : Bool) (a : ℕ) (t : Bool) (b : ℕ) → Way s a t b
-way true a true b = like
-way false a false b = like
-way true a false b = apart minus-plus a b (ltb a b) (ltb b a) refl refl
-way false a true b = apart plus-minus a b (ltb a b) (ltb b a) refl refl
+pub sum-case : (s : Bool) (a : ℕ) (t : Bool) (b : ℕ) → SumCase s a t b
+sum-case true a true b = same-sign
+sum-case false a false b = same-sign
+sum-case true a false b = opposite-case minus-plus a b (ltb a b) (ltb b a) refl refl
+sum-case false a true b = opposite-case plus-minus a b (ltb a b) (ltb b a) refl refl
 
 -- the sign and the size of the sum
-abbrev pub signOf : {s t : Bool} {a b : ℕ} → Way s a t b → Bool
-signOf (like {s}) = s
-signOf (less {t} o h) = t
-signOf (more {s} o h) = s
-signOf (level o) = false
+abbrev pub sumSign : {s t : Bool} {a b : ℕ} → SumCase s a t b → Bool
+sumSign (same-sign {s}) = s
+sumSign (right-larger {t} o h) = t
+sumSign (left-larger {s} o h) = s
+sumSign (cancelling o) = false
 
-abbrev pub sizeOf : {s t : Bool} {a b : ℕ} → Way s a t b → ℕ
-sizeOf (like {a} {b}) = a + b
-sizeOf (less {a} {b} o h) = b - a
-sizeOf (more {a} {b} o h) = a - b
-sizeOf (level o) = 0
+abbrev pub sumSize : {s t : Bool} {a b : ℕ} → SumCase s a t b → ℕ
+sumSize (same-sign {a} {b}) = a + b
+sumSize (right-larger {a} {b} o h) = b - a
+sumSize (left-larger {a} {b} o h) = a - b
+sumSize (cancelling o) = 0
 
-pub sum-is : (f : Format) (c : ℕ) {s t : Bool} {a b : ℕ} (w : Way s a t b) → sum f s a t b c ≡ round f (signOf w) (sizeOf w) c
+pub sum-is : (f : Format) (c : ℕ) {s t : Bool} {a b : ℕ} (w : SumCase s a t b) → sum f s a t b c ≡ round f (sumSign w) (sumSize w) c
 unfolding sum
-sum-is f c (like {s}) = rw (beq-self s)
-sum-is f c (less {a} {b} o h) = rw (beq-opposite o, lt-ltb a b h)
-sum-is f c (more {s} {a} {b} o h) = rw (beq-opposite o, le-ltb a b (le-of-lt h), lt-ltb b a h, and-true s)
-sum-is f c (level {s} {a} o) = rw (beq-opposite o, le-ltb a a (le-refl a), and-false s, sub-self a)
+sum-is f c (same-sign {s}) = rw (beq-self s)
+sum-is f c (right-larger {a} {b} o h) = rw (beq-opposite o, lt-ltb a b h)
+sum-is f c (left-larger {s} {a} {b} o h) = rw (beq-opposite o, le-ltb a b (le-of-lt h), lt-ltb b a h, and-true s)
+sum-is f c (cancelling {s} {a} o) = rw (beq-opposite o, le-ltb a a (le-refl a), and-false s, sub-self a)

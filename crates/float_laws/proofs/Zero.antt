@@ -1,5 +1,5 @@
 -- What a zero does: x + 0 is x unless x is -0; x + -0 and x - 0 are x; a sum is -0 only if both terms are; a finite value times a zero
--- is a zero. A sum is taken in smallest values, by the way its two terms meet; no number of them but 0 rounds to a zero.
+-- is a zero. A sum is taken in smallest values, by its cases (`SumCase`); no number of them but 0 rounds to a zero.
 use mathlib.Core.Path.{_≡_, refl, sym, _∙_}
 use mathlib.Core.Logic.{_≢_}
 use Prim.Native.Nat.{ℕ, _*_}
@@ -13,7 +13,7 @@ use lib.Ieee.Exact.{HasValue}
 use lib.Ieee.Scale.{finite}
 use Rattle.float_laws.specs.Zero.{signedZero, plusZero, minusZero, sign}
 use Rattle.float_laws.proofs.Sign.{plus-minus, minus-plus, unlike-comm}
-use Rattle.float_laws.proofs.Sum.{Way, like, less, more, level, way, signOf, sizeOf, sum-is}
+use Rattle.float_laws.proofs.Sum.{SumCase, same-sign, right-larger, left-larger, cancelling, sum-case, sumSign, sumSize, sum-is}
 use Rattle.float_laws.proofs.Swap.{mul-comm}
 use Rattle.float_laws.proofs.Squared.{sub-squared}
 use Rattle.float_laws.proofs.Value.{value-unique}
@@ -35,12 +35,12 @@ finite-terms f (fin s m e) (inf t) h = absurd h
 finite-terms f (fin s m e) (fin t n d) h = (tt, tt)
 
 module _ (f : Format) where
-  both-zero : {s t : Bool} {a b : ℕ} (w : Way s a t b) → signOf w ≡ true → sizeOf w ≡ 0
+  both-zero : {s t : Bool} {a b : ℕ} (w : SumCase s a t b) → sumSign w ≡ true → sumSize w ≡ 0
       → (s ≡ true) × (a ≡ 0) × (t ≡ true) × (b ≡ 0)
-  both-zero like p z = (p, omega arith, p, omega arith)
-  both-zero (less o h) p z = absurd (omega arith)
-  both-zero (more o h) p z = absurd (omega arith)
-  both-zero (level o) p z = absurd (false≢true p)
+  both-zero same-sign p z = (p, omega arith, p, omega arith)
+  both-zero (right-larger o h) p z = absurd (omega arith)
+  both-zero (left-larger o h) p z = absurd (omega arith)
+  both-zero (cancelling o) p z = absurd (false≢true p)
 
   is-minusZero : (x : Float) → T (fits f x) → HasValue x true 0 (scale f) → x ≡ minusZero
   is-minusZero x h v = value-unique f x minusZero true 0 (scale f) (scale-pos f) h (zero-fits f true) v (zero-value true (scale f))
@@ -50,30 +50,30 @@ module _ (f : Format) where
       let (p, q) = finite-terms f x y (rw e tt) in
       let (a, u) = in-smallest f x h p in
       let (b, v) = in-smallest f y k q in
-      let w = way (sign x) a (sign y) b in
+      let w = sum-case (sign x) a (sign y) b in
       let rounded = add-value f x y (sign x) (sign y) a b (scale f) (scale-pos f) u v ∙ sum-is f (scale f) w in
-      let (r, z) = round-minusZero f (signOf w) (sizeOf w) (sym rounded ∙ e) in
+      let (r, z) = round-minusZero f (sumSign w) (sumSize w) (sym rounded ∙ e) in
       let (s, A, t, B) = both-zero w r z in
       (is-minusZero x h (rw (s, A) at u), is-minusZero y k (rw (t, B) at v))
 
   -- ---- a zero as a term
-  unchanged : {s t : Bool} {k : ℕ} (w : Way s k t 0) → (t ≡ false → round f s k (scale f) ≢ minusZero)
-      → round f (signOf w) (sizeOf w) (scale f) ≡ round f s k (scale f)
-  unchanged (like {a = k}) n = rw (add-zero k)
-  unchanged (less o h) n = absurd (omega arith)
-  unchanged (more {a = k} o h) n = rw (sub-zero k)
-  unchanged (level plus-minus) n = refl
-  unchanged (level minus-plus) n = absurd (n refl (round-zero f true (scale f) (scale-pos f)))
+  unchanged : {s t : Bool} {k : ℕ} (w : SumCase s k t 0) → (t ≡ false → round f s k (scale f) ≢ minusZero)
+      → round f (sumSign w) (sumSize w) (scale f) ≡ round f s k (scale f)
+  unchanged (same-sign {a = k}) n = rw (add-zero k)
+  unchanged (right-larger o h) n = absurd (omega arith)
+  unchanged (left-larger {a = k} o h) n = rw (sub-zero k)
+  unchanged (cancelling plus-minus) n = refl
+  unchanged (cancelling minus-plus) n = absurd (n refl (round-zero f true (scale f) (scale-pos f)))
 
   add-finite : (x : Float) (t : Bool) → T (fits f x) → T (finite x) → (t ≡ false → x ≢ minusZero) → add f x (signedZero t) ≡ x
   add-finite x t h p n =
       let (k, v) = in-smallest f x h p in
-      let own : round f (sign x) k (scale f) ≡ x = round-value f x (sign x) k (scale f) (scale-pos f) h v in
-      let w = way (sign x) k t 0 in
+      let rounds : round f (sign x) k (scale f) ≡ x = round-value f x (sign x) k (scale f) (scale-pos f) h v in
+      let w = sum-case (sign x) k t 0 in
       add-value f x (signedZero t) (sign x) t k 0 (scale f) (scale-pos f) v (zero-value t (scale f))
       ∙ sum-is f (scale f) w
-      ∙ unchanged w (λ z e. n z (sym own ∙ e))
-      ∙ own
+      ∙ unchanged w (λ z e. n z (sym rounds ∙ e))
+      ∙ rounds
 
   -- unless the zero is +0 and x is -0
   add-signedZero : (x : Float) (t : Bool) → T (fits f x) → (t ≡ false → x ≢ minusZero) → add f x (signedZero t) ≡ x

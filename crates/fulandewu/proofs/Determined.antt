@@ -1,8 +1,10 @@
--- Each export's contract determines its outcome, the number and every lent number and byte: stated over the contract's own reading, so it changes with the contract.
+-- Each export's contract determines its outcome, the number returned, every field and every lent byte: stated over the contract's own
+-- reading, so it changes with the contract.
 use mathlib.Core.Path.{_∙_, sym}
+use mathlib.Core.List.{[], _∷_}
 use denote.Ref.{now}
 use Rattle.promises.specs.Determined.{Determined}
-use Rattle.fulandewu.specs.Exported.{writeExport, convertExport}
+use Rattle.fulandewu.specs.Fields.{exportOutcome}
 use Rattle.fulandewu.proofs.reading.fulandewu_read.Reads as read
 use Rattle.fulandewu.proofs.reading.fulandewu_read_strict.Reads as read-strict
 use Rattle.fulandewu.proofs.writing.fulandewu_write.Reads as write
@@ -16,38 +18,38 @@ use Rattle.fulandewu.proofs.nearest.fulandewu_nearer_l2.Reads as nearer
 use Rattle.fulandewu.proofs.nearest.fulandewu_nearer_dot.Reads as nearer-dot
 use Rattle.fulandewu.proofs.nearest.fulandewu_nearer_jaccard.Reads as nearer-jaccard
 
-pub read-determined : (κs : _) (a : _) → Determined (read.Post κs a) (λ r x. r) × (Determined (read.Post κs a) (λ r x. now (x .1 .0)) × (Determined (read.Post κs a) (λ r x. now (x .1 .1 .0)) × Determined (read.Post κs a) (λ r x. now (x .1 .1 .1 .0))))
-read-determined κs a = (λ r r′ x x′ p q. p .0 ∙ sym (q .0), (λ r r′ x x′ p q. p .1 .0 ∙ sym (q .1 .0), (λ r r′ x x′ p q. p .1 .1 .0 ∙ sym (q .1 .1 .0), λ r r′ x x′ p q. p .1 .1 .1 ∙ sym (q .1 .1 .1))))
+pub read-determined : (κs : _) (a : _) → Determined (read.Post κs a) (λ r x. exportOutcome r (now (x .1 .0)) [])
+read-determined κs a r r′ x x′ p q = p ∙ sym q
 
-pub read-strict-determined : (κs : _) (a : _) → Determined (read-strict.Post κs a) (λ r x. r) × (Determined (read-strict.Post κs a) (λ r x. now (x .1 .0)) × (Determined (read-strict.Post κs a) (λ r x. now (x .1 .1 .0)) × Determined (read-strict.Post κs a) (λ r x. now (x .1 .1 .1 .0))))
-read-strict-determined κs a = (λ r r′ x x′ p q. p .0 ∙ sym (q .0), (λ r r′ x x′ p q. p .1 .0 ∙ sym (q .1 .0), (λ r r′ x x′ p q. p .1 .1 .0 ∙ sym (q .1 .1 .0), λ r r′ x x′ p q. p .1 .1 .1 ∙ sym (q .1 .1 .1))))
+pub read-strict-determined : (κs : _) (a : _) → Determined (read-strict.Post κs a) (λ r x. exportOutcome r (now (x .1 .0)) [])
+read-strict-determined κs a r r′ x x′ p q = p ∙ sym q
 
-pub write-determined : (κs : _) (a : _) → Determined (write.Post κs a) (λ r x. writeExport r (now (x .1 .1 .1 .0)) (now (x .1 .1 .1 .1 .0)) (now (x .1 .1 .1 .1 .1 .0)))
+pub write-determined : (κs : _) (a : _) → Determined (write.Post κs a) (λ r x. exportOutcome r (now (x .1 .1 .1 .1 .0)) (now (x .1 .1 .1 .0) ∷ []))
 write-determined κs a r r′ x x′ p q = p ∙ sym q
 
-pub convert-determined : (κs : _) (a : _) → Determined (convert.Post κs a) (λ r x. convertExport r (now (x .1 .1 .0)) (now (x .1 .1 .1 .0)) (now (x .1 .1 .1 .1 .0)) (now (x .1 .1 .1 .1 .1 .0)) (now (x .1 .1 .1 .1 .1 .1 .0)))
+pub convert-determined : (κs : _) (a : _) → Determined (convert.Post κs a) (λ r x. exportOutcome r (now (x .1 .1 .1 .1 .0)) (now (x .1 .1 .0) ∷ now (x .1 .1 .1 .0) ∷ []))
 convert-determined κs a r r′ x x′ p q = p ∙ sym q
 
-pub distance-cos-determined : (κs : _) (a : _) → Determined (distance-cos.Post κs a) (λ r x. r) × (Determined (distance-cos.Post κs a) (λ r x. now (x .1 .1 .0)) × Determined (distance-cos.Post κs a) (λ r x. now (x .1 .1 .1 .0)))
-distance-cos-determined κs a = (λ r r′ x x′ p q. p .0 ∙ sym (q .0), (λ r r′ x x′ p q. p .1 .0 ∙ sym (q .1 .0), λ r r′ x x′ p q. p .1 .1 ∙ sym (q .1 .1)))
+pub distance-cos-determined : (κs : _) (a : _) → Determined (distance-cos.Post κs a) (λ r x. exportOutcome r (now (x .1 .1 .0)) [])
+distance-cos-determined κs a r r′ x x′ p q = p ∙ sym q
 
-pub distance-l2-determined : (κs : _) (a : _) → Determined (distance-l2.Post κs a) (λ r x. r) × (Determined (distance-l2.Post κs a) (λ r x. now (x .1 .1 .0)) × Determined (distance-l2.Post κs a) (λ r x. now (x .1 .1 .1 .0)))
-distance-l2-determined κs a = (λ r r′ x x′ p q. p .0 ∙ sym (q .0), (λ r r′ x x′ p q. p .1 .0 ∙ sym (q .1 .0), λ r r′ x x′ p q. p .1 .1 ∙ sym (q .1 .1)))
+pub distance-l2-determined : (κs : _) (a : _) → Determined (distance-l2.Post κs a) (λ r x. exportOutcome r (now (x .1 .1 .0)) [])
+distance-l2-determined κs a r r′ x x′ p q = p ∙ sym q
 
-pub distance-dot-determined : (κs : _) (a : _) → Determined (distance-dot.Post κs a) (λ r x. r) × (Determined (distance-dot.Post κs a) (λ r x. now (x .1 .1 .0)) × Determined (distance-dot.Post κs a) (λ r x. now (x .1 .1 .1 .0)))
-distance-dot-determined κs a = (λ r r′ x x′ p q. p .0 ∙ sym (q .0), (λ r r′ x x′ p q. p .1 .0 ∙ sym (q .1 .0), λ r r′ x x′ p q. p .1 .1 ∙ sym (q .1 .1)))
+pub distance-dot-determined : (κs : _) (a : _) → Determined (distance-dot.Post κs a) (λ r x. exportOutcome r (now (x .1 .1 .0)) [])
+distance-dot-determined κs a r r′ x x′ p q = p ∙ sym q
 
-pub distance-jaccard-determined : (κs : _) (a : _) → Determined (distance-jaccard.Post κs a) (λ r x. r) × (Determined (distance-jaccard.Post κs a) (λ r x. now (x .1 .1 .0)) × Determined (distance-jaccard.Post κs a) (λ r x. now (x .1 .1 .1 .0)))
-distance-jaccard-determined κs a = (λ r r′ x x′ p q. p .0 ∙ sym (q .0), (λ r r′ x x′ p q. p .1 .0 ∙ sym (q .1 .0), λ r r′ x x′ p q. p .1 .1 ∙ sym (q .1 .1)))
+pub distance-jaccard-determined : (κs : _) (a : _) → Determined (distance-jaccard.Post κs a) (λ r x. exportOutcome r (now (x .1 .1 .0)) [])
+distance-jaccard-determined κs a r r′ x x′ p q = p ∙ sym q
 
-pub nearer-cos-determined : (κs : _) (a : _) → Determined (nearer-cos.Post κs a) (λ r x. r) × (Determined (nearer-cos.Post κs a) (λ r x. now (x .1 .1 .1 .0)) × (Determined (nearer-cos.Post κs a) (λ r x. now (x .1 .1 .1 .1 .0)) × Determined (nearer-cos.Post κs a) (λ r x. now (x .1 .1 .1 .1 .1 .0))))
-nearer-cos-determined κs a = (λ r r′ x x′ p q. p .0 ∙ sym (q .0), (λ r r′ x x′ p q. p .1 .0 ∙ sym (q .1 .0), (λ r r′ x x′ p q. p .1 .1 .0 ∙ sym (q .1 .1 .0), λ r r′ x x′ p q. p .1 .1 .1 ∙ sym (q .1 .1 .1))))
+pub nearer-cos-determined : (κs : _) (a : _) → Determined (nearer-cos.Post κs a) (λ r x. exportOutcome r (now (x .1 .1 .1 .0)) [])
+nearer-cos-determined κs a r r′ x x′ p q = p ∙ sym q
 
-pub nearer-l2-determined : (κs : _) (a : _) → Determined (nearer-l2.Post κs a) (λ r x. r) × (Determined (nearer-l2.Post κs a) (λ r x. now (x .1 .1 .1 .0)) × (Determined (nearer-l2.Post κs a) (λ r x. now (x .1 .1 .1 .1 .0)) × Determined (nearer-l2.Post κs a) (λ r x. now (x .1 .1 .1 .1 .1 .0))))
-nearer-l2-determined κs a = (λ r r′ x x′ p q. p .0 ∙ sym (q .0), (λ r r′ x x′ p q. p .1 .0 ∙ sym (q .1 .0), (λ r r′ x x′ p q. p .1 .1 .0 ∙ sym (q .1 .1 .0), λ r r′ x x′ p q. p .1 .1 .1 ∙ sym (q .1 .1 .1))))
+pub nearer-l2-determined : (κs : _) (a : _) → Determined (nearer-l2.Post κs a) (λ r x. exportOutcome r (now (x .1 .1 .1 .0)) [])
+nearer-l2-determined κs a r r′ x x′ p q = p ∙ sym q
 
-pub nearer-dot-determined : (κs : _) (a : _) → Determined (nearer-dot.Post κs a) (λ r x. r) × (Determined (nearer-dot.Post κs a) (λ r x. now (x .1 .1 .1 .0)) × (Determined (nearer-dot.Post κs a) (λ r x. now (x .1 .1 .1 .1 .0)) × Determined (nearer-dot.Post κs a) (λ r x. now (x .1 .1 .1 .1 .1 .0))))
-nearer-dot-determined κs a = (λ r r′ x x′ p q. p .0 ∙ sym (q .0), (λ r r′ x x′ p q. p .1 .0 ∙ sym (q .1 .0), (λ r r′ x x′ p q. p .1 .1 .0 ∙ sym (q .1 .1 .0), λ r r′ x x′ p q. p .1 .1 .1 ∙ sym (q .1 .1 .1))))
+pub nearer-dot-determined : (κs : _) (a : _) → Determined (nearer-dot.Post κs a) (λ r x. exportOutcome r (now (x .1 .1 .1 .0)) [])
+nearer-dot-determined κs a r r′ x x′ p q = p ∙ sym q
 
-pub nearer-jaccard-determined : (κs : _) (a : _) → Determined (nearer-jaccard.Post κs a) (λ r x. r) × (Determined (nearer-jaccard.Post κs a) (λ r x. now (x .1 .1 .1 .0)) × (Determined (nearer-jaccard.Post κs a) (λ r x. now (x .1 .1 .1 .1 .0)) × Determined (nearer-jaccard.Post κs a) (λ r x. now (x .1 .1 .1 .1 .1 .0))))
-nearer-jaccard-determined κs a = (λ r r′ x x′ p q. p .0 ∙ sym (q .0), (λ r r′ x x′ p q. p .1 .0 ∙ sym (q .1 .0), (λ r r′ x x′ p q. p .1 .1 .0 ∙ sym (q .1 .1 .0), λ r r′ x x′ p q. p .1 .1 .1 ∙ sym (q .1 .1 .1))))
+pub nearer-jaccard-determined : (κs : _) (a : _) → Determined (nearer-jaccard.Post κs a) (λ r x. exportOutcome r (now (x .1 .1 .1 .0)) [])
+nearer-jaccard-determined κs a r r′ x x′ p q = p ∙ sym q

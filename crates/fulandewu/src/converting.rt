@@ -1,10 +1,15 @@
 // Converting a blob to another kind.
 ghost use mathlib.Core.Path.{_≡_};
+ghost use mathlib.Core.List.{[], _∷_};
 ghost use Rattle.convert.specs.Convert.{convertNumber, outcome};
-ghost use Rattle.fulandewu.specs.Exported.{convertedBy, dimsMade, lengthMade, roomNeeded, convertExport, convertTold};
+ghost use Rattle.fulandewu.specs.Fields.{exportOutcome, leaves};
+ghost use Rattle.fulandewu.specs.Exported.{convertedBy, convertFields, convertExport};
+use crate::fields::Answer;
+use crate::fields::DIMS;
+use crate::fields::LENGTH;
 use crate::kinds::Chosen;
 use crate::kinds::kind_of;
-use crate::numbers::tell_need;
+use crate::refusing::report_refusal;
 use convert::ConvertAnswer;
 
 // Converts a blob to the kind that a byte names.
@@ -17,42 +22,33 @@ fn convert_as(blob: &[u8], kind: u8, scratch: &mut [u8], out: &mut [u8]) -> Conv
     }
 }
 
-// The number of an answer; the dims and the length of a new body, or the room needed, are written.
-fn tell(answer: ConvertAnswer, dims: &mut usize, length: &mut usize, needed: &mut usize) -> u32
-    ensures { λ r. ⌜ r ≡ convertNumber answer ⌝ }
-    ensures { λ _. ⌜ now (dims .exit) ≡ dimsMade answer (now (dims .entry)) ⌝ }
-    ensures { λ _. ⌜ now (length .exit) ≡ lengthMade answer (now (length .entry)) ⌝ }
-    ensures { λ _. ⌜ now (needed .exit) ≡ roomNeeded answer (now (needed .entry)) ⌝ }
+// The number of a conversion's answer; the dims and the length of the new body are written.
+fn report(found: ConvertAnswer, answer: &mut Answer) -> u32
+    ensures { λ r. ⌜ exportOutcome r (now (answer .exit)) [] ≡ leaves (convertNumber found) (convertFields found) (now (answer .entry)) [] ⌝ }
 {
-    match answer {
+    match found {
         ConvertAnswer::Converted(view) => {
-            *dims = view.dims.0;
-            *length = view.length;
+            answer[DIMS] = view.dims.0 as u64;
+            answer[LENGTH] = view.length as u64;
             0
         }
-        ConvertAnswer::Refused(refusal) => {
-            let detail = refusal.detail;
-            tell_need(detail, needed);
-            refusal.number as u32
-        }
+        ConvertAnswer::Refused(refusal) => report_refusal(refusal, answer),
     }
 }
 
-// Puts the body of the kind that a type byte names at the start of out, and its dims and length into
-// dims and length; where scratch (17) or out (15) is too short, how long it would have to be into needed.
+// Puts the body of the kind that a type byte names at the start of out, and reports its dims and length;
+// where scratch (17) or out (15) is too short, how long it would have to be.
 #[no_mangle]
 pub extern "C" fn fulandewu_convert(
     blob: &[u8],
     kind: u8,
     scratch: &mut [u8],
     out: &mut [u8],
-    dims: &mut usize,
-    length: &mut usize,
-    needed: &mut usize,
+    answer: &mut Answer,
 ) -> u32
-    ensures { λ r. ⌜ convertExport r (now (scratch .exit)) (now (out .exit)) (now (dims .exit)) (now (length .exit)) (now (needed .exit))
-        ≡ convertTold (convertedBy (now (blob .entry)) kind (now (scratch .entry)) (now (out .entry))) (now (dims .entry)) (now (length .entry)) (now (needed .entry)) ⌝ }
+    ensures { λ r. ⌜ exportOutcome r (now (answer .exit)) (now (scratch .exit) ∷ now (out .exit) ∷ [])
+        ≡ convertExport (convertedBy (now (blob .entry)) kind (now (scratch .entry)) (now (out .entry))) (now (answer .entry)) ⌝ }
 {
-    let answer = convert_as(blob, kind, scratch, out);
-    tell(answer, dims, length, needed)
+    let found = convert_as(blob, kind, scratch, out);
+    report(found, answer)
 }

@@ -1,17 +1,23 @@
 // The distances of two blobs.
 ghost use mathlib.Core.Path.{_≡_};
-ghost use Rattle.distance.specs.Answer.{distanceNumber, distanceOf};
+ghost use mathlib.Core.List.{[]};
+ghost use Rattle.distance.specs.Answer.{distanceOf};
 ghost use Rattle.distance.specs.declared.Distance.the-variants.{Cos, L2, Dot, Jaccard};
-ghost use Rattle.fulandewu.specs.Exported.{whichByte, distanceMeasured, whichRefused};
-use crate::numbers::canonical;
+ghost use Rattle.fulandewu.specs.Fields.{exportOutcome};
+ghost use Rattle.fulandewu.specs.Exported.{whichCode, distanceExport};
+use crate::fields::Answer;
+use crate::fields::DISTANCE;
+use crate::fields::WHICH;
+use crate::refusing::report_refusal;
 use distance::Distance;
 use distance::DistanceAnswer;
 use distance::Which;
 use distance::vector_distance;
+use little_endian::bits64;
 
 // The blob that a refusal is about: 1 the first, 2 the second, 0 neither.
-fn which_byte(which: Which) -> u8
-    ensures { λ r. ⌜ r ≡ whichByte which ⌝ }
+fn which_code(which: Which) -> u64
+    ensures { λ r. ⌜ r ≡ whichCode which ⌝ }
 {
     match which {
         Which::First => 1,
@@ -21,85 +27,57 @@ fn which_byte(which: Which) -> u8
 }
 
 // The number of an answer; the distance, or the blob that a refusal is about, is written.
-fn tell(answer: DistanceAnswer, distance: &mut f64, which: &mut u8) -> u32
-    ensures { λ r. ⌜ r ≡ distanceNumber answer ⌝ }
-    ensures { λ _. ⌜ now (distance .exit) ≡ distanceMeasured answer (now (distance .entry)) ⌝ }
-    ensures { λ _. ⌜ now (which .exit) ≡ whichRefused answer (now (which .entry)) ⌝ }
+fn report(found: DistanceAnswer, answer: &mut Answer) -> u32
+    ensures { λ r. ⌜ exportOutcome r (now (answer .exit)) [] ≡ distanceExport found (now (answer .entry)) ⌝ }
 {
-    match answer {
+    match found {
         DistanceAnswer::Measured(x) => {
-            *distance = canonical(x);
+            answer[DISTANCE] = bits64(x);
             0
         }
         DistanceAnswer::Refused(refusal, blob) => {
-            *which = which_byte(blob);
-            refusal.number as u32
+            answer[WHICH] = which_code(blob);
+            report_refusal(refusal, answer)
         }
     }
 }
 
 // What the four exports do.
-fn measure(asked: Distance, first: &[u8], second: &[u8], distance: &mut f64, which: &mut u8) -> u32
-    ensures { λ r. ⌜ r ≡ distanceNumber (distanceOf asked (now (first .entry)) (now (second .entry))) ⌝ }
-    ensures { λ _. ⌜ now (distance .exit) ≡ distanceMeasured (distanceOf asked (now (first .entry)) (now (second .entry))) (now (distance .entry)) ⌝ }
-    ensures { λ _. ⌜ now (which .exit) ≡ whichRefused (distanceOf asked (now (first .entry)) (now (second .entry))) (now (which .entry)) ⌝ }
+fn measure(asked: Distance, first: &[u8], second: &[u8], answer: &mut Answer) -> u32
+    ensures { λ r. ⌜ exportOutcome r (now (answer .exit)) [] ≡ distanceExport (distanceOf asked (now (first .entry)) (now (second .entry))) (now (answer .entry)) ⌝ }
 {
-    let answer = vector_distance(asked, first, second);
-    tell(answer, distance, which)
+    let found = vector_distance(asked, first, second);
+    report(found, answer)
 }
 
 #[no_mangle]
-pub extern "C" fn fulandewu_distance_cos(
-    first: &[u8],
-    second: &[u8],
-    distance: &mut f64,
-    which: &mut u8,
-) -> u32
-    ensures { λ r. ⌜ r ≡ distanceNumber (distanceOf Cos (now (first .entry)) (now (second .entry))) ⌝ }
-    ensures { λ _. ⌜ now (distance .exit) ≡ distanceMeasured (distanceOf Cos (now (first .entry)) (now (second .entry))) (now (distance .entry)) ⌝ }
-    ensures { λ _. ⌜ now (which .exit) ≡ whichRefused (distanceOf Cos (now (first .entry)) (now (second .entry))) (now (which .entry)) ⌝ }
+pub extern "C" fn fulandewu_distance_cos(first: &[u8], second: &[u8], answer: &mut Answer) -> u32
+    ensures { λ r. ⌜ exportOutcome r (now (answer .exit)) [] ≡ distanceExport (distanceOf Cos (now (first .entry)) (now (second .entry))) (now (answer .entry)) ⌝ }
 {
-    measure(Distance::Cos, first, second, distance, which)
+    measure(Distance::Cos, first, second, answer)
 }
 
 #[no_mangle]
-pub extern "C" fn fulandewu_distance_l2(
-    first: &[u8],
-    second: &[u8],
-    distance: &mut f64,
-    which: &mut u8,
-) -> u32
-    ensures { λ r. ⌜ r ≡ distanceNumber (distanceOf L2 (now (first .entry)) (now (second .entry))) ⌝ }
-    ensures { λ _. ⌜ now (distance .exit) ≡ distanceMeasured (distanceOf L2 (now (first .entry)) (now (second .entry))) (now (distance .entry)) ⌝ }
-    ensures { λ _. ⌜ now (which .exit) ≡ whichRefused (distanceOf L2 (now (first .entry)) (now (second .entry))) (now (which .entry)) ⌝ }
+pub extern "C" fn fulandewu_distance_l2(first: &[u8], second: &[u8], answer: &mut Answer) -> u32
+    ensures { λ r. ⌜ exportOutcome r (now (answer .exit)) [] ≡ distanceExport (distanceOf L2 (now (first .entry)) (now (second .entry))) (now (answer .entry)) ⌝ }
 {
-    measure(Distance::L2, first, second, distance, which)
+    measure(Distance::L2, first, second, answer)
 }
 
 #[no_mangle]
-pub extern "C" fn fulandewu_distance_dot(
-    first: &[u8],
-    second: &[u8],
-    distance: &mut f64,
-    which: &mut u8,
-) -> u32
-    ensures { λ r. ⌜ r ≡ distanceNumber (distanceOf Dot (now (first .entry)) (now (second .entry))) ⌝ }
-    ensures { λ _. ⌜ now (distance .exit) ≡ distanceMeasured (distanceOf Dot (now (first .entry)) (now (second .entry))) (now (distance .entry)) ⌝ }
-    ensures { λ _. ⌜ now (which .exit) ≡ whichRefused (distanceOf Dot (now (first .entry)) (now (second .entry))) (now (which .entry)) ⌝ }
+pub extern "C" fn fulandewu_distance_dot(first: &[u8], second: &[u8], answer: &mut Answer) -> u32
+    ensures { λ r. ⌜ exportOutcome r (now (answer .exit)) [] ≡ distanceExport (distanceOf Dot (now (first .entry)) (now (second .entry))) (now (answer .entry)) ⌝ }
 {
-    measure(Distance::Dot, first, second, distance, which)
+    measure(Distance::Dot, first, second, answer)
 }
 
 #[no_mangle]
 pub extern "C" fn fulandewu_distance_jaccard(
     first: &[u8],
     second: &[u8],
-    distance: &mut f64,
-    which: &mut u8,
+    answer: &mut Answer,
 ) -> u32
-    ensures { λ r. ⌜ r ≡ distanceNumber (distanceOf Jaccard (now (first .entry)) (now (second .entry))) ⌝ }
-    ensures { λ _. ⌜ now (distance .exit) ≡ distanceMeasured (distanceOf Jaccard (now (first .entry)) (now (second .entry))) (now (distance .entry)) ⌝ }
-    ensures { λ _. ⌜ now (which .exit) ≡ whichRefused (distanceOf Jaccard (now (first .entry)) (now (second .entry))) (now (which .entry)) ⌝ }
+    ensures { λ r. ⌜ exportOutcome r (now (answer .exit)) [] ≡ distanceExport (distanceOf Jaccard (now (first .entry)) (now (second .entry))) (now (answer .entry)) ⌝ }
 {
-    measure(Distance::Jaccard, first, second, distance, which)
+    measure(Distance::Jaccard, first, second, answer)
 }

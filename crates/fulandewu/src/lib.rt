@@ -1,12 +1,13 @@
 // What C and Rust programs call: reading, writing, converting, the distances and the nearer of two.
-// Each export answers document 01's number of a refusal, 0 where there is none. It hands a value out
-// through a lent number, which it writes only where there is such a value.
+// Each export answers document 01's number of a refusal, 0 where there is none. It writes its values
+// into the fields of one lent answer, and leaves every other field as it was.
 mod converting;
 mod distances;
+mod fields;
 mod kinds;
 mod nearest;
-mod numbers;
 mod reading;
+mod refusing;
 mod writing;
 
 pub use converting::fulandewu_convert;
@@ -14,6 +15,7 @@ pub use distances::fulandewu_distance_cos;
 pub use distances::fulandewu_distance_dot;
 pub use distances::fulandewu_distance_jaccard;
 pub use distances::fulandewu_distance_l2;
+pub use fields::Answer;
 pub use nearest::fulandewu_nearer_cos;
 pub use nearest::fulandewu_nearer_dot;
 pub use nearest::fulandewu_nearer_jaccard;

@@ -1,17 +1,24 @@
 // The nearer of two candidates to a probe.
 ghost use mathlib.Core.Path.{_≡_};
+ghost use mathlib.Core.List.{[]};
 ghost use Rattle.distance.specs.declared.Distance.the-variants.{Cos, L2, Dot, Jaccard};
-ghost use Rattle.nearer.specs.Nearer.{nearerNumber, nearerOf};
-ghost use Rattle.fulandewu.specs.Exported.{candidateByte, amongByte, candidateChosen, distanceChosen, amongRefused};
-use crate::numbers::canonical;
+ghost use Rattle.nearer.specs.Nearer.{nearerOf};
+ghost use Rattle.fulandewu.specs.Fields.{exportOutcome};
+ghost use Rattle.fulandewu.specs.Exported.{candidateCode, amongCode, nearerExport};
+use crate::fields::Answer;
+use crate::fields::DISTANCE;
+use crate::fields::NEARER;
+use crate::fields::WHICH;
+use crate::refusing::report_refusal;
 use distance::Distance;
+use little_endian::bits64;
 use nearer::Among;
 use nearer::Candidate;
 use nearer::NearerAnswer;
 
 // The nearer candidate: 1 the first, 2 the second.
-fn candidate_byte(candidate: Candidate) -> u8
-    ensures { λ r. ⌜ r ≡ candidateByte candidate ⌝ }
+fn candidate_code(candidate: Candidate) -> u64
+    ensures { λ r. ⌜ r ≡ candidateCode candidate ⌝ }
 {
     match candidate {
         Candidate::First => 1,
@@ -20,8 +27,8 @@ fn candidate_byte(candidate: Candidate) -> u8
 }
 
 // The blob that a refusal is about: 1 the first, 2 the second, 3 the probe, 0 none of the three.
-fn among_byte(among: Among) -> u8
-    ensures { λ r. ⌜ r ≡ amongByte among ⌝ }
+fn among_code(among: Among) -> u64
+    ensures { λ r. ⌜ r ≡ amongCode among ⌝ }
 {
     match among {
         Among::Probe => 3,
@@ -33,43 +40,29 @@ fn among_byte(among: Among) -> u8
 
 // The number of an answer; the nearer candidate and its distance, or the blob that a refusal is
 // about, are written.
-fn tell(answer: NearerAnswer, nearer: &mut u8, distance: &mut f64, which: &mut u8) -> u32
-    ensures { λ r. ⌜ r ≡ nearerNumber answer ⌝ }
-    ensures { λ _. ⌜ now (nearer .exit) ≡ candidateChosen answer (now (nearer .entry)) ⌝ }
-    ensures { λ _. ⌜ now (distance .exit) ≡ distanceChosen answer (now (distance .entry)) ⌝ }
-    ensures { λ _. ⌜ now (which .exit) ≡ amongRefused answer (now (which .entry)) ⌝ }
+fn report(found: NearerAnswer, answer: &mut Answer) -> u32
+    ensures { λ r. ⌜ exportOutcome r (now (answer .exit)) [] ≡ nearerExport found (now (answer .entry)) ⌝ }
 {
-    match answer {
-        NearerAnswer::Nearer(found) => {
-            let candidate = found.candidate;
-            *nearer = candidate_byte(candidate);
-            *distance = canonical(found.distance);
+    match found {
+        NearerAnswer::Nearer(one) => {
+            let candidate = one.candidate;
+            answer[DISTANCE] = bits64(one.distance);
+            answer[NEARER] = candidate_code(candidate);
             0
         }
         NearerAnswer::Refused(refusal, blob) => {
-            *which = among_byte(blob);
-            refusal.number as u32
+            answer[WHICH] = among_code(blob);
+            report_refusal(refusal, answer)
         }
     }
 }
 
 // What the four exports do.
-fn compare(
-    asked: Distance,
-    probe: &[u8],
-    first: &[u8],
-    second: &[u8],
-    nearer: &mut u8,
-    distance: &mut f64,
-    which: &mut u8,
-) -> u32
-    ensures { λ r. ⌜ r ≡ nearerNumber (nearerOf asked (now (probe .entry)) (now (first .entry)) (now (second .entry))) ⌝ }
-    ensures { λ _. ⌜ now (nearer .exit) ≡ candidateChosen (nearerOf asked (now (probe .entry)) (now (first .entry)) (now (second .entry))) (now (nearer .entry)) ⌝ }
-    ensures { λ _. ⌜ now (distance .exit) ≡ distanceChosen (nearerOf asked (now (probe .entry)) (now (first .entry)) (now (second .entry))) (now (distance .entry)) ⌝ }
-    ensures { λ _. ⌜ now (which .exit) ≡ amongRefused (nearerOf asked (now (probe .entry)) (now (first .entry)) (now (second .entry))) (now (which .entry)) ⌝ }
+fn compare(asked: Distance, probe: &[u8], first: &[u8], second: &[u8], answer: &mut Answer) -> u32
+    ensures { λ r. ⌜ exportOutcome r (now (answer .exit)) [] ≡ nearerExport (nearerOf asked (now (probe .entry)) (now (first .entry)) (now (second .entry))) (now (answer .entry)) ⌝ }
 {
-    let answer = nearer::nearer(asked, probe, first, second);
-    tell(answer, nearer, distance, which)
+    let found = nearer::nearer(asked, probe, first, second);
+    report(found, answer)
 }
 
 #[no_mangle]
@@ -77,16 +70,11 @@ pub extern "C" fn fulandewu_nearer_cos(
     probe: &[u8],
     first: &[u8],
     second: &[u8],
-    nearer: &mut u8,
-    distance: &mut f64,
-    which: &mut u8,
+    answer: &mut Answer,
 ) -> u32
-    ensures { λ r. ⌜ r ≡ nearerNumber (nearerOf Cos (now (probe .entry)) (now (first .entry)) (now (second .entry))) ⌝ }
-    ensures { λ _. ⌜ now (nearer .exit) ≡ candidateChosen (nearerOf Cos (now (probe .entry)) (now (first .entry)) (now (second .entry))) (now (nearer .entry)) ⌝ }
-    ensures { λ _. ⌜ now (distance .exit) ≡ distanceChosen (nearerOf Cos (now (probe .entry)) (now (first .entry)) (now (second .entry))) (now (distance .entry)) ⌝ }
-    ensures { λ _. ⌜ now (which .exit) ≡ amongRefused (nearerOf Cos (now (probe .entry)) (now (first .entry)) (now (second .entry))) (now (which .entry)) ⌝ }
+    ensures { λ r. ⌜ exportOutcome r (now (answer .exit)) [] ≡ nearerExport (nearerOf Cos (now (probe .entry)) (now (first .entry)) (now (second .entry))) (now (answer .entry)) ⌝ }
 {
-    compare(Distance::Cos, probe, first, second, nearer, distance, which)
+    compare(Distance::Cos, probe, first, second, answer)
 }
 
 #[no_mangle]
@@ -94,16 +82,11 @@ pub extern "C" fn fulandewu_nearer_l2(
     probe: &[u8],
     first: &[u8],
     second: &[u8],
-    nearer: &mut u8,
-    distance: &mut f64,
-    which: &mut u8,
+    answer: &mut Answer,
 ) -> u32
-    ensures { λ r. ⌜ r ≡ nearerNumber (nearerOf L2 (now (probe .entry)) (now (first .entry)) (now (second .entry))) ⌝ }
-    ensures { λ _. ⌜ now (nearer .exit) ≡ candidateChosen (nearerOf L2 (now (probe .entry)) (now (first .entry)) (now (second .entry))) (now (nearer .entry)) ⌝ }
-    ensures { λ _. ⌜ now (distance .exit) ≡ distanceChosen (nearerOf L2 (now (probe .entry)) (now (first .entry)) (now (second .entry))) (now (distance .entry)) ⌝ }
-    ensures { λ _. ⌜ now (which .exit) ≡ amongRefused (nearerOf L2 (now (probe .entry)) (now (first .entry)) (now (second .entry))) (now (which .entry)) ⌝ }
+    ensures { λ r. ⌜ exportOutcome r (now (answer .exit)) [] ≡ nearerExport (nearerOf L2 (now (probe .entry)) (now (first .entry)) (now (second .entry))) (now (answer .entry)) ⌝ }
 {
-    compare(Distance::L2, probe, first, second, nearer, distance, which)
+    compare(Distance::L2, probe, first, second, answer)
 }
 
 #[no_mangle]
@@ -111,16 +94,11 @@ pub extern "C" fn fulandewu_nearer_dot(
     probe: &[u8],
     first: &[u8],
     second: &[u8],
-    nearer: &mut u8,
-    distance: &mut f64,
-    which: &mut u8,
+    answer: &mut Answer,
 ) -> u32
-    ensures { λ r. ⌜ r ≡ nearerNumber (nearerOf Dot (now (probe .entry)) (now (first .entry)) (now (second .entry))) ⌝ }
-    ensures { λ _. ⌜ now (nearer .exit) ≡ candidateChosen (nearerOf Dot (now (probe .entry)) (now (first .entry)) (now (second .entry))) (now (nearer .entry)) ⌝ }
-    ensures { λ _. ⌜ now (distance .exit) ≡ distanceChosen (nearerOf Dot (now (probe .entry)) (now (first .entry)) (now (second .entry))) (now (distance .entry)) ⌝ }
-    ensures { λ _. ⌜ now (which .exit) ≡ amongRefused (nearerOf Dot (now (probe .entry)) (now (first .entry)) (now (second .entry))) (now (which .entry)) ⌝ }
+    ensures { λ r. ⌜ exportOutcome r (now (answer .exit)) [] ≡ nearerExport (nearerOf Dot (now (probe .entry)) (now (first .entry)) (now (second .entry))) (now (answer .entry)) ⌝ }
 {
-    compare(Distance::Dot, probe, first, second, nearer, distance, which)
+    compare(Distance::Dot, probe, first, second, answer)
 }
 
 #[no_mangle]
@@ -128,22 +106,9 @@ pub extern "C" fn fulandewu_nearer_jaccard(
     probe: &[u8],
     first: &[u8],
     second: &[u8],
-    nearer: &mut u8,
-    distance: &mut f64,
-    which: &mut u8,
+    answer: &mut Answer,
 ) -> u32
-    ensures { λ r. ⌜ r ≡ nearerNumber (nearerOf Jaccard (now (probe .entry)) (now (first .entry)) (now (second .entry))) ⌝ }
-    ensures { λ _. ⌜ now (nearer .exit) ≡ candidateChosen (nearerOf Jaccard (now (probe .entry)) (now (first .entry)) (now (second .entry))) (now (nearer .entry)) ⌝ }
-    ensures { λ _. ⌜ now (distance .exit) ≡ distanceChosen (nearerOf Jaccard (now (probe .entry)) (now (first .entry)) (now (second .entry))) (now (distance .entry)) ⌝ }
-    ensures { λ _. ⌜ now (which .exit) ≡ amongRefused (nearerOf Jaccard (now (probe .entry)) (now (first .entry)) (now (second .entry))) (now (which .entry)) ⌝ }
+    ensures { λ r. ⌜ exportOutcome r (now (answer .exit)) [] ≡ nearerExport (nearerOf Jaccard (now (probe .entry)) (now (first .entry)) (now (second .entry))) (now (answer .entry)) ⌝ }
 {
-    compare(
-        Distance::Jaccard,
-        probe,
-        first,
-        second,
-        nearer,
-        distance,
-        which,
-    )
+    compare(Distance::Jaccard, probe, first, second, answer)
 }

@@ -1,60 +1,47 @@
 // Reading a blob, plainly and strictly.
 ghost use mathlib.Core.Path.{_≡_};
-ghost use Rattle.vector_types.specs.Answers.{readNumber};
+ghost use mathlib.Core.List.{[]};
 ghost use Rattle.vector_types.specs.Read.{readOf, strictOf};
-ghost use Rattle.fulandewu.specs.Exported.{kindShown, dimsShown, lengthShown};
+ghost use Rattle.fulandewu.specs.Fields.{exportOutcome};
+ghost use Rattle.fulandewu.specs.Exported.{readExport};
+use crate::fields::Answer;
+use crate::fields::DIMS;
+use crate::fields::KIND;
+use crate::fields::LENGTH;
+use crate::refusing::report_refusal;
 use vector_types::ReadAnswer;
 
-// The number of an answer; a view's type byte, dims and body length are written.
-fn tell(answer: ReadAnswer, kind: &mut u8, dims: &mut usize, length: &mut usize) -> u32
-    ensures { λ r. ⌜ r ≡ readNumber answer ⌝ }
-    ensures { λ _. ⌜ now (kind .exit) ≡ kindShown answer (now (kind .entry)) ⌝ }
-    ensures { λ _. ⌜ now (dims .exit) ≡ dimsShown answer (now (dims .entry)) ⌝ }
-    ensures { λ _. ⌜ now (length .exit) ≡ lengthShown answer (now (length .entry)) ⌝ }
+// The number of a reader's answer; a view's type byte, dims and body length are written.
+fn report(found: ReadAnswer, answer: &mut Answer) -> u32
+    ensures { λ r. ⌜ exportOutcome r (now (answer .exit)) [] ≡ readExport found (now (answer .entry)) ⌝ }
 {
-    match answer {
+    match found {
         ReadAnswer::Accepted(view) => {
             let named = view.kind;
-            *kind = vector_types::type_byte(named);
-            *dims = view.dims.0;
-            *length = view.length;
+            answer[KIND] = vector_types::type_byte(named) as u64;
+            answer[DIMS] = view.dims.0 as u64;
+            answer[LENGTH] = view.length as u64;
             0
         }
-        ReadAnswer::Refused(refusal) => refusal.number as u32,
+        ReadAnswer::Refused(refusal) => report_refusal(refusal, answer),
     }
 }
 
 // What a blob shows: its type byte (1, 2, 3, 4 or 9), its dims, and how many of its first bytes are
 // its body.
 #[no_mangle]
-pub extern "C" fn fulandewu_read(
-    blob: &[u8],
-    kind: &mut u8,
-    dims: &mut usize,
-    length: &mut usize,
-) -> u32
-    ensures { λ r. ⌜ r ≡ readNumber (readOf (now (blob .entry))) ⌝ }
-    ensures { λ _. ⌜ now (kind .exit) ≡ kindShown (readOf (now (blob .entry))) (now (kind .entry)) ⌝ }
-    ensures { λ _. ⌜ now (dims .exit) ≡ dimsShown (readOf (now (blob .entry))) (now (dims .entry)) ⌝ }
-    ensures { λ _. ⌜ now (length .exit) ≡ lengthShown (readOf (now (blob .entry))) (now (length .entry)) ⌝ }
+pub extern "C" fn fulandewu_read(blob: &[u8], answer: &mut Answer) -> u32
+    ensures { λ r. ⌜ exportOutcome r (now (answer .exit)) [] ≡ readExport (readOf (now (blob .entry))) (now (answer .entry)) ⌝ }
 {
-    let answer = vector_types::read(blob);
-    tell(answer, kind, dims, length)
+    let found = vector_types::read(blob);
+    report(found, answer)
 }
 
 // The same, with refusals 10 and 11.
 #[no_mangle]
-pub extern "C" fn fulandewu_read_strict(
-    blob: &[u8],
-    kind: &mut u8,
-    dims: &mut usize,
-    length: &mut usize,
-) -> u32
-    ensures { λ r. ⌜ r ≡ readNumber (strictOf (now (blob .entry))) ⌝ }
-    ensures { λ _. ⌜ now (kind .exit) ≡ kindShown (strictOf (now (blob .entry))) (now (kind .entry)) ⌝ }
-    ensures { λ _. ⌜ now (dims .exit) ≡ dimsShown (strictOf (now (blob .entry))) (now (dims .entry)) ⌝ }
-    ensures { λ _. ⌜ now (length .exit) ≡ lengthShown (strictOf (now (blob .entry))) (now (length .entry)) ⌝ }
+pub extern "C" fn fulandewu_read_strict(blob: &[u8], answer: &mut Answer) -> u32
+    ensures { λ r. ⌜ exportOutcome r (now (answer .exit)) [] ≡ readExport (strictOf (now (blob .entry))) (now (answer .entry)) ⌝ }
 {
-    let answer = vector_types::read_strict(blob);
-    tell(answer, kind, dims, length)
+    let found = vector_types::read_strict(blob);
+    report(found, answer)
 }

@@ -1,11 +1,15 @@
 // Writing a blob.
 ghost use mathlib.Core.Path.{_≡_};
+ghost use mathlib.Core.List.{[], _∷_};
 ghost use Rattle.blob_writer.specs.Answers.{writeNumber};
 ghost use Rattle.blob_writer.specs.Write.{outcome};
-ghost use Rattle.fulandewu.specs.Exported.{writtenBy, lengthWritten, lengthNeeded, writeExport, writeTold};
+ghost use Rattle.fulandewu.specs.Fields.{exportOutcome, leaves};
+ghost use Rattle.fulandewu.specs.Exported.{writtenBy, writeFields, writeExport};
+use crate::fields::Answer;
+use crate::fields::LENGTH;
 use crate::kinds::Chosen;
 use crate::kinds::kind_of;
-use crate::numbers::tell_need;
+use crate::refusing::report_refusal;
 use blob_writer::WriteAnswer;
 use vector_types::Dims;
 
@@ -19,39 +23,31 @@ fn write_as(kind: u8, dims: usize, body: &[u8], out: &mut [u8]) -> WriteAnswer
     }
 }
 
-// The number of an answer; the length of a blob that is written, or that is needed, is written.
-fn tell(answer: WriteAnswer, written: &mut usize, needed: &mut usize) -> u32
-    ensures { λ r. ⌜ r ≡ writeNumber answer ⌝ }
-    ensures { λ _. ⌜ now (written .exit) ≡ lengthWritten answer (now (written .entry)) ⌝ }
-    ensures { λ _. ⌜ now (needed .exit) ≡ lengthNeeded answer (now (needed .entry)) ⌝ }
+// The number of a writer's answer; the length of the blob is written.
+fn report(found: WriteAnswer, answer: &mut Answer) -> u32
+    ensures { λ r. ⌜ exportOutcome r (now (answer .exit)) [] ≡ leaves (writeNumber found) (writeFields found) (now (answer .entry)) [] ⌝ }
 {
-    match answer {
+    match found {
         WriteAnswer::Written(length) => {
-            *written = length;
+            answer[LENGTH] = length as u64;
             0
         }
-        WriteAnswer::Refused(refusal) => {
-            let detail = refusal.detail;
-            tell_need(detail, needed);
-            refusal.number as u32
-        }
+        WriteAnswer::Refused(refusal) => report_refusal(refusal, answer),
     }
 }
 
-// Puts the blob of a type byte, dims and a body at the start of out, and its length into written;
-// where out is too short, how long it would have to be into needed.
+// Puts the blob of a type byte, dims and a body at the start of out, and reports its length; where out
+// is too short, how long it would have to be.
 #[no_mangle]
 pub extern "C" fn fulandewu_write(
     kind: u8,
     dims: usize,
     body: &[u8],
     out: &mut [u8],
-    written: &mut usize,
-    needed: &mut usize,
+    answer: &mut Answer,
 ) -> u32
-    ensures { λ r. ⌜ writeExport r (now (out .exit)) (now (written .exit)) (now (needed .exit))
-        ≡ writeTold (writtenBy kind dims (now (body .entry)) (now (out .entry))) (now (written .entry)) (now (needed .entry)) ⌝ }
+    ensures { λ r. ⌜ exportOutcome r (now (answer .exit)) (now (out .exit) ∷ []) ≡ writeExport (writtenBy kind dims (now (body .entry)) (now (out .entry))) (now (answer .entry)) ⌝ }
 {
-    let answer = write_as(kind, dims, body, out);
-    tell(answer, written, needed)
+    let found = write_as(kind, dims, body, out);
+    report(found, answer)
 }

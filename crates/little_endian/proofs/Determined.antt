@@ -1,4 +1,4 @@
--- Each public contract determines its outcome, the answer or the lent bytes: stated over the contract's own reading, so it changes with the contract.
+-- Determinism of the public contracts: any two outcomes that one allows, the answer or the lent bytes, are equal, since each is one equation. Stated over the contract itself, so it changes with the contract.
 use mathlib.Core.Path.{_∙_, sym}
 use denote.Ref.{now}
 use Rattle.promises.specs.Determined.{Determined}

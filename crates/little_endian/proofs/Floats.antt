@@ -1,4 +1,4 @@
--- A float in bytes, over the format.
+-- A float in bytes, for both formats at once: it fits the format, and is read back where it was put, by the law of its pattern's bytes.
 use mathlib.Core.Path.{_≡_, refl, ap, _∙_}
 use mathlib.Core.List.{List}
 use Prim.Native.Nat.{ℕ, _+_, _*_, _^_, _≤_}
@@ -9,10 +9,10 @@ use lib.Ieee.Bits.{ofBits-toBits, ofBits-fits, toBits-lt}
 use Rattle.little_endian.specs.Bytes.{numberAt, put, width, floatAt, floatBytes}
 use Rattle.little_endian.proofs.Put.{numberAt-put-bytesOf}
 
--- its patterns are the numbers of its bytes
-patterns : (f : Format) → 2 * top f ≡ 256 ^ width f
-patterns binary32 = refl
-patterns binary64 = refl
+-- a format has as many patterns as its bytes have numbers
+pattern-count : (f : Format) → 2 * top f ≡ 256 ^ width f
+pattern-count binary32 = refl
+pattern-count binary64 = refl
 
 pub floatAt-fits : (f : Format) (s : List ℕ) (i : ℕ) → T (fits f (floatAt f s i))
 floatAt-fits f s i = ofBits-fits f (numberAt (width f) s i)
@@ -21,5 +21,5 @@ floatAt-fits f s i = ofBits-fits f (numberAt (width f) s i)
 pub floatAt-put : (f : Format) (x : Float) (l : List ℕ) (i : ℕ) → i + width f ≤ length l → T (fits f x)
     → floatAt f (put l i (floatBytes f x)) i ≡ x
 floatAt-put f x l i room h =
-    let below = rw patterns at (toBits-lt f x h) in
+    let below = rw pattern-count at (toBits-lt f x h) in
     ap (ofBits f) (numberAt-put-bytesOf (width f) (toBits f x) l i room below) ∙ ofBits-toBits f x h

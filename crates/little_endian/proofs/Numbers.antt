@@ -1,4 +1,4 @@
--- The number that bytes compose and the bytes that a number has, over how many there are.
+-- The number that w bytes compose and the w bytes that a number has are inverse to each other, and a number is its bytes joined by `|`: by induction on w.
 use mathlib.Core.Path.{_≡_, refl, sym, ap, _∙_}
 use mathlib.Core.List.{List, _∷_, _++_}
 use Prim.Native.Nat.{ℕ, zero, suc, _+_, _*_, _/_, _%_, _^_, _<_, _≤_}
@@ -11,7 +11,7 @@ use lib.ListN.{length, getD, take, drop}
 use lib.Seq.{getD-take, getD-drop, drop-cons, take-append-seam, drop-append-seam}
 use Rattle.little_endian.specs.Bytes.{numberAt, bytesOf, AreBytes}
 
--- ---- only its own bytes count, wherever these stand: in a part, and in a list with more on either side
+-- ---- only its own bytes count, at any offset: in a part, and in a list with more on either side
 numberAt-same : (w : ℕ) (s t : List ℕ) (i j : ℕ)
     → ((k : ℕ) → k < w → getD s (i + k) 0 ≡ getD t (j + k) 0) → numberAt w s i ≡ numberAt w t j
 unfolding numberAt
@@ -54,15 +54,15 @@ pub join-first : (s : List ℕ) (i b : ℕ) → b ≡ getD s (i + 0) 0 → b ≡
 unfolding numberAt
 join-first s i b e = omega arith
 
-bits : (w : ℕ) → 256 ^ w ≡ 2 ^ (8 * w)
-bits zero = refl
-bits (suc w) = rw (pow-suc 256 w, mul-suc 8 w, pow-add 2 (8 * w) 8, bits w)
+pow-256 : (w : ℕ) → 256 ^ w ≡ 2 ^ (8 * w)
+pow-256 zero = refl
+pow-256 (suc w) = rw (pow-suc 256 w, mul-suc 8 w, pow-add 2 (8 * w) 8, pow-256 w)
 
 pub join-next : (w : ℕ) (s : List ℕ) (i m b : ℕ) → AreBytes s → m ≡ numberAt w s i → b ≡ getD s (i + w) 0 → bitOr m (b * 256 ^ w) ≡ numberAt (suc w) s i
 unfolding numberAt
 join-next w s i m b h lower e =
-    let below : m < 2 ^ (8 * w) = rw (← (bits w), lower) (numberAt-lt w s i h) in
-    rw (← lower, ← e, bits) (omega (arith, or-shifted-r b (8 * w) m below))
+    let below : m < 2 ^ (8 * w) = rw (← (pow-256 w), lower) (numberAt-lt w s i h) in
+    rw (← lower, ← e, pow-256) (omega (arith, or-shifted-r b (8 * w) m below))
 
 pub length-bytesOf : (w v : ℕ) → length (bytesOf w v) ≡ w
 unfolding bytesOf
@@ -75,7 +75,7 @@ bytesOf-bytes zero v k = omega arith
 bytesOf-bytes (suc w) v zero = omega arith
 bytesOf-bytes (suc w) v (suc k) = bytesOf-bytes w (v / 256) k
 
--- ---- a number's bytes compose it, and the bytes of the number at a place are those that stand there
+-- ---- a number's bytes compose it, and the bytes of the number at an offset are those that stand there
 numberAt-front : (w : ℕ) (s : List ℕ) (i : ℕ) → numberAt (suc w) s i ≡ getD s i 0 + 256 * numberAt w s (suc i)
 unfolding numberAt
 numberAt-front zero s i = simp add-zero (omega arith)

@@ -1,4 +1,4 @@
--- What stands where after bytes were put at a place that the list has.
+-- Laws of `put`: what is read where after bytes were put at an offset where they fit. By cutting the list at the offset and after the bytes.
 use mathlib.Core.Path.{_≡_, _∙_}
 use mathlib.Core.Logic.{_⊎_, inl, inr}
 use mathlib.Core.List.{List, [], _++_, append-assoc, append-nil}
@@ -15,21 +15,21 @@ unfolding put
 put-nothing l i = rw (append-nil, add-zero) (take-append-drop i l)
 
 module _ (l : List ℕ) (i : ℕ) (vs : List ℕ) (room : i + length vs ≤ length l) where
-  kept : length (take i l) ≡ i
-  kept = length-take-le i l (omega arith)
+  length-before : length (take i l) ≡ i
+  length-before = length-take-le i l (omega arith)
 
   pub length-put : length (put l i vs) ≡ length l
   unfolding put
-  length-put = simp (length-append, length-drop, kept) (omega arith)
+  length-put = simp (length-append, length-drop, length-before) (omega arith)
 
-  -- ---- the bytes before, from the place on, and after
+  -- ---- the bytes before the offset, from it on, and after what was put
   take-put : take i (put l i vs) ≡ take i l
   unfolding put
-  take-put = rw append-assoc (take-at (take i l) (vs ++ drop (i + length vs) l) i kept)
+  take-put = rw append-assoc (take-at (take i l) (vs ++ drop (i + length vs) l) i length-before)
 
   drop-put : drop i (put l i vs) ≡ vs ++ drop (i + length vs) l
   unfolding put
-  drop-put = rw append-assoc (drop-at (take i l) (vs ++ drop (i + length vs) l) i kept)
+  drop-put = rw append-assoc (drop-at (take i l) (vs ++ drop (i + length vs) l) i length-before)
 
   drop-put-past : drop (i + length vs) (put l i vs) ≡ drop (i + length vs) l
   drop-put-past = rw (← drop-drop (length vs) i, drop-put, drop-append-seam)

@@ -1,4 +1,4 @@
-// Numbers and floats in little-endian bytes, at any place of a slice.
+// Numbers and floats in little-endian bytes, at any offset of a slice.
 ghost use mathlib.Core.Path.{_≡_};
 ghost use Prim.Native.Nat.{_+_, _≤_, _<_};
 ghost use lib.ListN.{length, getD};
@@ -43,7 +43,7 @@ pub fn bits64(x: f64) -> u64
     }
 }
 
-// Byte k of what stands at a place.
+// Byte k from an offset on.
 fn byte(s: &[u8], at: usize, k: usize) -> u8
     requires { ⌜ at + k < length (now s) ⌝ }
     ensures { λ r. ⌜ r ≡ getD (now (s .entry)) (at + k) 0 ⌝ }
@@ -51,7 +51,7 @@ fn byte(s: &[u8], at: usize, k: usize) -> u8
     s[at + k]
 }
 
-// The number at a place. Of bytes joined by `|` the compiler makes one load, of a sum of eight not always.
+// The number at an offset. Of bytes joined by `|` the compiler makes one load, of a sum of eight not always.
 pub fn u32_at(s: &[u8], at: usize) -> u32
     requires { ⌜ at + 4 ≤ length (now s) ⌝ }
     ensures { λ r. ⌜ r ≡ u32At (now (s .entry)) at ⌝ }
@@ -76,7 +76,7 @@ pub fn u64_at(s: &[u8], at: usize) -> u64
         | byte(s, at, 7) as u64 * 0x100_0000_0000_0000
 }
 
-// The float at a place.
+// The float at an offset.
 pub fn f32_at(s: &[u8], at: usize) -> f32
     requires { ⌜ at + 4 ≤ length (now s) ⌝ }
     ensures { λ r. ⌜ r ≡ f32At (now (s .entry)) at ⌝ }
@@ -91,7 +91,7 @@ pub fn f64_at(s: &[u8], at: usize) -> f64
     f64_of(u64_at(s, at))
 }
 
-// The f32 at a place, as an f64, which holds every f32: one test of its pattern serves both.
+// The f32 at an offset, as an f64, which holds every f32: one test of its pattern serves both.
 pub fn wide_at(s: &[u8], at: usize) -> f64
     requires { ⌜ at + 4 ≤ length (now s) ⌝ }
     ensures { λ r. ⌜ r ≡ f32At (now (s .entry)) at ⌝ }
@@ -104,7 +104,7 @@ pub fn wide_at(s: &[u8], at: usize) -> f64
     }
 }
 
-// A number's two, four or eight bytes, written at a place as two halves; the other bytes stay.
+// A number's two, four or eight bytes, written at an offset as two halves; the other bytes stay.
 fn put_u16(out: &mut [u8], at: usize, v: u16)
     requires { ⌜ at + 2 ≤ length (now out) ⌝ }
     ensures { λ _. ⌜ now (out .exit) ≡ put (now (out .entry)) at (bytesOf 2 v) ⌝ }
@@ -129,7 +129,7 @@ pub fn put_u64(out: &mut [u8], at: usize, v: u64)
     put_u32(out, at + 4, (v / 0x1_0000_0000) as u32);
 }
 
-// A float's bytes, written at a place.
+// A float's bytes, written at an offset.
 pub fn put_f32(out: &mut [u8], at: usize, x: f32)
     requires { ⌜ at + 4 ≤ length (now out) ⌝ }
     ensures { λ _. ⌜ now (out .exit) ≡ put (now (out .entry)) at (floatBytes binary32 x) ⌝ }

@@ -1,1 +1,1 @@
-// What contracts say, once for all crates: that they determine an outcome, and what a writer leaves. There is no code here.
+// What the contracts of all crates share: determinism, and what a writer leaves of a buffer. There is no code here.

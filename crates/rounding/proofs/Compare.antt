@@ -1,4 +1,4 @@
--- What `compare` says of two whole numbers, and what it answers.
+-- `compare` on whole numbers: what each answer says, when it is given, and that both numbers may be scaled alike. By cases of the answer.
 use mathlib.Core.Path.{_≡_, refl, sym, ap, _∙_, subst}
 use Prim.Native.Nat.{ℕ, _*_, _≤_, _<_, compare, Ordering, Ordering·lt, Ordering·eq, Ordering·gt}
 use native.Mathlib.Nat.{le-of-eq, lt-of-le-of-lt, lt-of-lt-of-le, mul-lt-mul-of-pos-right, lt-of-mul-lt-mul-right, eq-of-mul-eq-mul-right}
@@ -20,34 +20,34 @@ compared a b = go (compare a b) (leb→le a b) (nleb→lt a b) (eqb→eq a b) (�
     go Ordering·eq le gt eq same = eq tt
     go Ordering·gt le gt eq same = gt tt
 
-clash : (a b : ℕ) → a < b → b < a → ⊥
-clash a b h k = omega arith
+lt-not-gt : (a b : ℕ) → a < b → b < a → ⊥
+lt-not-gt a b h k = omega arith
 
-apart : (a b : ℕ) → a < b → a ≡ b → ⊥
-apart a b h e = omega arith
+lt-not-eq : (a b : ℕ) → a < b → a ≡ b → ⊥
+lt-not-eq a b h e = omega arith
 
-pub is-lt : (a b : ℕ) → a < b → compare a b ≡ Ordering·lt
-is-lt a b h = go (compare a b) (compared a b)
+pub compare-lt : (a b : ℕ) → a < b → compare a b ≡ Ordering·lt
+compare-lt a b h = go (compare a b) (compared a b)
   where
     go : (o : Ordering) → Compared o a b → o ≡ Ordering·lt
     go Ordering·lt c = refl
-    go Ordering·eq c = absurd (apart a b h c)
-    go Ordering·gt c = absurd (clash a b h c)
+    go Ordering·eq c = absurd (lt-not-eq a b h c)
+    go Ordering·gt c = absurd (lt-not-gt a b h c)
 
-pub is-eq : (a b : ℕ) → a ≡ b → compare a b ≡ Ordering·eq
-is-eq a b h = go (compare a b) (compared a b)
+pub compare-eq : (a b : ℕ) → a ≡ b → compare a b ≡ Ordering·eq
+compare-eq a b h = go (compare a b) (compared a b)
   where
     go : (o : Ordering) → Compared o a b → o ≡ Ordering·eq
-    go Ordering·lt c = absurd (apart a b c h)
+    go Ordering·lt c = absurd (lt-not-eq a b c h)
     go Ordering·eq c = refl
-    go Ordering·gt c = absurd (apart b a c (sym h))
+    go Ordering·gt c = absurd (lt-not-eq b a c (sym h))
 
-pub is-gt : (a b : ℕ) → b < a → compare a b ≡ Ordering·gt
-is-gt a b h = go (compare a b) (compared a b)
+pub compare-gt : (a b : ℕ) → b < a → compare a b ≡ Ordering·gt
+compare-gt a b h = go (compare a b) (compared a b)
   where
     go : (o : Ordering) → Compared o a b → o ≡ Ordering·gt
-    go Ordering·lt c = absurd (clash a b c h)
-    go Ordering·eq c = absurd (apart b a h (sym c))
+    go Ordering·lt c = absurd (lt-not-gt a b c h)
+    go Ordering·eq c = absurd (lt-not-eq b a h (sym c))
     go Ordering·gt c = refl
 
 -- two numbers may be scaled alike: x′ / x and y′ / y are K / d
@@ -58,6 +58,6 @@ compare-scale x y x′ y′ d K pd pK p q = go (compare x y) (compared x y)
     less a b a′ b′ p q l = lt-of-mul-lt-mul-right d (lt-of-le-of-lt (le-of-eq p) (lt-of-lt-of-le (mul-lt-mul-of-pos-right l pK) (le-of-eq (sym q))))
 
     go : (o : Ordering) → Compared o x y → compare x′ y′ ≡ o
-    go Ordering·lt c = is-lt x′ y′ (less x y x′ y′ p q c)
-    go Ordering·eq c = is-eq x′ y′ (eq-of-mul-eq-mul-right d pd x′ y′ (p ∙ ap (λ (z : ℕ). z * K) c ∙ sym q))
-    go Ordering·gt c = is-gt x′ y′ (less y x y′ x′ q p c)
+    go Ordering·lt c = compare-lt x′ y′ (less x y x′ y′ p q c)
+    go Ordering·eq c = compare-eq x′ y′ (eq-of-mul-eq-mul-right d pd x′ y′ (p ∙ ap (λ (z : ℕ). z * K) c ∙ sym q))
+    go Ordering·gt c = compare-gt x′ y′ (less y x y′ x′ q p c)

@@ -1,4 +1,4 @@
--- Each public contract determines its answer: stated over the contract's own reading, so it changes with the contract.
+-- Determinism of the public contracts: any two answers that one allows are equal. An equation gives it at once, a relation by its uniqueness law. Stated over the contract itself, so it changes with the contract.
 use mathlib.Core.Path.{sym, _∙_}
 use lib.Ieee.{binary32, binary64}
 use Rattle.promises.specs.Determined.{Determined}

@@ -10,8 +10,8 @@ mod Compare
 mod Closest
 mod Patterns
 mod Powers
-mod Under
-mod WholeRoot
+mod WholeRootLaw
+mod WholeRootSteps
 mod Widths
-mod Edges
-mod Cut
+mod RootSpecial
+mod TruncateLaw

@@ -1,4 +1,4 @@
--- The f32 of an f64 is the one value that `IsNarrowed` allows; and `closest` of a pattern's digits gives its pattern.
+-- `narrowed` is the one value that `IsNarrowed` allows (by `round-nearest` and `nearest-unique`), and rounding a pattern's digits gives the pattern of the f32: by the law of the nearest pattern (`Round`).
 use mathlib.Core.Path.{_≡_, refl, sym, ap, subst}
 use mathlib.Core.Logic.{_⊎_, inl, inr}
 use Prim.Native.Nat.{ℕ, suc, _+_, _-_, _*_, _/_, _%_, _^_, _≤_, _<_}
@@ -16,13 +16,13 @@ use lib.Ieee.Nearest.{closest}
 use borrow.Author.Tests.{ne-eqb}
 use Rattle.rounding.specs.Nearest.{Nearest}
 use Rattle.rounding.specs.Pick.{digitsOf, count}
-use Rattle.rounding.specs.Narrow.{IsNarrowed, narrowed}
-use Rattle.rounding.specs.Parts.{Narrowing}
-use Rattle.rounding.proofs.Closest.{closest-le, closest-zero, closest-more, closest-halved}
-use Rattle.rounding.proofs.Powers.{powers}
-use Rattle.rounding.proofs.Patterns.{Full, digits-lt, signed, infinity, finite, count-is}
+use Rattle.rounding.specs.Narrow.{IsNarrowed, narrowed, NarrowedExactly}
+use Rattle.rounding.specs.inner.Parts.{IsNarrowedPattern}
+use Rattle.rounding.proofs.Closest.{closest-le, closest-zero, closest-add-even, closest-by-division}
+use Rattle.rounding.proofs.Powers.{pow-regroup}
+use Rattle.rounding.proofs.Patterns.{Full, digits-lt, signed, signed-infinity, signed-value, count-is}
 use Rattle.rounding.proofs.Nearest.{nearest-unique, nearest-scale}
-use Rattle.rounding.proofs.Round.{round-nearest, place-fine, place-over}
+use Rattle.rounding.proofs.Round.{round-nearest, nearest-finite, nearest-overflow}
 use Rattle.float_laws.proofs.Nan.{zero-by-zero}
 
 -- ---- one value, and only one
@@ -39,14 +39,17 @@ narrowed-unique (inf s) y h = h
 narrowed-unique (fin s m e) y h =
     nearest-unique binary32 s _ (λ M. M * down e) (λ a b l. mul-lt-mul-of-pos-right l (down-pos e)) h (round-nearest binary32 s (m * up e) (down e) (down-pos e))
 
+pub narrowed-exactly : NarrowedExactly
+narrowed-exactly x y = (narrowed-unique x y, λ e. subst (λ (z : Float). IsNarrowed x z) (sym e) (narrowed-is x))
+
 pub nan-narrowed : (x : Float) → ne x x ≡ true → IsNarrowed x (div binary32 (ofBits binary32 0) (ofBits binary32 0))
 nan-narrowed x h = rw (differs-from-itself x (subst T (sym h) tt)) (zero-by-zero binary32)
 
 -- x is X of an f64's smallest values, so X * 2 ^ 149 / 2 ^ 1074 of an f32's
-narrowed-of : (x : Float) (s : Bool) (X : ℕ) (y : Float) → HasValue x s X (2 ^ low binary64) → Nearest binary32 s (2 * (X * 2 ^ low binary32)) (λ M. M * 2 ^ low binary64) y → IsNarrowed x y
-narrowed-of nan s X y v n = absurd v
-narrowed-of (inf t) s X y v n = absurd v
-narrowed-of (fin t m e) s X y v n =
+narrowed-by-value : (x : Float) (s : Bool) (X : ℕ) (y : Float) → HasValue x s X (2 ^ low binary64) → Nearest binary32 s (2 * (X * 2 ^ low binary32)) (λ M. M * 2 ^ low binary64) y → IsNarrowed x y
+narrowed-by-value nan s X y v n = absurd v
+narrowed-by-value (inf t) s X y v n = absurd v
+narrowed-by-value (fin t m e) s X y v n =
     subst (λ (b : Bool). Nearest binary32 b (2 * (m * up e * 2 ^ low binary32)) (λ M. M * down e) y) (sym (v .0))
     (nearest-scale (2 * (X * 2 ^ low binary32)) (2 * (m * up e * 2 ^ low binary32)) (down e) (2 ^ low binary64) (λ M. M * 2 ^ low binary64) (λ M. M * down e) (down-pos e) (pow-pos (low binary64))
     (number (m * up e) (2 ^ low binary32) (2 ^ low binary64) (down e) (v .1)) (λ M. point M (2 ^ low binary64) (down e)) binary32 s y n)
@@ -57,13 +60,13 @@ narrowed-of (fin t m e) s X y v n =
     point : (M q d : ℕ) → M * q * d ≡ M * d * q
     point M q d = omega arith
 
--- ---- from a pattern's digits m and place k: an f32 drops 29 digits of m, and more below its smallest normal value, 896 places up
+-- ---- from a pattern's digits m and exponent k: an f32 drops 29 digits of m, and more below its smallest normal value, at exponent 896
 abbrev dropped : ℕ → ℕ
 dropped k = 29 + (896 - k)
 
--- and its place among an f32's patterns is this
-abbrev pub place : ℕ → ℕ → ℕ
-place m k = (k - 896) * 2 ^ 23 + closest m (2 ^ dropped k)
+-- and the pattern of the f32 is this, if it is finite
+abbrev pub narrowPattern : ℕ → ℕ → ℕ
+narrowPattern m k = (k - 896) * 2 ^ 23 + closest m (2 ^ dropped k)
 
 module _ (m k : ℕ) (full : (k ≡ 0) ⊎ (2 ^ 52 ≤ m)) (less : m < 2 ^ 53) where
   whole-lt : m / 2 ^ dropped k < 2 * hid binary32
@@ -74,10 +77,10 @@ module _ (m k : ℕ) (full : (k ≡ 0) ⊎ (2 ^ 52 ≤ m)) (less : m < 2 ^ 53) w
     where
       go : (k ≡ 0) ⊎ (2 ^ 52 ≤ m) → Dec (896 < k) → Full (hid binary32) (k - 896) (m / 2 ^ dropped k)
       go (inl z) t = inl (omega arith)
-      go (inr a) (yes l) = inr (subst (λ (x : ℕ). hid binary32 ≤ m / 2 ^ x) (at l) (le-div-iff-mul-le (pow-pos 29) .1 a))
+      go (inr a) (yes l) = inr (subst (λ (x : ℕ). hid binary32 ≤ m / 2 ^ x) (dropped-29 l) (le-div-iff-mul-le (pow-pos 29) .1 a))
         where
-          at : 896 < k → 29 ≡ dropped k
-          at l = omega arith
+          dropped-29 : 896 < k → 29 ≡ dropped k
+          dropped-29 l = omega arith
       go (inr a) (no n) = inl (few (le-of-suc-le-suc (lt-of-not-le n)))
         where
           few : k ≤ 896 → k - 896 ≡ 0
@@ -86,14 +89,14 @@ module _ (m k : ℕ) (full : (k ≡ 0) ⊎ (2 ^ 52 ≤ m)) (less : m < 2 ^ 53) w
   abbrev X : ℕ
   X = m * 2 ^ k
 
-  same : X * 2 ^ 149 * 2 ^ dropped k ≡ m * 2 ^ (k - 896) * 2 ^ 1074
-  same = powers m k 149 (dropped k) (k - 896) 1074 (omega arith)
+  same-value : X * 2 ^ 149 * 2 ^ dropped k ≡ m * 2 ^ (k - 896) * 2 ^ 1074
+  same-value = pow-regroup m k 149 (dropped k) (k - 896) 1074 (omega arith)
 
-  fine : (s : Bool) → place m k < ones binary32 * hid binary32 → Nearest binary32 s (2 * (X * 2 ^ 149)) (λ M. M * 2 ^ 1074) (signed binary32 s (place m k))
-  fine s l = place-fine binary32 s (X * 2 ^ 149) (2 ^ 1074) m (2 ^ dropped k) (k - 896) (pow-pos 1074) (pow-pos (dropped k)) same whole-lt whole-full l
+  value-finite : (s : Bool) → narrowPattern m k < ones binary32 * hid binary32 → Nearest binary32 s (2 * (X * 2 ^ 149)) (λ M. M * 2 ^ 1074) (signed binary32 s (narrowPattern m k))
+  value-finite s l = nearest-finite binary32 s (X * 2 ^ 149) (2 ^ 1074) m (2 ^ dropped k) (k - 896) (pow-pos 1074) (pow-pos (dropped k)) same-value whole-lt whole-full l
 
-  over : (s : Bool) → ones binary32 * hid binary32 ≤ place m k → Nearest binary32 s (2 * (X * 2 ^ 149)) (λ M. M * 2 ^ 1074) (inf s)
-  over s h = place-over binary32 s (X * 2 ^ 149) (2 ^ 1074) m (2 ^ dropped k) (k - 896) (pow-pos 1074) (pow-pos (dropped k)) same whole-lt whole-full h
+  value-overflow : (s : Bool) → ones binary32 * hid binary32 ≤ narrowPattern m k → Nearest binary32 s (2 * (X * 2 ^ 149)) (λ M. M * 2 ^ 1074) (inf s)
+  value-overflow s h = nearest-overflow binary32 s (X * 2 ^ 149) (2 ^ 1074) m (2 ^ dropped k) (k - 896) (pow-pos 1074) (pow-pos (dropped k)) same-value whole-lt whole-full h
 
 -- a pattern's number has all its digits, unless its exponent's field is 0
 digits-full : (h b : ℕ) → (b / h - 1 ≡ 0) ⊎ (h ≤ digitsOf h b)
@@ -113,47 +116,47 @@ module _ (b : ℕ) (l : b < ones binary64 * hid binary64) where
   abbrev k : ℕ
   k = b / hid binary64 - 1
 
-  narrowing : (s : Bool) (y : Float) → Nearest binary32 s (2 * (m * 2 ^ k * 2 ^ 149)) (λ M. M * 2 ^ 1074) y → IsNarrowed (signed binary64 s b) y
-  narrowing s y n = narrowed-of (signed binary64 s b) s (count binary64 b) y (finite binary64 s b l) (rw (count-is binary64 b) n)
+  narrowed-by-count : (s : Bool) (y : Float) → Nearest binary32 s (2 * (m * 2 ^ k * 2 ^ 149)) (λ M. M * 2 ^ 1074) y → IsNarrowed (signed binary64 s b) y
+  narrowed-by-count s y n = narrowed-by-value (signed binary64 s b) s (count binary64 b) y (signed-value binary64 s b l) (rw (count-is binary64 b) n)
 
-  answer-fine : place m k < ones binary32 * hid binary32 → Narrowing b (place m k)
-  answer-fine h = record { fine = le-of-lt h; is = λ s. narrowing s _ (fine m k (digits-full (hid binary64) b) (digits-lt (hid binary64) b (pow-pos 52)) s h) }
+  narrow-finite : narrowPattern m k < ones binary32 * hid binary32 → IsNarrowedPattern b (narrowPattern m k)
+  narrow-finite h = record { not-nan = le-of-lt h; is = λ s. narrowed-by-count s _ (value-finite m k (digits-full (hid binary64) b) (digits-lt (hid binary64) b (pow-pos 52)) s h) }
 
-  answer-over : ones binary32 * hid binary32 ≤ place m k → Narrowing b (ones binary32 * hid binary32)
-  answer-over h =
+  narrow-overflow : ones binary32 * hid binary32 ≤ narrowPattern m k → IsNarrowedPattern b (ones binary32 * hid binary32)
+  narrow-overflow h =
       record {
-        fine = le-refl (ones binary32 * hid binary32);
-        is = λ s. subst (λ (y : Float). IsNarrowed (signed binary64 s b) y) (sym (infinity binary32 s)) (narrowing s _ (over m k (digits-full (hid binary64) b) (digits-lt (hid binary64) b (pow-pos 52)) s h));
+        not-nan = le-refl (ones binary32 * hid binary32);
+        is = λ s. subst (λ (y : Float). IsNarrowed (signed binary64 s b) y) (sym (signed-infinity binary32 s)) (narrowed-by-count s _ (value-overflow m k (digits-full (hid binary64) b) (digits-lt (hid binary64) b (pow-pos 52)) s h));
       }
 
 -- an infinity's pattern
-answer-infinite : Narrowing (ones binary64 * hid binary64) (ones binary32 * hid binary32)
-answer-infinite =
+narrow-infinite : IsNarrowedPattern (ones binary64 * hid binary64) (ones binary32 * hid binary32)
+narrow-infinite =
     record {
-      fine = le-refl (ones binary32 * hid binary32);
-      is = λ s. subst (λ (x : Float). IsNarrowed x (signed binary32 s (ones binary32 * hid binary32))) (sym (infinity binary64 s)) (infinity binary32 s);
+      not-nan = le-refl (ones binary32 * hid binary32);
+      is = λ s. subst (λ (x : Float). IsNarrowed x (signed binary32 s (ones binary32 * hid binary32))) (sym (signed-infinity binary64 s)) (signed-infinity binary32 s);
     }
 
 -- ---- below an f32's smallest normal value
-pub place-none : (m k : ℕ) → m < 2 ^ 53 → k < 871 → 0 ≡ place m k
-place-none m k l h =
+pub narrowPattern-tiny : (m k : ℕ) → m < 2 ^ 53 → k < 871 → 0 ≡ narrowPattern m k
+narrowPattern-tiny m k l h =
     let z = closest-zero m (2 ^ dropped k) (lt-of-lt-of-le {m = 2 ^ 54} (omega arith) (pow-mono {i = 54} {j = dropped k} (omega arith))) in
     omega arith
 
-pub place-some : (m k : ℕ) → k < 896 → closest m (2 * 2 ^ (924 - k)) ≡ place m k
-place-some m k h =
+pub narrowPattern-small : (m k : ℕ) → k < 896 → closest m (2 * 2 ^ (924 - k)) ≡ narrowPattern m k
+narrowPattern-small m k h =
     let few : k - 896 ≡ 0 = omega arith in
     let e : suc (924 - k) ≡ dropped k = omega arith in
     rw (← pow-succ' 2 (924 - k), e, few) (sym (zero-add (closest m (2 ^ dropped k))))
 
-pub answer-small : (b : ℕ) → b < 0x3810_0000_0000_0000 → Narrowing b (place (digitsOf (2 ^ 52) b) (b / 2 ^ 52 - 1))
-answer-small b l =
+pub narrow-small : (b : ℕ) → b < 0x3810_0000_0000_0000 → IsNarrowedPattern b (narrowPattern (digitsOf (2 ^ 52) b) (b / 2 ^ 52 - 1))
+narrow-small b l =
     let m = digitsOf (2 ^ 52) b in
     let k = b / 2 ^ 52 - 1 in
     let x : b / 2 ^ 52 < 897 = div-lt-iff-lt-mul (pow-pos 52) .1 l in
     let d : m < 2 ^ 24 * 2 ^ dropped k = lt-of-lt-of-le (digits-lt (2 ^ 52) b (pow-pos 52)) (mul-le-mul-left (2 ^ 24) (pow-mono {i = 29} {j = dropped k} (omega arith))) in
     let c : closest m (2 ^ dropped k) ≤ 2 ^ 24 = closest-le m (2 ^ dropped k) (2 ^ 24) (pow-pos (dropped k)) d in
-    answer-fine b (omega arith) (omega arith)
+    narrow-finite b (omega arith) (omega arith)
 
 -- ---- from there on: the pattern less 896 fields, with 29 digits dropped, so that a carry goes on into the exponent
 module _ (b : ℕ) (from : 0x3810_0000_0000_0000 ≤ b) where
@@ -163,37 +166,37 @@ module _ (b : ℕ) (from : 0x3810_0000_0000_0000 ≤ b) where
   abbrev n : ℕ
   n = closest q (2 ^ 29)
 
-  place-normal : place (digitsOf (2 ^ 52) b) (b / 2 ^ 52 - 1) ≡ n
-  place-normal = go (b / 2 ^ 52) (b % 2 ^ 52) (div-add-mod' b (2 ^ 52)) (le-div-iff-mul-le (pow-pos 52) .1 from)
+  narrowPattern-normal : narrowPattern (digitsOf (2 ^ 52) b) (b / 2 ^ 52 - 1) ≡ n
+  narrowPattern-normal = go (b / 2 ^ 52) (b % 2 ^ 52) (div-add-mod' b (2 ^ 52)) (le-div-iff-mul-le (pow-pos 52) .1 from)
     where
-      go : (x t : ℕ) → x * 2 ^ 52 + t ≡ b → 897 ≤ x → place (t + cond (eqb x 0) 0 (2 ^ 52)) (x - 1) ≡ n
+      go : (x t : ℕ) → x * 2 ^ 52 + t ≡ b → 897 ≤ x → narrowPattern (t + cond (eqb x 0) 0 (2 ^ 52)) (x - 1) ≡ n
       go x t e l =
           let some : x ≡ 0 → ⊥ = λ z. omega arith in
           let d : dropped (x - 1) ≡ 29 = omega arith in
           let j = (x - 1 - 896) * 2 ^ 22 in
           let apart : q ≡ 2 ^ 29 * (2 * j) + (t + 2 ^ 52) = omega arith in
           let twice : (x - 1 - 896) * 2 ^ 23 ≡ 2 * j = omega arith in
-          rw (ne-eqb x 0 some, d, apart, twice) (sym (closest-more j (t + 2 ^ 52) (2 ^ 29) (pow-pos 29)))
+          rw (ne-eqb x 0 some, d, apart, twice) (sym (closest-add-even j (t + 2 ^ 52) (2 ^ 29) (pow-pos 29)))
 
-  halved : (q + (2 ^ 28 - 1) + q / 2 ^ 29 % 2) / 2 ^ 29 ≡ n
-  halved = closest-halved q (2 ^ 28) (pow-pos 28)
+  n-by-division : (q + (2 ^ 28 - 1) + q / 2 ^ 29 % 2) / 2 ^ 29 ≡ n
+  n-by-division = closest-by-division q (2 ^ 28) (pow-pos 28)
 
   -- below the middle between the largest f32 and 2 ^ 128; the tie goes up, for the largest f32 is odd
-  pub normal-fine : b < 0x47ef_ffff_f000_0000 → Narrowing b n
-  normal-fine h =
-      let less : n < ones binary32 * hid binary32 = omega (arith, halved) in
-      subst (Narrowing b) place-normal (answer-fine b (omega arith) (rw place-normal less))
+  pub narrow-normal : b < 0x47ef_ffff_f000_0000 → IsNarrowedPattern b n
+  narrow-normal h =
+      let less : n < ones binary32 * hid binary32 = omega (arith, n-by-division) in
+      subst (IsNarrowedPattern b) narrowPattern-normal (narrow-finite b (omega arith) (rw narrowPattern-normal less))
 
-  pub normal-over : 0x47ef_ffff_f000_0000 ≤ b → b ≤ ones binary64 * hid binary64 → Narrowing b (ones binary32 * hid binary32)
-  normal-over h to = go (eq-or-lt-of-le to)
+  pub narrow-large : 0x47ef_ffff_f000_0000 ≤ b → b ≤ ones binary64 * hid binary64 → IsNarrowedPattern b (ones binary32 * hid binary32)
+  narrow-large h to = go (eq-or-lt-of-le to)
     where
       more : Dec (q / 2 ^ 29 < ones binary32 * hid binary32) → ones binary32 * hid binary32 ≤ n
       more (yes l) =
           let largest : q / 2 ^ 29 ≡ 0x7f7f_ffff = omega arith in
           let odd : q / 2 ^ 29 % 2 ≡ 1 = ap (λ (w : ℕ). w % 2) largest in
-          omega (arith, halved)
-      more (no f) = omega (arith, halved)
+          omega (arith, n-by-division)
+      more (no f) = omega (arith, n-by-division)
 
-      go : (b ≡ ones binary64 * hid binary64) ⊎ (b < ones binary64 * hid binary64) → Narrowing b (ones binary32 * hid binary32)
-      go (inl e) = rw e answer-infinite
-      go (inr l) = answer-over b l (rw place-normal (more (decLt (q / 2 ^ 29) (ones binary32 * hid binary32))))
+      go : (b ≡ ones binary64 * hid binary64) ⊎ (b < ones binary64 * hid binary64) → IsNarrowedPattern b (ones binary32 * hid binary32)
+      go (inl e) = rw e narrow-infinite
+      go (inr l) = narrow-overflow b l (rw narrowPattern-normal (more (decLt (q / 2 ^ 29) (ones binary32 * hid binary32))))

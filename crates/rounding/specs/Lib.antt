@@ -3,5 +3,5 @@ pub mod Narrow
 pub mod Root
 pub mod Truncate
 pub mod Pick
-pub mod Parts
+pub mod inner
 pub mod Examples

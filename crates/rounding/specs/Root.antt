@@ -1,5 +1,6 @@
 -- The square root, rounded once to the nearest value, a tie to the even one. Rust's `sqrt`.
 use mathlib.Core.Path.{_≡_}
+use mathlib.Core.Logic.{_↔_}
 use Prim.Native.Nat.{ℕ, zero, suc, _+_, _*_, _^_}
 use mathlib.Core.Bool.{true, false, cond}
 use lib.IntN.{ℤ}
@@ -20,7 +21,7 @@ IsRoot f (fin s zero e) y = y ≡ fin s zero e
 IsRoot f (fin true (suc m) e) y = y ≡ nan
 IsRoot f (fin false (suc m) e) y = Nearest f false (radicand f (suc m) e) (λ M. M * M * down e) y
 
--- the one y that `IsRoot` allows (`proofs/RootLaw.antt`), to compute with
+-- the same as a function, to compute with
 unfoldable pub root : Format → Float → Float
 unfolding pick
 root f nan = nan
@@ -28,3 +29,7 @@ root f (inf s) = cond s nan (inf false)
 root f (fin s zero e) = fin s zero e
 root f (fin true (suc m) e) = nan
 root f (fin false (suc m) e) = pick f false (radicand f (suc m) e) (λ M. M * M * down e)
+
+-- `root f x` is the one value that `IsRoot` allows. The theorem is `root-exactly` (`proofs/RootLaw.antt`).
+abbrev pub RootExactly : Type 0
+RootExactly = (f : Format) (x y : Float) → IsRoot f x y ↔ y ≡ root f x

@@ -5,7 +5,7 @@ ghost use Prim.Native.Nat.{_*_, _^_, _≤_, _<_};
 ghost use lib.Ieee.{binary32, binary64, ofBits, toBits};
 ghost use lib.Ieee.Nearest.{closest};
 ghost use Rattle.rounding.specs.Narrow.{IsNarrowed, narrowed};
-ghost use Rattle.rounding.specs.Parts.{Narrowing};
+ghost use Rattle.rounding.specs.inner.Parts.{IsNarrowedPattern};
 use crate::pattern;
 
 // x as an f32, to nearest, a tie to the even one: Rust's `x as f32`.
@@ -39,7 +39,7 @@ pub fn narrow_bits(b: u64) -> u32
 // and a carry goes on into the exponent.
 fn narrow_normal(b: u64) -> u64
     requires { ⌜ 0x3810_0000_0000_0000 ≤ b ⌝ ∗ ⌜ b < 0x47ef_ffff_f000_0000 ⌝ }
-    ensures { λ r. ⌜ Narrowing b r ⌝ }
+    ensures { λ r. ⌜ IsNarrowedPattern b r ⌝ }
 {
     nearest_quotient(b - 0x3800_0000_0000_0000, 0x1000_0000)
 }
@@ -48,7 +48,7 @@ fn narrow_normal(b: u64) -> u64
 fn narrow_edge(b: u64) -> u64
     requires { ⌜ (b < 0x3810_0000_0000_0000) ⊎ (0x47ef_ffff_f000_0000 ≤ b) ⌝ }
     requires { ⌜ b ≤ 0x7ff0_0000_0000_0000 ⌝ }
-    ensures { λ r. ⌜ Narrowing b r ⌝ }
+    ensures { λ r. ⌜ IsNarrowedPattern b r ⌝ }
 {
     if b < 0x3810_0000_0000_0000 {
         narrow_small(b)
@@ -60,9 +60,9 @@ fn narrow_edge(b: u64) -> u64
 // The same below an f32's smallest normal value, where more digits are dropped.
 fn narrow_small(b: u64) -> u64
     requires { ⌜ b < 0x3810_0000_0000_0000 ⌝ }
-    ensures { λ r. ⌜ Narrowing b r ⌝ }
+    ensures { λ r. ⌜ IsNarrowedPattern b r ⌝ }
 {
-    let x = pattern::taken(b, 0x10_0000_0000_0000);
+    let x = pattern::decode(b, 0x10_0000_0000_0000);
     if x.e < 871 {
         0
     } else {

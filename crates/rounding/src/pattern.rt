@@ -1,8 +1,8 @@
-// A pattern's number as m * 2^e.
+// A pattern's value as m * 2^e.
 ghost use mathlib.Core.Path.{_≡_};
 ghost use Prim.Native.Nat.{_-_, _*_, _/_, _^_, _≤_, _<_};
 ghost use Rattle.rounding.specs.Pick.{digitsOf};
-ghost use Rattle.rounding.specs.Parts.{Normal};
+ghost use Rattle.rounding.specs.inner.Parts.{IsNormalized};
 
 // m * 2^e.
 pub struct Scaled {
@@ -12,7 +12,7 @@ pub struct Scaled {
 
 // What the pattern b, without its sign, stands for in smallest values: its digits, and its
 // exponent's field less one. hid is the field's weight.
-pub fn taken(b: u64, hid: u64) -> Scaled
+pub fn decode(b: u64, hid: u64) -> Scaled
     requires { ⌜ 0 < hid ⌝ ∗ ⌜ hid ≤ 2 ^ 62 ⌝ }
     ensures { λ r. ⌜ (r .m ≡ digitsOf hid b) × (r .e ≡ b / hid - 1) ⌝ }
 {
@@ -26,10 +26,10 @@ pub fn taken(b: u64, hid: u64) -> Scaled
     Scaled { m, e }
 }
 
-// m * 2^e with m grown to hid or more.
-pub fn normal(m: u64, e: u64, hid: u64) -> Scaled
+// m * 2^e with m shifted up to hid or more.
+pub fn normalize(m: u64, e: u64, hid: u64) -> Scaled
     requires { ⌜ 0 < m ⌝ ∗ ⌜ m < 2 * hid ⌝ ∗ ⌜ hid ≤ 2 ^ 62 ⌝ ∗ ⌜ hid ≤ 2 ^ e ⌝ }
-    ensures { λ r. ⌜ Normal m e hid (r .m) (r .e) ⌝ }
+    ensures { λ r. ⌜ IsNormalized m e hid (r .m) (r .e) ⌝ }
 {
     let mut a = m;
     let mut d = e;

@@ -2,7 +2,7 @@
 ghost use Prim.Native.Nat.{_*_, _<_};
 ghost use lib.Ieee.{binary32, binary64, ones};
 ghost use Rattle.rounding.specs.Root.{IsRoot};
-ghost use Rattle.rounding.specs.Parts.{formatOf, Widths, Rooting};
+ghost use Rattle.rounding.specs.inner.Parts.{formatOf, Widths, IsRootPattern};
 use crate::pattern;
 use crate::whole;
 
@@ -42,17 +42,17 @@ pub fn root64(x: f64) -> f64
     }
 }
 
-// The pattern of the root of what has the pattern b, finite and above zero. The whole root of the
-// number under b, grown to twice the format's digits and one or two more, has one digit more than
-// the format keeps, and half of it, rounded up, is nearest.
+// The pattern of the root of what has the pattern b, finite and above zero. The significand is shifted
+// up to twice the format's digits and one or two more; its whole root has then one digit more than the
+// format keeps, and half of that, rounded up, is nearest.
 fn root_pattern(b: u64, prec: u64, hid: u64, low: u64, n: u64) -> u64
     requires { ⌜ Widths (formatOf prec) prec hid low n ⌝ ∗ ⌜ 0 < b ⌝ ∗ ⌜ b < ones (formatOf prec) * hid ⌝ }
-    ensures { λ r. ⌜ Rooting (formatOf prec) b r ⌝ }
+    ensures { λ r. ⌜ IsRootPattern (formatOf prec) b r ⌝ }
 {
-    let x = pattern::taken(b, hid);
-    let y = pattern::normal(x.m, x.e + low, hid);
+    let x = pattern::decode(b, hid);
+    let y = pattern::normalize(x.m, x.e + low, hid);
     let e = y.e;
-    let grown = prec + 1 + (e + prec + 1) % 2;
-    let r = whole::root_digits(y.m << (grown - n * 2), n);
-    ((e - grown) / 2 + 1) * hid + (r.root + 1) / 2
+    let shift = prec + 1 + (e + prec + 1) % 2;
+    let r = whole::root_digits(y.m << (shift - n * 2), n);
+    ((e - shift) / 2 + 1) * hid + (r.root + 1) / 2
 }

@@ -1,4 +1,4 @@
--- The code's test is the law's: what differs from itself is NaN, whose pattern is written out, and the rest is no NaN.
+-- `little_endian::bits64` meets its contract: what differs from itself is NaN, whose pattern is written out; all else is no NaN (`Nan` of `float_laws`).
 use mathlib.Core.Path.{refl}
 use lib.Ieee.{binary64}
 use Rattle.float_laws.proofs.Nan.{nan-encoded, number-value}

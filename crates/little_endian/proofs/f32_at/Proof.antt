@@ -1,4 +1,4 @@
--- The float of the number at the place.
+-- `little_endian::f32_at` meets its contract: the float of the number at the offset.
 use borrow.Author.Needs.{needs}
 use Rattle.little_endian.proofs.f32_at.Statement.{statement}
 use Rattle.little_endian.proofs.f32_at.Tie as tie

@@ -1,4 +1,4 @@
--- The code's test is the law's: up to an infinity's pattern, the sign aside, no NaN's stands, and above it only NaNs'.
+-- `little_endian::f32_of` meets its contract: by whether the pattern, the sign aside, is above an infinity's, and so a NaN's (`Nan` of `float_laws`).
 use mathlib.Core.Path.{refl}
 use native.Mathlib.Omega.{arith}
 use lib.Ieee.{binary32}

@@ -1,4 +1,4 @@
--- The float of the number at the place.
+-- `little_endian::f64_at` meets its contract: the float of the number at the offset.
 use borrow.Author.Needs.{needs}
 use Rattle.little_endian.proofs.f64_at.Statement.{statement}
 use Rattle.little_endian.proofs.f64_at.Tie as tie

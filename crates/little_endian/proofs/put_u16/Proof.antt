@@ -1,4 +1,4 @@
--- By the definition: two bytes set, one after the other.
+-- `little_endian::put_u16` meets its contract: by the definition, two bytes set one after the other.
 use native.Mathlib.Numerals.{add-one}
 use native.Mathlib.Omega.{arith}
 use mathlib.Core.Path.{_≡_}

@@ -1,4 +1,4 @@
--- The two halves' bytes are the whole's.
+-- `little_endian::put_u64` meets its contract: the bytes of the two halves are those of the number (`put-halves`).
 use borrow.Author.Needs.{needs}
 use Rattle.little_endian.proofs.Put.{put-halves}
 use Rattle.little_endian.proofs.put_u64.Statement.{statement}

@@ -1,4 +1,4 @@
--- The bytes are joined one after another.
+-- `little_endian::u32_at` meets its contract: the bytes are joined one after another (`join-next`).
 use borrow.Author.Needs.{needs}
 use Rattle.little_endian.specs.Bytes.{AreBytes}
 use Rattle.little_endian.proofs.Numbers.{join-first, join-next}

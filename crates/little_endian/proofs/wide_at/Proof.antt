@@ -1,4 +1,4 @@
--- The code's test is the law's, as in `f32_of`; an f64 holds what an f32 does, and has the same NaN.
+-- `little_endian::wide_at` meets its contract: by the test of the pattern, as in `f32_of`; an f64 holds every f32, and has the same NaN.
 use mathlib.Core.Path.{ap, sym, _∙_}
 use native.Mathlib.Omega.{arith}
 use borrow.Author.Needs.{needs}

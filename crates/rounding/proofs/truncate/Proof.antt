@@ -1,36 +1,36 @@
--- `rounding::truncate` meets its contract: below 1, below 256, or neither (`Cut`).
-use Rattle.rounding.proofs.Cut.{Mid, in-range, number, field-from, field-to, cut-byte, cut, above, below}
+-- `rounding::truncate` meets its contract: by whether x is below 1, below 256, or neither (`TruncateLaw`).
+use Rattle.rounding.proofs.TruncateLaw.{InRange, in-range, in-range-number, field-ge, field-lt, shifted-lt, shifted-truncated, truncated-above, truncated-below}
 use borrow.Author.Needs.{needs}
 use native.Mathlib.Omega.{arith}
 use Rattle.rounding.proofs.truncate.Statement.{statement}
 use Rattle.rounding.proofs.truncate.Tie as tie
 
-mid : (c : tie.Then2) → Mid (c .before .before .args .x)
-mid c = in-range (c .before .before .args .x) (c .before .if1 .taken) (c .if2 .taken)
+range : (c : tie.Then2) → InRange (c .before .before .args .x)
+range c = in-range (c .before .before .args .x) (c .before .if1 .taken) (c .if2 .taken)
 
 sub-result : tie.Need-sub-result
-sub-result c = omega (arith, field-to (c .before .before .args .x) (search needs) (mid c))
+sub-result c = omega (arith, field-lt (c .before .before .args .x) (search needs) (range c))
 
 shr-result : tie.Need-shr-result
-shr-result c = omega (arith, field-from (c .before .before .args .x) (search needs) (mid c))
+shr-result c = omega (arith, field-ge (c .before .before .args .x) (search needs) (range c))
 
 cast-result : tie.Need-cast-result
-cast-result c = record { fits = cut-byte (c .before .before .args .x) (search needs) (mid c) }
+cast-result c = record { fits = shifted-lt (c .before .before .args .x) (search needs) (range c) }
 
 returns : tie.Need-returns
-returns c = cut (c .before .before .args .x) (search needs) (mid c)
+returns c = shifted-truncated (c .before .before .args .x) (search needs) (range c)
 
 returns-2 : tie.Need-returns-2
-returns-2 c = above (c .before .before .args .x) (c .before .if1 .taken) (c .if2 .left)
+returns-2 c = truncated-above (c .before .before .args .x) (c .before .if1 .taken) (c .if2 .left)
 
 returns-3 : tie.Need-returns-3
-returns-3 c = below (c .before .args .x) (c .if1 .left)
+returns-3 c = truncated-below (c .before .args .x) (c .if1 .left)
 
 pub truncate-spec : {M : Type 1} → statement M
 truncate-spec =
     tie.close
     (tie.spec
-    (λ c. number (c .before .before .args .x) (mid c)) (λ c. search needs)
+    (λ c. in-range-number (c .before .before .args .x) (range c)) (λ c. search needs)
     sub-result
     shr-result
     cast-result

@@ -1,7 +1,7 @@
--- `rounding::whole::whole_root` meets its contract. The invariant: one more than the guess, squared, is above a. The guess falls.
+-- `rounding::whole::whole_root` meets its contract. The invariant: the guess is not below the root, so one more than it, squared, is above a. The guess decreases.
 use Prim.Native.Nat.{_+_, _*_, _^_, _≤_, _<_}
 use native.Mathlib.Nat.{le-trans, le-of-lt, mul-le-mul, div-le-self}
-use Rattle.rounding.proofs.WholeRoot.{newton-above, newton-below, sq-pos}
+use Rattle.rounding.proofs.WholeRootSteps.{newton-not-below, newton-decreases, sq-pos}
 use native.Mathlib.Omega.{arith}
 use Rattle.rounding.proofs.whole.whole_root.Statement.{statement}
 use Rattle.rounding.proofs.whole.whole_root.Tie as tie
@@ -25,13 +25,13 @@ add-r : tie.Need-add-r Inv-loop μ-loop
 add-r c = let l = div-le-self (c .before .before .args .a) (c .before .loop .r) in omega arith
 
 loop-less : tie.Need-loop-less Inv-loop μ-loop
-loop-less c = newton-below (c .before .before .args .a) (c .before .loop .r) (c .loop-test .taken)
+loop-less c = newton-decreases (c .before .before .args .a) (c .before .loop .r) (c .loop-test .taken)
 
 loop-again : tie.Need-loop-again Inv-loop μ-loop
 loop-again c =
     let a = c .before .before .args .a in
     let r = c .before .loop .r in
-    (newton-above a r (sq-pos a r (c .loop-test .taken)), le-trans (le-of-lt (newton-below a r (c .loop-test .taken))) (c .before .loop .inv .1))
+    (newton-not-below a r (sq-pos a r (c .loop-test .taken)), le-trans (le-of-lt (newton-decreases a r (c .loop-test .taken))) (c .before .loop .inv .1))
 
 mul-square : tie.Need-mul-square Inv-loop μ-loop
 mul-square c = let l = mul-le-mul (c .before .loop .inv .1) (c .before .loop .inv .1) in omega arith
