@@ -72,11 +72,11 @@ pub conversion-fits : (s : List ℕ) (t : VectorType) (scratch room : ℕ) (v : 
 unfolding conversionOf
 conversion-fits s t scratch room v = by (readOf s)
   where
-    Made : Conversion → Type 0
-    Made c = c .answer ≡ Converted v → (length (c .out) ≡ v .length) × (v .length ≤ room)
+    Fits : Conversion → Type 0
+    Fits c = c .answer ≡ Converted v → (length (c .out) ≡ v .length) × (v .length ≤ room)
 
-    tests : (few over : Bool) (a b : Refusal) (d : ℕ) (dense new : List ℕ) → ltb room (length new) ≡ over
-        → Made (unless (cond few (given a) (cond over (given b) none)) refusing (conversion (convertedTo t d (length new)) dense new))
+    tests : (short over : Bool) (a b : Refusal) (d : ℕ) (dense new : List ℕ) → ltb room (length new) ≡ over
+        → Fits (unless (cond short (given a) (cond over (given b) none)) refusing (conversion (convertedTo t d (length new)) dense new))
     tests true over a b d dense new h e = let z = ap reach e in absurd (omega arith)
     tests false true a b d dense new h e = let z = ap reach e in absurd (omega arith)
     tests false false a b d dense new h e =
@@ -84,7 +84,7 @@ conversion-fits s t scratch room v = by (readOf s)
         let size : length new ≡ v .length = omega arith in
         (size, omega (arith, ltb-false room (length new) h))
 
-    by : (w : ReadAnswer) → Made (readConversion w (bodyOf s) t scratch room)
+    by : (w : ReadAnswer) → Fits (readConversion w (bodyOf s) t scratch room)
     by (Accepted w) =
         let dense = scratchBody (w .kind) t (w .dims .0) (bodyOf s) in
         let new = resultOf (w .kind) t (w .dims .0) (bodyOf s) in

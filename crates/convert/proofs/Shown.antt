@@ -12,4 +12,4 @@ use Rattle.convert_parts.specs.inner.Fitting.{Fitting}
 pub shown-fitting : (s : List ℕ) (v : View) → readOf s ≡ Accepted v → Fitting (v .kind) (v .dims .0) (bodyOf s)
 shown-fitting s v e =
     let facts = body-facts s v e in
-    record { few = facts .few; fit = facts .fit; inside = facts .inside }
+    record { limited = facts .few; fit = facts .fit; inside = facts .inside }

@@ -120,16 +120,16 @@ positive-pattern f b = by (ltb 0 b) (leb b (ones f * hid f)) refl refl
     over : (s n : Bool) → leb (top f) b ≡ s → isNan (ofBits f b) ≡ n → ones f * hid f < b → lt plusZero (ofBits f b) ≡ false
     over true n e g h = tests f b n (eqb (b % top f) 0) true g refl (λ _. e) ∙ and-false (not n && not (eqb (b % top f) 0))
     over false n e g h =
-        let own : b % top f ≡ b = mod-eq-of-lt (leb-false (top f) b e) in
-        tests f b true (eqb (b % top f) 0) false (nan-tested f b ∙ rw own (lt-ltb (ones f * hid f) b h)) refl (λ z. absurd (true≢false z))
+        let unsigned : b % top f ≡ b = mod-eq-of-lt (leb-false (top f) b e) in
+        tests f b true (eqb (b % top f) 0) false (nan-tested f b ∙ rw unsigned (lt-ltb (ones f * hid f) b h)) refl (λ z. absurd (true≢false z))
 
     by : (l u : Bool) → ltb 0 b ≡ l → leb b (ones f * hid f) ≡ u → lt plusZero (ofBits f b) ≡ (l && u)
     by true true e g =
         let most = leb-true b (ones f * hid f) g in
         let under : b < top f = omega (arith, infinity-below f) in
-        let own : b % top f ≡ b = mod-eq-of-lt under in
-        let some : eqb (b % top f) 0 ≡ false = rw own (ne-eqb b 0 (λ z. omega (arith, ltb-true 0 b e))) in
-        tests f b false false false (nan-tested f b ∙ rw own (le-ltb (ones f * hid f) b most)) some (λ _. lt-leb (top f) b under)
+        let unsigned : b % top f ≡ b = mod-eq-of-lt under in
+        let some : eqb (b % top f) 0 ≡ false = rw unsigned (ne-eqb b 0 (λ z. omega (arith, ltb-true 0 b e))) in
+        tests f b false false false (nan-tested f b ∙ rw unsigned (le-ltb (ones f * hid f) b most)) some (λ _. lt-leb (top f) b under)
     by true false e g = over (leb (top f) b) (isNan (ofBits f b)) refl refl (leb-false b (ones f * hid f) g)
     by false u e g = let none : b ≡ 0 = omega (arith, ltb-false 0 b e) in rw none (zero-below f)
 

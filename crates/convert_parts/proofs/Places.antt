@@ -21,10 +21,10 @@ module _ (p : ℕ → Bool) where
   pub length-next : (n : ℕ) → length (placesOf p (n + 1)) ≡ length (placesOf p n) + length (cond (p n) (n ∷ []) [])
   length-next n = rw (places-next n) (length-append (placesOf p n) (cond (p n) (n ∷ []) []))
 
-  pub places-few : (n : ℕ) → length (placesOf p n) ≤ n
+  pub places-within : (n : ℕ) → length (placesOf p n) ≤ n
   unfolding placesOf
-  places-few zero = omega arith
-  places-few (suc n) = rw length-append (omega (arith, places-few n, one (p n)))
+  places-within zero = omega arith
+  places-within (suc n) = rw length-append (omega (arith, places-within n, one (p n)))
     where
       one : (b : Bool) → length (cond b (n ∷ []) []) ≤ 1
       one true = omega arith
@@ -50,8 +50,8 @@ module _ (p : ℕ → Bool) where
   count-none d = record { within = omega arith; found = refl }
 
   module _ {d n i : ℕ} (h : Counting d n i) where
-    pub count-few : n ≤ i
-    count-few = rw (h .found) (places-few i)
+    pub count-within : n ≤ i
+    count-within = rw (h .found) (places-within i)
 
     pub count-next : i < d → (b : Bool) → b ≡ p i → (r : ℕ) → r ≡ n + cond b 1 0 → Counting d r (i + 1)
     count-next less b e r more = record { within = omega arith; found = rw (length-next i, ← (h .found), ← e) (more ∙ one b) }

@@ -88,13 +88,13 @@ module _ (p : ℕ → Bool) (value : ℕ → List ℕ) (d count : ℕ) (l : List
         by : (b : Bool) → length places + length (cond b (i ∷ []) []) ≤ count
             → cond b (put (put (laid i) (4 * n) (value i)) (4 * count + 4 * n) (bytesOf 4 i)) (laid i)
             ≡ put (put l 0 (each value (places ++ cond b (i ∷ []) []))) (4 * count) (each (bytesOf 4) (places ++ cond b (i ∷ []) []))
-        by true few =
+        by true fits =
             let values : length (each value places) ≡ 4 * n = rw e (length-values value d wide p i (omega arith)) in
             let indices : length (each (bytesOf 4) places) ≡ 4 * n = rw e (length-indices p i) in
             rw (each-snoc value places i, each-snoc (bytesOf 4) places i, ← values)
             (rw (indices, ← values) at
             (regions-grown l (4 * count) (each value places) (each (bytesOf 4) places) (value i) (bytesOf 4 i) (omega (arith, wide i h)) (omega (arith, length-bytesOf 4 i))))
-        by false few = rw append-nil
+        by false fits = rw append-nil
 
     laid-all : laid d ≡ onto (storedBody p value d) l
     unfolding storedBody

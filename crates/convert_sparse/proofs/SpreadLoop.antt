@@ -35,27 +35,24 @@ abbrev zeros : Format → ℕ → List ℕ
 zeros f d = replicate (width f * d) 0
 
 module _ (f : Format) (d : ℕ) (body : List ℕ) (inside : hasIndexOutside Float32Sparse d body ≡ false) where
-  abbrev count : ℕ
-  count = storedCount body
-
   -- the loop starts on l, which starts with zeros
   module _ (u l : List ℕ) (e : l ≡ onto (zeros f d) u) where
-    pub spread-none : Filled (spread f d body) count l l 0
+    pub spread-none : Filled (spread f d body) (storedCount body) l l 0
     unfolding spread
     spread-none = record { within = omega arith; written = rw e (sym (onto-again (zeros f d) (zeros f d) u refl)); long = refl }
 
-    pub spread-all : {o : List ℕ} {j : ℕ} → Filled (spread f d body) count l o j → count ≤ j → o ≡ onto (spreadBody f d body) u
+    pub spread-all : {o : List ℕ} {j : ℕ} → Filled (spread f d body) (storedCount body) l o j → storedCount body ≤ j → o ≡ onto (spreadBody f d body) u
     spread-all h ends =
-        let same = length-spread f d body inside count (omega arith) ∙ sym (length-replicate {A = ℕ} (width f * d) 0) in
+        let same = length-spread f d body inside (storedCount body) (omega arith) ∙ sym (length-replicate {A = ℕ} (width f * d) 0) in
         fill-all h ends ∙ rw e (onto-again (spreadBody f d body) (zeros f d) u same)
 
-  module _ {l o : List ℕ} {j : ℕ} (h : Filled (spread f d body) count l o j) (less : j < count) where
-    pub spread-room : (a : ℕ) → a ≡ indexAt body count j → width f * a + width f ≤ length o
+  module _ {l o : List ℕ} {j : ℕ} (h : Filled (spread f d body) (storedCount body) l o j) (less : j < storedCount body) where
+    pub spread-room : (a : ℕ) → a ≡ indexAt body (storedCount body) j → width f * a + width f ≤ length o
     spread-room a place =
         rw place (omega (arith, h .long, entry-room f d body inside j less, length-spread f d body inside j (h .within), onto-within (spread f d body j) l o (h .written) (h .long)))
 
-    pub spread-next : (o′ vs : List ℕ) (a : ℕ) → a ≡ indexAt body count j → vs ≡ entryBytes f body j → o′ ≡ put o (width f * a) vs
-        → Filled (spread f d body) count l o′ (j + 1)
+    pub spread-next : (o′ vs : List ℕ) (a : ℕ) → a ≡ indexAt body (storedCount body) j → vs ≡ entryBytes f body j → o′ ≡ put o (width f * a) vs
+        → Filled (spread f d body) (storedCount body) l o′ (j + 1)
     unfolding spread
     spread-next o′ vs a place value e =
         let v = spread f d body j in
@@ -64,5 +61,5 @@ module _ (f : Format) (d : ℕ) (body : List ℕ) (inside : hasIndexOutside Floa
         let wide = length-entry f body j less in
         let room = entry-room f d body inside j less in
         let fits = onto-within v l o (h .written) (h .long) in
-        let put-inside = put-within v (entryBytes f body j) l (width f * indexAt body count j) (omega arith) in
-        filled (spread f d body) count l o′ (j + 1) (omega arith) (omega arith) (e ∙ rw (place, value, h .written, add-one) put-inside)
+        let put-inside = put-within v (entryBytes f body j) l (width f * indexAt body (storedCount body) j) (omega arith) in
+        filled (spread f d body) (storedCount body) l o′ (j + 1) (omega arith) (omega arith) (e ∙ rw (place, value, h .written, add-one) put-inside)

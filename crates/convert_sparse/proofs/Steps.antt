@@ -26,7 +26,7 @@ module _ (d : ℕ) (body : List ℕ) where
 
     pub dense-fitting : Fitting Float32Dense d dense
     unfolding bodyFits
-    dense-fitting = record { few = h .few; fit = eq-eqb (length dense) (4 * d) dense-long; inside = refl }
+    dense-fitting = record { limited = h .limited; fit = eq-eqb (length dense) (4 * d) dense-long; inside = refl }
 
     pub dense-front : (scratch s : List ℕ) → s ≡ onto dense scratch → take (4 * d) s ≡ dense
     dense-front scratch s e = rw e (take-at dense (drop (length dense) scratch) (4 * d) dense-long)

@@ -24,17 +24,17 @@ room c u n e size = omega (arith, size, rw e at (c .pre .1))
 put-singles-requires : tie.Need-put-singles-requires
 put-singles-requires c κs =
     let start = c .before .before .before .before .before in
-    (start .pre .0 .few, (long start, room start _ _ (c .before .enum-told .given .1) (length-float32 _ _ Float1Bit (start .pre .0))))
+    (start .pre .0 .limited, (long start, room start _ _ (c .before .enum-told .given .1) (length-float32 _ _ Float1Bit (start .pre .0))))
 
 put-doubles-requires : tie.Need-put-doubles-requires
 put-doubles-requires c κs =
     let start = c .before .before .before .before .before in
-    (start .pre .0 .few, (long start, room start _ _ (c .before .enum-told2 .given .1) (length-float64 _ _ Float1Bit (start .pre .0))))
+    (start .pre .0 .limited, (long start, room start _ _ (c .before .enum-told2 .given .1) (length-float64 _ _ Float1Bit (start .pre .0))))
 
 put-sparse-requires : tie.Need-put-sparse-requires
 put-sparse-requires c κs =
     let start = c .before .before .before .before .before in
-    (start .pre .0 .few, (long start, room start _ _ (c .before .enum-told3 .given .1) (length-sparse _ _)))
+    (start .pre .0 .limited, (long start, room start _ _ (c .before .enum-told3 .given .1) (length-sparse _ _)))
 
 put-copy-requires : tie.Need-put-copy-requires
 put-copy-requires c κs =
@@ -44,7 +44,7 @@ put-copy-requires c κs =
 put-quantized-requires : tie.Need-put-quantized-requires
 put-quantized-requires c κs =
     let start = c .before .before .before .before .before in
-    (start .pre .0 .few, (long start, room start _ _ (c .before .enum-told5 .given .1) (length-float8 _ _ Float1Bit (start .pre .0))))
+    (start .pre .0 .limited, (long start, room start _ _ (c .before .enum-told5 .given .1) (length-float8 _ _ Float1Bit (start .pre .0))))
 
 returns : tie.Need-returns
 returns c = rw (c .before .before .before .before .enum-told .given .1) (c .before .before .put-singles .ensures)

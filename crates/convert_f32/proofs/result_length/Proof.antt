@@ -8,19 +8,19 @@ use Rattle.bodies.specs.Elements.{denseElement}
 use Rattle.bodies.proofs.Lengths.{float32-length}
 use Rattle.convert_parts.specs.Sparse.{isNonzero}
 use Rattle.convert_parts.specs.Result.{resultOf}
-use Rattle.convert_parts.proofs.Places.{places-few}
+use Rattle.convert_parts.proofs.Places.{places-within}
 use Rattle.convert_parts.proofs.Lengths.{length-float64, length-one-bit, length-float8}
 use Rattle.convert_f32.proofs.Stored.{length-sparse}
 use Rattle.convert_f32.proofs.result_length.Statement.{statement}
 use Rattle.convert_f32.proofs.result_length.Tie as tie
 
 count-stored-requires : tie.Need-count-stored-requires
-count-stored-requires c κs = let pre = c .before .before .before .pre in (pre .few, float32-length _ _ refl (pre .fit))
+count-stored-requires c κs = let pre = c .before .before .before .pre in (pre .limited, float32-length _ _ refl (pre .fit))
 
 mul-result-2 : tie.Need-mul-result-2
 mul-result-2 c =
     let start = c .before .before .before .before in
-    omega (arith, start .pre .few, c .count-stored .ensures, places-few (λ i. isNonzero (denseElement binary32 (start .args .body .now) i)) (start .args .dims))
+    omega (arith, start .pre .limited, c .count-stored .ensures, places-within (λ i. isNonzero (denseElement binary32 (start .args .body .now) i)) (start .args .dims))
 
 returns : tie.Need-returns
 unfolding resultOf

@@ -31,23 +31,23 @@ put-copy-requires c κs =
 put-singles-requires : tie.Need-put-singles-requires
 put-singles-requires c κs =
     let start = c .before .before .before .before .before in
-    (start .pre .0 .few, (long start, room start _ _ (c .before .enum-told .given .1) (length-float32 _ _ Float64Dense (start .pre .0))))
+    (start .pre .0 .limited, (long start, room start _ _ (c .before .enum-told .given .1) (length-float32 _ _ Float64Dense (start .pre .0))))
 
 put-sparse-requires : tie.Need-put-sparse-requires
 put-sparse-requires c κs =
     let start = c .before .before .before .before .before in
     let size = exact start _ _ (c .before .enum-told3 .given .1) (length-sparse _ _) in
-    (start .pre .0 .few, (long start, (omega (arith, size), omega (arith, size, start .pre .1 .1))))
+    (start .pre .0 .limited, (long start, (omega (arith, size), omega (arith, size, start .pre .1 .1))))
 
 put-bits-requires : tie.Need-put-bits-requires
 put-bits-requires c κs =
     let start = c .before .before .before .before .before in
-    (start .pre .0 .few, (long start, room start _ _ (c .before .enum-told4 .given .1) (length-one-bit _ _ Float64Dense (start .pre .0))))
+    (start .pre .0 .limited, (long start, room start _ _ (c .before .enum-told4 .given .1) (length-one-bit _ _ Float64Dense (start .pre .0))))
 
 put-quantized-requires : tie.Need-put-quantized-requires
 put-quantized-requires c κs =
     let start = c .before .before .before .before .before in
-    (start .pre .0 .few, (long start, room start _ _ (c .before .enum-told5 .given .1) (length-float8 _ _ Float64Dense (start .pre .0))))
+    (start .pre .0 .limited, (long start, room start _ _ (c .before .enum-told5 .given .1) (length-float8 _ _ Float64Dense (start .pre .0))))
 
 returns : tie.Need-returns
 returns c = rw (c .before .before .before .before .enum-told .given .1) (c .before .before .put-singles .ensures)

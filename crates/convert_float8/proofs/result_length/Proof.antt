@@ -8,19 +8,19 @@ use Rattle.bodies.specs.Elements.{float8Element}
 use Rattle.bodies.proofs.Lengths.{float8-length}
 use Rattle.convert_parts.specs.Sparse.{isNonzero}
 use Rattle.convert_parts.specs.Result.{resultOf}
-use Rattle.convert_parts.proofs.Places.{places-few}
+use Rattle.convert_parts.proofs.Places.{places-within}
 use Rattle.convert_parts.proofs.Lengths.{length-float32, length-float64, length-one-bit}
 use Rattle.convert_float8.proofs.Scaled.{length-sparse}
 use Rattle.convert_float8.proofs.result_length.Statement.{statement}
 use Rattle.convert_float8.proofs.result_length.Tie as tie
 
 count-stored-requires : tie.Need-count-stored-requires
-count-stored-requires c κs = let pre = c .before .before .before .pre in (pre .few, float8-length _ _ refl (pre .fit))
+count-stored-requires c κs = let pre = c .before .before .before .pre in (pre .limited, float8-length _ _ refl (pre .fit))
 
 mul-result-3 : tie.Need-mul-result-3
 mul-result-3 c =
     let start = c .before .before .before .before in
-    omega (arith, start .pre .few, c .count-stored .ensures, places-few (λ i. isNonzero (float8Element binary32 (start .args .dims) (start .args .body .now) i)) (start .args .dims))
+    omega (arith, start .pre .limited, c .count-stored .ensures, places-within (λ i. isNonzero (float8Element binary32 (start .args .dims) (start .args .body .now) i)) (start .args .dims))
 
 returns : tie.Need-returns
 returns c = rw (c .enum-told .given .1) (sym (length-float32 _ _ Float8 (c .before .before .before .pre)))

@@ -9,6 +9,6 @@ use Rattle.vector_types.specs.declared.VectorType.{VectorType}
 
 -- a body of a kind and d elements
 pub record Fitting (k : VectorType) (d : ℕ) (body : List ℕ) : Type 0 where
-  pub few : d ≤ maxDims
+  pub limited : d ≤ maxDims
   pub fit : bodyFits k d (length body) ≡ true
   pub inside : hasIndexOutside k d body ≡ false

@@ -21,13 +21,13 @@ put-singles-requires : tie.Need-put-singles-requires
 put-singles-requires c κs =
     let start = c .before .before .before .before .before .before in
     let fit = start .pre .0 in
-    (fit .few, (sparse-length (start .args .dims) _ refl (fit .fit), (fit .inside, room start _ _ (c .before .enum-told .given .1) (length-float32 _ _ Float32Sparse fit))))
+    (fit .limited, (sparse-length (start .args .dims) _ refl (fit .fit), (fit .inside, room start _ _ (c .before .enum-told .given .1) (length-float32 _ _ Float32Sparse fit))))
 
 put-doubles-requires : tie.Need-put-doubles-requires
 put-doubles-requires c κs =
     let start = c .before .before .before .before .before .before in
     let fit = start .pre .0 in
-    (fit .few, (sparse-length (start .args .dims) _ refl (fit .fit), (fit .inside, room start _ _ (c .before .enum-told2 .given .1) (length-float64 _ _ Float32Sparse fit))))
+    (fit .limited, (sparse-length (start .args .dims) _ refl (fit .fit), (fit .inside, room start _ _ (c .before .enum-told2 .given .1) (length-float64 _ _ Float32Sparse fit))))
 
 put-copy-requires : tie.Need-put-copy-requires
 unfolding resultOf

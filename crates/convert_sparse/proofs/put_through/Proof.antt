@@ -18,7 +18,7 @@ start c = c .before .before .before .before .before
 put-singles-requires : tie.Need-put-singles-requires
 put-singles-requires c κs =
     let s = c .before .before .before .before in
-    (s .pre .0 .few, (sparse-length (s .args .dims) _ refl (s .pre .0 .fit), (s .pre .0 .inside, s .pre .1 .1 .1)))
+    (s .pre .0 .limited, (sparse-length (s .args .dims) _ refl (s .pre .0 .fit), (s .pre .0 .inside, s .pre .1 .1 .1)))
 
 slice-aggregate-put-result : tie.Need-slice-aggregate-put-result
 slice-aggregate-put-result c =

@@ -5,7 +5,7 @@ use borrow.Author.Needs.{needs}
 use lib.Ieee.{binary32}
 use Rattle.bodies.specs.Elements.{float8Element}
 use Rattle.convert_parts.specs.Sparse.{isNonzero}
-use Rattle.convert_parts.proofs.Places.{Counting, count-none, count-few, count-next, count-all}
+use Rattle.convert_parts.proofs.Places.{Counting, count-none, count-within, count-next, count-all}
 use Rattle.convert_float8.proofs.Scaled.{element-computed, nonzero-computed}
 use Rattle.convert_float8.proofs.sparse.count_stored.Statement.{statement}
 use Rattle.convert_float8.proofs.sparse.count_stored.Tie as tie
@@ -19,7 +19,7 @@ abbrev μ-loop : tie.MeasureT-loop
 next-count-requires : tie.Need-next-count-requires Inv-loop μ-loop
 next-count-requires c κs =
     let turn = c .before .before in
-    omega (arith, turn .before .before .before .before .pre .0, count-few _ (turn .before .loop .inv), turn .loop-test .taken)
+    omega (arith, turn .before .before .before .before .pre .0, count-within _ (turn .before .loop .inv), turn .loop-test .taken)
 
 loop-again : tie.Need-loop-again Inv-loop μ-loop
 loop-again c =
