@@ -21,7 +21,7 @@ returns c =
 returns-2 : tie.Need-returns-2
 returns-2 c =
     let arm = c .before .before .before .before in
-    rw (arm .before .before .before .kind .given .1, arm .enum-told2 .given .1) (c .before .before .put-malformed2 .ensures)
+    rw (arm .before .before .before .kind .given .1, arm .enum-told .given .1) (c .before .before .put-malformed2 .ensures)
 
 -- the reply where kind and number are known
 known : (c : tie.After-number) → let a = c .before .before .before .before .before .before .before .before .before .args in
@@ -49,7 +49,7 @@ pub write-found-spec : {M : Type 1} → statement M
 write-found-spec =
     tie.close
     (tie.spec
-    (λ c. search needs) (λ c. search needs) (λ c κs. search needs) (λ c. search needs) returns (λ c. search needs)
+    (λ c. search needs) (λ c κs. search needs) (λ c. search needs) returns (λ c. search needs)
     (λ c. search needs) (λ c κs. search needs) (λ c. search needs) returns-2 (λ c κs. search needs) (λ c. search needs)
     (λ c κs. search needs) (λ c. search needs) (λ c. search needs) returns-3 (λ c. search needs)
     slice-aggregate-put-written (λ c κs. search needs) (λ c. search needs) (λ c. search needs) (λ c. search needs)
