@@ -13,7 +13,7 @@ use Rattle.bodies.specs.Entries.{Entries, Rising, Below}
 use Rattle.bodies.specs.Merged.{Rule, merge, merged}
 use Rattle.bodies.specs.declared.sparse.Turn.the-variants.{Done}
 use Rattle.bodies.proofs.Merging.{Merging, merging-none, merging-done, merging-both, merging-left, merging-right}
-use Rattle.bodies.specs.Walk.{lookup, walked}
+use Rattle.bodies.specs.inner.Walk.{lookup, walked}
 
 -- ---- looking an index up
 module _ (v : Entries) (t : ℕ) where

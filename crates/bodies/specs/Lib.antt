@@ -2,5 +2,4 @@ pub mod Elements
 pub mod Scale
 pub mod Entries
 pub mod Merged
-pub mod Walk
 pub mod inner

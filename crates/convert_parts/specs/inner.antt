@@ -1,2 +1,3 @@
+-- Words of contracts inside the crate: no public contract names them.
 pub mod Fitting
 pub mod Ranges

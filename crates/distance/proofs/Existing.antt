@@ -10,9 +10,9 @@ use lib.Ieee.{Float}
 use Rattle.vector_types.specs.Layout.{hasByte}
 use Rattle.vector_types.specs.declared.VectorType.{VectorType}
 use Rattle.vector_types.specs.declared.VectorType.the-variants.{Float32Dense, Float64Dense, Float32Sparse, Float1Bit, Float8}
-use Rattle.distance.specs.Table.{distanceRow, kindColumn}
+use Rattle.distance.specs.inner.Table.{distanceRow, kindColumn, existsFor}
 use Rattle.distance_sums.specs.Values.{l2Of}
-use Rattle.distance.specs.Values.{existsFor, valueOf}
+use Rattle.distance.specs.Values.{valueOf}
 use Rattle.distance.specs.declared.Distance.{Distance}
 use Rattle.distance.specs.declared.Distance.the-variants.{Cos, L2, Dot, Jaccard}
 

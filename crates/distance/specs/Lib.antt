@@ -1,4 +1,4 @@
 pub mod Values
-pub mod Table
+pub mod inner
 pub mod Answer
 pub mod Examples

@@ -1,7 +1,6 @@
 // Which distance exists for which kind.
 ghost use mathlib.Core.Path.{_≡_};
-ghost use Rattle.distance.specs.Values.{existsFor};
-ghost use Rattle.distance.specs.Table.{distanceRow, kindColumn};
+ghost use Rattle.distance.specs.inner.Table.{distanceRow, kindColumn, existsFor};
 use crate::Distance;
 use vector_types::VectorType;
 

@@ -4,5 +4,5 @@ pub mod Decimal
 pub mod Parts
 pub mod Fields
 pub mod Printed
-pub mod Example
+pub mod Examples
 pub mod inner

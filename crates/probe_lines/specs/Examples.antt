@@ -18,7 +18,7 @@ use Rattle.lines.specs.Text.{same}
 use Rattle.lines.specs.Hex.{digitOf, numberFrom, patternOf, hexPair, hexBytes, hexOf}
 use Rattle.lines.specs.Decimal.{decimalOf, numeralOf}
 use Rattle.lines.specs.Parts.{partsOf}
-use Rattle.lines.specs.Example.{Example, example, RepliesAs}
+use Rattle.lines.specs.Examples.{Example, example, RepliesAs}
 use Rattle.probe_lines.specs.Line.{vecprobeReply}
 
 abbrev pub floats : List Example

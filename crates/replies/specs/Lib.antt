@@ -1,4 +1,4 @@
 pub mod Program
-pub mod Rooms
+pub mod inner
 pub mod Printed
 pub mod Examples

@@ -10,7 +10,7 @@ ghost use Prim.Native.Nat.{_≤_};
 ghost use lib.ListN.{length};
 ghost use Rattle.promises.specs.Puts.{Puts};
 ghost use Rattle.probe_lines.specs.Limits.{vecprobeLimit};
-ghost use Rattle.replies.specs.Rooms.{Rooms};
+ghost use Rattle.replies.specs.inner.Rooms.{Rooms};
 ghost use Rattle.replies.specs.Program.{limitOf, programReply};
 
 // Which program is run.

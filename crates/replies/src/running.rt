@@ -5,7 +5,7 @@ ghost use lib.ListN.{length};
 ghost use Rattle.lines.specs.inner.Output.{Stepped};
 ghost use Rattle.probe_blobs.specs.Limits.{scratchRoom, blobRoom};
 ghost use Rattle.probe_lines.specs.Limits.{vecprobeLimit, decodedRoom};
-ghost use Rattle.replies.specs.Rooms.{Rooms};
+ghost use Rattle.replies.specs.inner.Rooms.{Rooms};
 ghost use Rattle.replies.specs.Program.{longestReply};
 use crate::LONGEST;
 use crate::Program;

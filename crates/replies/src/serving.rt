@@ -9,7 +9,7 @@ ghost use Rattle.promises.specs.Puts.{Puts};
 ghost use Rattle.lines.specs.inner.Stream.{keptWith, pieceOf};
 ghost use Rattle.lines.specs.inner.Served.{heldAnswer, heldReply, saidOf, servedOf, lastSaid};
 ghost use Rattle.probe_lines.specs.Limits.{vecprobeLimit};
-ghost use Rattle.replies.specs.Rooms.{Rooms};
+ghost use Rattle.replies.specs.inner.Rooms.{Rooms};
 ghost use Rattle.replies.specs.Program.{longestReply, programReply};
 use crate::Program;
 use crate::answer;

@@ -15,7 +15,7 @@ use lib.Ieee.Fits.{down-pos}
 use lib.Ieee.Nearest.{closest}
 use borrow.Author.Tests.{ne-eqb}
 use Rattle.rounding.specs.Nearest.{Nearest}
-use Rattle.rounding.specs.Pick.{digitsOf, count}
+use Rattle.rounding.specs.inner.Pick.{digitsOf, count}
 use Rattle.rounding.specs.Narrow.{IsNarrowed, narrowed, NarrowedExactly}
 use Rattle.rounding.specs.inner.Parts.{IsNarrowedPattern}
 use Rattle.rounding.proofs.Closest.{closest-le, closest-zero, closest-add-even, closest-by-division}

@@ -12,7 +12,7 @@ use lib.Ieee.Bits.{is-false}
 use lib.Ieee.Fits.{and-l, and-r}
 use borrow.Author.Tests.{eqb-false}
 use Rattle.rounding.specs.Nearest.{Even, LessOrTie, Nearest}
-use Rattle.rounding.specs.Pick.{count, higherIsNearer, nearerThanPrevious, last, pick}
+use Rattle.rounding.specs.inner.Pick.{count, higherIsNearer, nearerThanPrevious, last, pick}
 use Rattle.rounding.proofs.Compare.{Compared, compared}
 use Rattle.rounding.proofs.Patterns.{signed, signed-infinity, signed-size, Pattern, pattern-of, signed-parity, count-lt, count-le, count-suc, lt-of-count-lt}
 

@@ -17,7 +17,7 @@ use lib.Ieee.Fits.{two, down-pos, kept-lt}
 use lib.Ieee.Exact.{HasValue, odd-sign}
 use Rattle.float_laws.proofs.Value.{canonical}
 use Rattle.rounding.specs.Nearest.{HasSize}
-use Rattle.rounding.specs.Pick.{digitsOf, count}
+use Rattle.rounding.specs.inner.Pick.{digitsOf, count}
 
 -- ---- the numbers of a format
 pub hid-pos : (f : Format) → 0 < hid f

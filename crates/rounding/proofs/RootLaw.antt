@@ -13,7 +13,7 @@ use lib.Ieee.{Float, nan, inf, fin, Format, binary32, binary64, prec, emax, low,
 use lib.Ieee.Exact.{HasValue}
 use lib.Ieee.Fits.{two, down-pos}
 use Rattle.rounding.specs.Nearest.{Nearest}
-use Rattle.rounding.specs.Pick.{digitsOf, count}
+use Rattle.rounding.specs.inner.Pick.{digitsOf, count}
 use Rattle.rounding.specs.Root.{IsRoot, root, radicand, RootExactly}
 use Rattle.rounding.specs.inner.Parts.{IsWholeRoot, IsNormalized, IsRootPattern}
 use Rattle.rounding.proofs.Compare.{compare-lt, compare-gt, compare-scale}

@@ -17,7 +17,7 @@ use lib.Ieee.Nearest.{closest, nearest-ge}
 use borrow.Author.Tests.{lt-ltb, le-ltb}
 use Rattle.float_laws.proofs.Value.{value-unique}
 use Rattle.rounding.specs.Nearest.{Nearest, IsRounded}
-use Rattle.rounding.specs.Pick.{count}
+use Rattle.rounding.specs.inner.Pick.{count}
 use Rattle.rounding.proofs.Compare.{Compared, compared, compare-lt, compare-eq, compare-gt, compare-scale}
 use Rattle.rounding.proofs.Closest.{nearest-add-even}
 use Rattle.rounding.proofs.Patterns.{Full, full-suc, signed, signed-infinity, signed-value, hid-even, twice-hid, count-at, count-top, count-lt, count-le}

@@ -14,7 +14,7 @@ use lib.Ieee.Exact.{HasValue}
 use lib.Ieee.Fits.{down-pos}
 use lib.Ieee.Nearest.{div-same}
 use borrow.Author.Tests.{ltb-true, ltb-false, eqb-true, eqb-false, ne-eqb}
-use Rattle.rounding.specs.Pick.{count}
+use Rattle.rounding.specs.inner.Pick.{count}
 use Rattle.rounding.specs.Truncate.{truncated}
 use Rattle.rounding.proofs.Patterns.{count-is, count-at, count-lt, lt-of-count-lt, signed-value, toBits-lt}
 

@@ -7,7 +7,7 @@ use lib.Dec.{T, lit≤}
 use lib.Pow.{pow-add, pow-pos, pow-mono, shl-exact}
 use lib.Ieee.{Float, Format, binary32, binary64, prec, low, hid, ones, fits, ofBits, toBits}
 use lib.Ieee.Bits.{ofBits-toBits}
-use Rattle.rounding.specs.Pick.{digitsOf}
+use Rattle.rounding.specs.inner.Pick.{digitsOf}
 use Rattle.rounding.specs.Root.{IsRoot}
 use Rattle.rounding.specs.inner.Parts.{IsWholeRoot, IsNormalized, Widths, IsRootPattern}
 use Rattle.rounding.proofs.Powers.{four-pow}

@@ -2,6 +2,5 @@ pub mod Nearest
 pub mod Narrow
 pub mod Root
 pub mod Truncate
-pub mod Pick
 pub mod inner
 pub mod Examples

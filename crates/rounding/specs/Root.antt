@@ -6,7 +6,7 @@ use mathlib.Core.Bool.{true, false, cond}
 use lib.IntN.{ℤ}
 use lib.Ieee.{Float, nan, inf, fin, Format, low, up, down}
 use Rattle.rounding.specs.Nearest.{Nearest}
-use Rattle.rounding.specs.Pick.{pick}
+use Rattle.rounding.specs.inner.Pick.{pick}
 
 -- m * 2 ^ e is m * up e * 2 ^ (low + low) / down e squares of the smallest value.
 -- So M / 2 smallest values are compared with its root by squares: M * M * down e against four times m * up e * 2 ^ (low + low).

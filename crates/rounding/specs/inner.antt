@@ -1,2 +1,3 @@
--- Words of contracts inside the crate: no public contract names them.
+-- Words of contracts inside the crate, and a function to compute with: no public contract names them.
+pub mod Pick
 pub mod Parts

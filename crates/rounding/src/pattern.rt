@@ -1,7 +1,7 @@
 // A pattern's value as m * 2^e.
 ghost use mathlib.Core.Path.{_≡_};
 ghost use Prim.Native.Nat.{_-_, _*_, _/_, _^_, _≤_, _<_};
-ghost use Rattle.rounding.specs.Pick.{digitsOf};
+ghost use Rattle.rounding.specs.inner.Pick.{digitsOf};
 ghost use Rattle.rounding.specs.inner.Parts.{IsNormalized};
 
 // m * 2^e.

@@ -15,7 +15,7 @@ use Rattle.lines.specs.Text.{same}
 use Rattle.lines.specs.Hex.{digitOf, hexPair, hexBytes}
 use Rattle.lines.specs.Decimal.{decimalOf}
 use Rattle.lines.specs.Parts.{partsOf}
-use Rattle.lines.specs.Example.{Example, example, RepliesAs}
+use Rattle.lines.specs.Examples.{Example, example, RepliesAs}
 use Rattle.vecdist_lines.specs.Line.{vecdistReply}
 
 abbrev pub table : List Example

@@ -21,7 +21,7 @@ use Rattle.bodies.specs.Entries.{storedCount, entriesOf, Below}
 use Rattle.bodies.specs.Elements.{denseElement}
 use Rattle.convert_parts.specs.Spread.{entryBytes, spread, spreadBody}
 use Rattle.convert_parts.proofs.Spread.{index-below, length-entry, length-spread}
-use Rattle.bodies.specs.Walk.{lookup}
+use Rattle.bodies.specs.inner.Walk.{lookup}
 use Rattle.vector_laws.proofs.Summed.{orZero, AreElements}
 
 zeros-number : (w n i : ℕ) → i + w ≤ n → numberAt w (replicate n 0) i ≡ 0

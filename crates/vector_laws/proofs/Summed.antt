@@ -11,7 +11,7 @@ use lib.Ieee.{Float}
 use Rattle.float_laws.specs.Zero.{plusZero}
 use Rattle.bodies.specs.Entries.{Entries, Rising, Below}
 use Rattle.bodies.specs.Merged.{Rule, merge}
-use Rattle.bodies.specs.Walk.{lookup, turn, walked}
+use Rattle.bodies.specs.inner.Walk.{lookup, turn, walked}
 use Rattle.bodies.proofs.Walked.{merged-walked}
 
 -- an absent element counts as +0.0

@@ -1,7 +1,8 @@
 -- Each arm is its distance; an L2 that exists is not of 1-bit vectors.
 use mathlib.Core.Path.{sym, ap, _∙_}
 use mathlib.Core.Option.{some}
-use Rattle.distance.specs.Values.{existsFor, valueOf}
+use Rattle.distance.specs.Values.{valueOf}
+use Rattle.distance.specs.inner.Table.{existsFor}
 use Rattle.distance.specs.declared.Distance.{Distance}
 use Rattle.distance.proofs.Existing.{l2-exists}
 use borrow.Author.Needs.{needs}

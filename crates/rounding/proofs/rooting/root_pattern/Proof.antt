@@ -3,7 +3,7 @@ use mathlib.Core.Path.{sym, ap, _∙_, subst}
 use Prim.Native.Nat.{ℕ, _+_, _-_, _*_, _/_, _^_, _<_}
 use native.Mathlib.Nat.{le-trans, le-add-left, le-add-right, lt-of-le-of-lt, div-lt-iff-lt-mul}
 use lib.Pow.{pow-mono}
-use Rattle.rounding.specs.Pick.{digitsOf}
+use Rattle.rounding.specs.inner.Pick.{digitsOf}
 use Rattle.rounding.specs.inner.Parts.{IsWholeRoot, IsNormalized, IsRootPattern, formatOf}
 use Rattle.rounding.proofs.Patterns.{digits-lt, digits-pos}
 use Rattle.rounding.proofs.RootLaw.{rootShift}

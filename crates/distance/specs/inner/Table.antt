@@ -1,5 +1,6 @@
--- Where a distance and a kind stand in the table of which exists for which.
+-- The table of which distance exists for which kind, and where a distance and a kind stand in it.
 use Prim.Native.Nat.{ℕ}
+use mathlib.Core.Bool.{Bool, true, false}
 use Rattle.vector_types.specs.declared.VectorType.{VectorType}
 use Rattle.vector_types.specs.declared.VectorType.the-variants.{Float32Dense, Float64Dense, Float32Sparse, Float1Bit, Float8}
 use Rattle.distance.specs.declared.Distance.{Distance}
@@ -17,3 +18,14 @@ kindColumn Float64Dense = 1
 kindColumn Float32Sparse = 2
 kindColumn Float1Bit = 3
 kindColumn Float8 = 4
+
+-- which of the four exists for which of the five: all but L2 of Float1Bit (`exists-exactly`, proofs/Existing.antt)
+abbrev pub existsFor : Distance → VectorType → Bool
+existsFor Cos k = true
+existsFor L2 Float32Dense = true
+existsFor L2 Float64Dense = true
+existsFor L2 Float32Sparse = true
+existsFor L2 Float1Bit = false
+existsFor L2 Float8 = true
+existsFor Dot k = true
+existsFor Jaccard k = true
