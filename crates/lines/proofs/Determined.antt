@@ -1,7 +1,10 @@
 -- Each public contract determines its outcome, the answer and the lent bytes: stated over the contract's own reading, so it changes with the contract.
+use Prim.Native.Nat.{ℕ}
 use mathlib.Core.Path.{_∙_, sym}
+use mathlib.Core.List.{List}
 use denote.Ref.{now}
 use Rattle.promises.specs.Determined.{Determined}
+use Rattle.promises.proofs.Puts.{puts-determined}
 use Rattle.lines.proofs.hex.digit.Reads as digit
 use Rattle.lines.proofs.hex.pattern.Reads as pattern
 use Rattle.lines.proofs.hex.put_hex.Reads as put-hex
@@ -11,7 +14,7 @@ use Rattle.lines.proofs.text.field_end.Reads as field-end
 use Rattle.lines.proofs.text.numeral.Reads as numeral
 use Rattle.lines.proofs.text.put_decimal.Reads as put-decimal
 use Rattle.lines.proofs.text.put_head.Reads as put-head
-use Rattle.lines.proofs.text.put_other.Reads as put-other
+use Rattle.lines.proofs.text.put_malformed.Reads as put-malformed
 use Rattle.lines.proofs.stream.start.Reads as start
 use Rattle.lines.proofs.stream.next.Reads as next
 use Rattle.lines.proofs.stream.keep.Reads as keep
@@ -23,14 +26,14 @@ digit-determined κs a r r′ x x′ p q = p ∙ sym q
 pub pattern-determined : (κs : _) (a : _) → Determined (pattern.Post κs a) (λ r x. r)
 pattern-determined κs a r r′ x x′ p q = p ∙ sym q
 
-pub put-hex-determined : (κs : _) (a : _) → Determined (put-hex.Post κs a) (λ r x. r) × Determined (put-hex.Post κs a) (λ r x. now (x .1 .1 .0))
-put-hex-determined κs a = (λ r r′ x x′ p q. p .0 ∙ sym (q .0), λ r r′ x x′ p q. p .1 ∙ sym (q .1))
+pub put-hex-determined : (κs : _) (a : _) → Determined {Y = ℕ × List ℕ} (put-hex.Post κs a) (λ r x. (r, now (x .1 .1 .0)))
+put-hex-determined κs a r r′ x x′ p q = puts-determined (p .0) (q .0)
 
-pub bytes-determined : (κs : _) (a : _) → Determined (bytes.Post κs a) (λ r x. r) × Determined (bytes.Post κs a) (λ r x. now (x .1 .0))
-bytes-determined κs a = (λ r r′ x x′ p q. p .0 ∙ sym (q .0), λ r r′ x x′ p q. p .1 .0 ∙ sym (q .1 .0))
+pub bytes-determined : (κs : _) (a : _) → Determined {Y = ℕ × List ℕ} (bytes.Post κs a) (λ r x. (r, now (x .1 .0)))
+bytes-determined κs a r r′ x x′ p q = puts-determined (p .0) (q .0)
 
-pub put-bytes-determined : (κs : _) (a : _) → Determined (put-bytes.Post κs a) (λ r x. r) × Determined (put-bytes.Post κs a) (λ r x. now (x .1 .0))
-put-bytes-determined κs a = (λ r r′ x x′ p q. p .0 ∙ sym (q .0), λ r r′ x x′ p q. p .1 .0 ∙ sym (q .1 .0))
+pub put-bytes-determined : (κs : _) (a : _) → Determined {Y = ℕ × List ℕ} (put-bytes.Post κs a) (λ r x. (r, now (x .1 .0)))
+put-bytes-determined κs a r r′ x x′ p q = puts-determined (p .0) (q .0)
 
 pub field-end-determined : (κs : _) (a : _) → Determined (field-end.Post κs a) (λ r x. r)
 field-end-determined κs a r r′ x x′ p q = p .0 ∙ sym (q .0)
@@ -38,14 +41,14 @@ field-end-determined κs a r r′ x x′ p q = p .0 ∙ sym (q .0)
 pub numeral-determined : (κs : _) (a : _) → Determined (numeral.Post κs a) (λ r x. r)
 numeral-determined κs a r r′ x x′ p q = p ∙ sym q
 
-pub put-decimal-determined : (κs : _) (a : _) → Determined (put-decimal.Post κs a) (λ r x. r) × Determined (put-decimal.Post κs a) (λ r x. now (x .1 .0))
-put-decimal-determined κs a = (λ r r′ x x′ p q. p .0 ∙ sym (q .0), λ r r′ x x′ p q. p .1 .0 ∙ sym (q .1 .0))
+pub put-decimal-determined : (κs : _) (a : _) → Determined {Y = ℕ × List ℕ} (put-decimal.Post κs a) (λ r x. (r, now (x .1 .0)))
+put-decimal-determined κs a r r′ x x′ p q = puts-determined (p .0) (q .0)
 
-pub put-head-determined : (κs : _) (a : _) → Determined (put-head.Post κs a) (λ r x. r) × Determined (put-head.Post κs a) (λ r x. now (x .1 .0))
-put-head-determined κs a = (λ r r′ x x′ p q. p .0 ∙ sym (q .0), λ r r′ x x′ p q. p .1 .0 ∙ sym (q .1 .0))
+pub put-head-determined : (κs : _) (a : _) → Determined {Y = ℕ × List ℕ} (put-head.Post κs a) (λ r x. (r, now (x .1 .0)))
+put-head-determined κs a r r′ x x′ p q = puts-determined (p .0) (q .0)
 
-pub put-other-determined : (κs : _) (a : _) → Determined (put-other.Post κs a) (λ r x. r) × Determined (put-other.Post κs a) (λ r x. now (x .0))
-put-other-determined κs a = (λ r r′ x x′ p q. p .0 ∙ sym (q .0), λ r r′ x x′ p q. p .1 ∙ sym (q .1))
+pub put-malformed-determined : (κs : _) (a : _) → Determined {Y = ℕ × List ℕ} (put-malformed.Post κs a) (λ r x. (r, now (x .0)))
+put-malformed-determined κs a r r′ x x′ p q = puts-determined p q
 
 pub start-determined : (κs : _) (a : _) → Determined (start.Post κs a) (λ r x. r)
 start-determined κs a r r′ x x′ p q = p ∙ sym q

@@ -16,21 +16,21 @@ use Rattle.lines.specs.declared.hex.Found.{Found}
 use Rattle.lines.specs.declared.hex.Found.the-variants.{Number, Nothing}
 
 module _ (base n : ℕ) (s : List ℕ) (i : ℕ) where
-  pub one-digit : {d : ℕ} → i < length s → d ≡ digitOf (getD s i 0) → d < base → numberFrom base n (drop i s) ≡ numberFrom base (n * base + d) (drop (i + 1) s)
+  pub number-digit : {d : ℕ} → i < length s → d ≡ digitOf (getD s i 0) → d < base → numberFrom base n (drop i s) ≡ numberFrom base (n * base + d) (drop (i + 1) s)
   unfolding numberFrom
-  one-digit {d} h e less = rw (add-one, drop-cons s i 0, ← e, lt-ltb d base less)
+  number-digit {d} h e less = rw (add-one, drop-cons s i 0, ← e, lt-ltb d base less)
 
-  pub no-digit : {d : ℕ} → i < length s → d ≡ digitOf (getD s i 0) → base ≤ d → numberFrom base n (drop i s) ≡ Nothing
+  pub number-no-digit : {d : ℕ} → i < length s → d ≡ digitOf (getD s i 0) → base ≤ d → numberFrom base n (drop i s) ≡ Nothing
   unfolding numberFrom
-  no-digit {d} h e big = rw (drop-cons s i 0, ← e, le-ltb d base big)
+  number-no-digit {d} h e big = rw (drop-cons s i 0, ← e, le-ltb d base big)
 
-  pub no-more : length s ≤ i → numberFrom base n (drop i s) ≡ Number n
+  pub number-end : length s ≤ i → numberFrom base n (drop i s) ≡ Number n
   unfolding numberFrom
-  no-more h = rw (drop-of-length-le s h)
+  number-end h = rw (drop-of-length-le s h)
 
 -- a number of i digits, with one digit more
-pub one-more : (base n d i : ℕ) → n < base ^ i → d < base → n * base + d < base ^ (i + 1)
-one-more base n d i h less =
+pub digit-below : (base n d i : ℕ) → n < base ^ i → d < base → n * base + d < base ^ (i + 1)
+digit-below base n d i h less =
     let up : (n + 1) * base ≤ base ^ i * base = mul-le-mul-right base (omega arith) in
     rw (add-one, pow-suc) (omega arith)
 
@@ -90,10 +90,10 @@ number-none base b n [] big h = absurd (omega arith)
 number-none base b n (x ∷ s) big h =
     none-step (eqb x b) (ltb (digitOf x) base) base (n * base + digitOf x) b x (indexOf b s) s refl refl big (number-none base b (n * base + digitOf x) s big) h
 
-either : (t : Bool) → cond t Nothing Nothing ≡ Nothing
-either true = refl
-either false = refl
+cond-nothing : (t : Bool) → cond t Nothing Nothing ≡ Nothing
+cond-nothing true = refl
+cond-nothing false = refl
 
 pub pattern-none : (width b : ℕ) (s : List ℕ) → 16 ≤ digitOf b → indexOf b s < length s → patternOf width s ≡ Nothing
 unfolding patternOf
-pattern-none width b s big h = rw (number-none 16 b 0 s big h) (either (eqb (length s) width))
+pattern-none width b s big h = rw (number-none 16 b 0 s big h) (cond-nothing (eqb (length s) width))

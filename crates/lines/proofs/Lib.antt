@@ -1,7 +1,7 @@
 -- Laws for the line functions of the programs
 pub mod Same
 pub mod Digits
-pub mod Spelled
+pub mod Decimal
 pub mod Writing
 pub mod Pairs
 pub mod Parting

@@ -19,23 +19,23 @@ module _ (s : List ℕ) (i : ℕ) where
   abbrev pairAt : ℕ
   pairAt = hexPair (getD s (2 * i) 0) (getD s (2 * i + 1) 0)
 
-  two : 2 * i + 1 < length s → drop (2 * i) s ≡ getD s (2 * i) 0 ∷ (getD s (2 * i + 1) 0 ∷ drop (2 * (i + 1)) s)
-  two more =
+  drop-pair : 2 * i + 1 < length s → drop (2 * i) s ≡ getD s (2 * i) 0 ∷ (getD s (2 * i + 1) 0 ∷ drop (2 * (i + 1)) s)
+  drop-pair more =
       let first : 2 * i < length s = omega arith in
       let e : 2 * (i + 1) ≡ suc (2 * i + 1) = omega arith in
       rw (e, ← drop-cons s (2 * i + 1) 0 more, add-one) (drop-cons s (2 * i) 0 first)
 
-  pub one-pair : {b : ℕ} → 2 * i + 1 < length s → b ≡ pairAt → b < 256 → hexBytes (drop (2 * i) s) ≡ b ∷ hexBytes (drop (2 * (i + 1)) s)
+  pub hexBytes-pair : {b : ℕ} → 2 * i + 1 < length s → b ≡ pairAt → b < 256 → hexBytes (drop (2 * i) s) ≡ b ∷ hexBytes (drop (2 * (i + 1)) s)
   unfolding hexBytes
-  one-pair {b} more e small = rw (two more, ← e, lt-ltb b 256 small)
+  hexBytes-pair {b} more e small = rw (drop-pair more, ← e, lt-ltb b 256 small)
 
-  pub no-pair : {b : ℕ} → 2 * i + 1 < length s → b ≡ pairAt → 256 ≤ b → hexBytes (drop (2 * i) s) ≡ []
+  pub hexBytes-no-pair : {b : ℕ} → 2 * i + 1 < length s → b ≡ pairAt → 256 ≤ b → hexBytes (drop (2 * i) s) ≡ []
   unfolding hexBytes
-  no-pair {b} more e big = rw (two more, ← e, le-ltb b 256 big)
+  hexBytes-no-pair {b} more e big = rw (drop-pair more, ← e, le-ltb b 256 big)
 
-  pub no-more-pairs : length s / 2 ≤ i → hexBytes (drop (2 * i) s) ≡ []
+  pub hexBytes-end : length s / 2 ≤ i → hexBytes (drop (2 * i) s) ≡ []
   unfolding hexBytes
-  no-more-pairs h = lone (drop (2 * i) s) (omega (arith, length-drop (2 * i) s))
+  hexBytes-end h = lone (drop (2 * i) s) (omega (arith, length-drop (2 * i) s))
     where
       lone : (t : List ℕ) → length t ≤ 1 → hexBytes t ≡ []
       lone [] le = refl
@@ -43,14 +43,14 @@ module _ (s : List ℕ) (i : ℕ) where
       lone (a ∷ (b ∷ t)) le = absurd (omega arith)
 
 -- a byte that is put
-pub one-put : (s : List ℕ) (i : ℕ) → i < length s
+pub hexOf-byte : (s : List ℕ) (i : ℕ) → i < length s
     → hexOf (drop i s) ≡ glyph (getD s i 0 / 16) ∷ (glyph (getD s i 0 % 16) ∷ hexOf (drop (i + 1) s))
 unfolding hexOf
-one-put s i less = rw (add-one, drop-cons s i 0)
+hexOf-byte s i less = rw (add-one, drop-cons s i 0)
 
-pub no-more-put : (s : List ℕ) (i : ℕ) → length s ≤ i → hexOf (drop i s) ≡ []
+pub hexOf-end : (s : List ℕ) (i : ℕ) → length s ≤ i → hexOf (drop i s) ≡ []
 unfolding hexOf
-no-more-put s i h = rw (drop-of-length-le s h)
+hexOf-end s i h = rw (drop-of-length-le s h)
 
 pub length-hexOf : (s : List ℕ) → length (hexOf s) ≡ 2 * length s
 unfolding hexOf
@@ -87,11 +87,11 @@ pair-digits x y h = go (ltb (digitOf x) 16) (ltb (digitOf y) 16) refl refl h
     go true false e f p = absurd (omega arith)
     go false u e f p = absurd (omega arith)
 
-blob-step : (t : Bool) (b x y : ℕ) (s : List ℕ) → ltb (hexPair x y) 256 ≡ t → 16 ≤ digitOf b → (indexOf b s < length s → 2 * length (hexBytes s) < length s)
+few-step : (t : Bool) (b x y : ℕ) (s : List ℕ) → ltb (hexPair x y) 256 ≡ t → 16 ≤ digitOf b → (indexOf b s < length s → 2 * length (hexBytes s) < length s)
     → indexOf b (x ∷ (y ∷ s)) < suc (suc (length s)) → 2 * length (cond t (hexPair x y ∷ hexBytes s) []) < suc (suc (length s))
 unfolding indexOf indexAfter
-blob-step false b x y s e big ih h = omega arith
-blob-step true b x y s e big ih h =
+few-step false b x y s e big ih h = omega arith
+few-step true b x y s e big ih h =
     let (dx, dy) = pair-digits x y (ltb-true (hexPair x y) 256 e) in
     let fx = ne-eqb x b (λ p. omega (arith, ap digitOf p)) in
     let fy = ne-eqb y b (λ p. omega (arith, ap digitOf p)) in
@@ -99,11 +99,11 @@ blob-step true b x y s e big ih h =
     omega (arith, ih less)
 
 -- no text with a byte b that is no digit is a blob
-pub blob-none : (b : ℕ) (s : List ℕ) → 16 ≤ digitOf b → indexOf b s < length s → 2 * length (hexBytes s) < length s
+pub hexBytes-few : (b : ℕ) (s : List ℕ) → 16 ≤ digitOf b → indexOf b s < length s → 2 * length (hexBytes s) < length s
 unfolding hexBytes
-blob-none b [] big h = absurd (omega arith)
-blob-none b (x ∷ []) big h = omega arith
-blob-none b (x ∷ (y ∷ s)) big h = blob-step (ltb (hexPair x y) 256) b x y s refl big (blob-none b s big) h
+hexBytes-few b [] big h = absurd (omega arith)
+hexBytes-few b (x ∷ []) big h = omega arith
+hexBytes-few b (x ∷ (y ∷ s)) big h = few-step (ltb (hexPair x y) 256) b x y s refl big (hexBytes-few b s big) h
 
 digit-glyph : (d : ℕ) → d < 16 → digitOf (glyph d) ≡ d
 unfolding digitOf

@@ -12,7 +12,7 @@ use Rattle.bytes.specs.Bytes.{indexOf}
 use Rattle.promises.proofs.Onto.{copied, tail-onto}
 use Rattle.lines.proofs.Parting.{index-le}
 use Rattle.lines.specs.Text.{newline}
-use Rattle.lines.specs.Stream.{heldWith, keptWith, pieceOf, takenOf}
+use Rattle.lines.specs.inner.Stream.{heldWith, keptWith, pieceOf, takenOf}
 use Rattle.lines.specs.declared.stream.Held.{Held}
 use Rattle.lines.specs.declared.stream.Taken.{Taken}
 

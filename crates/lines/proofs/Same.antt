@@ -24,9 +24,9 @@ same-eq (x ∷ a) [] h = absurd (false≢true h)
 same-eq (x ∷ a) (y ∷ b) h = eq-step (eqb x y) x y a b refl (same-eq a b) h
 
 -- the answer of a test that is true exactly if the texts are equal
-pub tested : (r : Bool) (a b : List ℕ) → (r ≡ true → a ≡ b) × (a ≡ b → r ≡ true) → same a b ≡ r
-tested true a b h = rw (h .0 refl) (same-self b)
-tested false a b h = go (same a b) refl
+pub same-tested : (r : Bool) (a b : List ℕ) → (r ≡ true → a ≡ b) × (a ≡ b → r ≡ true) → same a b ≡ r
+same-tested true a b h = rw (h .0 refl) (same-self b)
+same-tested false a b h = go (same a b) refl
   where
     go : (t : Bool) → same a b ≡ t → t ≡ false
     go true e = sym (h .1 (same-eq a b e))

@@ -10,9 +10,10 @@ use lib.ListN.{length, take, drop, length-drop}
 use Rattle.bytes.specs.Bytes.{indexOf}
 use Rattle.lines.specs.Text.{newline}
 use Rattle.promises.specs.Onto.{onto}
-use Rattle.lines.specs.Stream.{heldAt, heldWith, keptWith, pieceOf, takenOf}
-use Rattle.lines.specs.Output.{Stepped}
-use Rattle.lines.specs.Served.{heldReply, saidOf, servedOf}
+use Rattle.promises.specs.Puts.{Puts}
+use Rattle.lines.specs.inner.Stream.{heldAt, heldWith, keptWith, pieceOf, takenOf}
+use Rattle.lines.specs.inner.Output.{Stepped}
+use Rattle.lines.specs.inner.Served.{heldReply, saidOf, servedOf}
 use Rattle.promises.proofs.Onto.{tail-within}
 use Rattle.lines.proofs.Parting.{index-le}
 use Rattle.lines.specs.declared.stream.Held.{Held}
@@ -28,9 +29,9 @@ module _ (answer : List ℕ → List ℕ) (kept : List ℕ) (h : Held) where
   servedAt t = record { held = cond (t .ended) (heldAt (h .before + 1)) (t .held); at = t .at; said = length (saidAt t) }
 
   at-end : (t : Taken) (o l : List ℕ) (n : ℕ) (g : Held) → t .ended ≡ true → g ≡ heldAt (h .before + 1)
-      → (n ≡ length (heldReply answer kept (t .held))) × (o ≡ onto (heldReply answer kept (t .held)) l)
+      → Puts (heldReply answer kept (t .held)) l n o
       → (record { held = g; at = t .at; said = n } ≡ servedAt t) × (o ≡ onto (saidAt t) l)
-  at-end t o l n g p f r = rw p (ap₂ (λ (x : Held) (m : ℕ). record { held = x; at = t .at; said = m }) f (r .0), r .1)
+  at-end t o l n g p f r = rw p (ap₂ (λ (x : Held) (m : ℕ). record { held = x; at = t .at; said = m }) f (r .size), r .left)
 
   not-at-end : (t : Taken) (l : List ℕ) → t .ended ≡ false → (record { held = t .held; at = t .at; said = 0 } ≡ servedAt t) × (l ≡ onto (saidAt t) l)
   not-at-end t l p = rw p (refl, refl)
@@ -43,7 +44,7 @@ module _ (answer : List ℕ → List ℕ) (kept chunk : List ℕ) (at : ℕ) (h 
   Now s o l x = let k = keptWith kept (h .count) (pieceOf chunk) in (s ≡ servedAt answer k h x) × (o ≡ onto (saidAt answer k h x) l)
 
   pub served-ended : (kept′ o l : List ℕ) (n : ℕ) (g : Held) → t .ended ≡ true → kept′ ≡ keptWith kept (h .count) (pieceOf chunk)
-      → g ≡ heldAt (t .held .before + 1) → (n ≡ length (heldReply answer kept′ (t .held))) × (o ≡ onto (heldReply answer kept′ (t .held)) l)
+      → g ≡ heldAt (t .held .before + 1) → Puts (heldReply answer kept′ (t .held)) l n o
       → Right (record { held = g; at = t .at; said = n }) o l
   served-ended kept′ o l n g p k f r =
       let same : t .held .before ≡ h .before = ap (λ (x : Taken). x .held .before) e in

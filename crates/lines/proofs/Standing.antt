@@ -14,10 +14,10 @@ use Rattle.bytes.specs.Bytes.{indexOf, indexAfter}
 use Rattle.lines.specs.Text.{newline}
 use Rattle.promises.specs.Onto.{onto}
 use Rattle.lines.specs.Printed.{replyOf, limited, printedOf}
-use Rattle.lines.specs.Stream.{heldAt, heldWith, keptWith, pieceOf}
-use Rattle.lines.specs.Served.{heldReply, saidOf, servedOf, lastSaid, Serving}
-use Rattle.lines.specs.Served.Serving.{begun, goes-on}
-use Rattle.lines.specs.Progress.{Progress, nothing, ended, next, after, finished, Stands}
+use Rattle.lines.specs.inner.Stream.{heldAt, heldWith, keptWith, pieceOf}
+use Rattle.lines.specs.inner.Served.{heldReply, saidOf, servedOf, lastSaid, Serving}
+use Rattle.lines.specs.inner.Served.Serving.{begun, goes-on}
+use Rattle.lines.specs.inner.Progress.{Progress, nothing, ended, next, after, finished, Stands}
 use Rattle.lines.specs.declared.stream.Held.{Held}
 use Rattle.promises.proofs.Onto.{length-onto}
 use Rattle.lines.proofs.Parting.{index-le, index-at}

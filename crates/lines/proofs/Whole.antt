@@ -10,7 +10,7 @@ use Rattle.lines.specs.Text.{newline}
 use Rattle.lines.proofs.Parting.{parts-some}
 use Rattle.lines.specs.Parts.{partsOf, inFront, lastUnlessEmpty}
 use Rattle.lines.specs.Printed.{repliesFrom, printedOf}
-use Rattle.lines.specs.Progress.{Progress, nothing, ended, next, after, finished}
+use Rattle.lines.specs.inner.Progress.{Progress, nothing, ended, next, after, finished}
 
 last-after : (l : List ℕ) (ps : List (List ℕ)) → 0 < length ps → lastUnlessEmpty (l ∷ ps) ≡ l ∷ lastUnlessEmpty ps
 unfolding lastUnlessEmpty
@@ -50,21 +50,21 @@ module _ (answer : List ℕ → List ℕ) where
   at-end b [] o = sym (append-nil o)
   at-end b (x ∷ l) o = rw (append-nil l, append-nil, eqb·suc-zero (length l))
 
-  one-more : (t : Bool) (p : Progress) (x : ℕ) (s : List ℕ) → ((q : Progress) → finished answer (after answer q s) ≡ rest q (partsOf newline s))
+  byte-step : (t : Bool) (p : Progress) (x : ℕ) (s : List ℕ) → ((q : Progress) → finished answer (after answer q s) ≡ rest q (partsOf newline s))
       → finished answer (after answer (cond t (ended answer p) (record { before = p .before; line = p .line ++ (x ∷ []); printed = p .printed })) s)
       ≡ rest p (cond t ([] ∷ partsOf newline s) (inFront x (partsOf newline s)))
   unfolding rest onFirst repliesFrom
-  one-more true p x s ih =
+  byte-step true p x s ih =
       ih (ended answer p)
       ∙ rw (first-none, last-after (p .line ++ []) (partsOf newline s) (parts-some newline s), append-nil (p .line), append-assoc)
-  one-more false p x s ih =
+  byte-step false p x s ih =
       ih (record { before = p .before; line = p .line ++ (x ∷ []); printed = p .printed })
       ∙ rw (first-more (p .line) x (partsOf newline s) (parts-some newline s))
 
   from : (p : Progress) (s : List ℕ) → finished answer (after answer p s) ≡ rest p (partsOf newline s)
   unfolding after partsOf
   from p [] = at-end (p .before) (p .line) (p .printed)
-  from p (x ∷ s) = one-more (eqb x newline) p x s (λ q. from q s)
+  from p (x ∷ s) = byte-step (eqb x newline) p x s (λ q. from q s)
 
   pub whole : (input : List ℕ) → finished answer (after answer nothing input) ≡ printedOf answer input
   unfolding rest

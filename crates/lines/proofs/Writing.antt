@@ -5,6 +5,7 @@ use Prim.Native.Nat.{ℕ, _+_, _<_, _≤_}
 use native.Mathlib.Omega.{arith}
 use lib.ListN.{length, set, length-append, length-set}
 use Rattle.promises.specs.Onto.{onto}
+use Rattle.promises.specs.Puts.{Puts}
 use Rattle.promises.proofs.Onto.{onto-put}
 
 -- the first i bytes of the text w are written over l, which is o then, and rest is to come
@@ -31,7 +32,7 @@ write-next {w} {l} {o} {t} {rest} {b} {i} {j} h next fits e =
       long = length-set o i b ∙ h .long;
     }
 
-pub write-all : {w l o t : List ℕ} {i : ℕ} → Writing w l o i t → t ≡ [] → (i ≡ length w) × (o ≡ onto w l)
+pub write-all : {w l o t : List ℕ} {i : ℕ} → Writing w l o i t → t ≡ [] → Puts w l i o
 write-all {w} {l} {o} {t} {i} h none =
     let whole : w ≡ h .done = h .parts ∙ rw (none, append-nil) in
-    rw whole (h .size, h .left)
+    rw whole (record { size = h .size; left = h .left })

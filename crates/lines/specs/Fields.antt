@@ -1,5 +1,5 @@
--- The answer to a line by its fields: to exactly so many of them, and to those that spell bytes. X is the answer to any other line.
-use Prim.Native.Nat.{ℕ, _*_}
+-- The reply to a line by its fields: to exactly so many of them, and to a field that is bytes in hexadecimal. X is the reply to a malformed line.
+use Prim.Native.Nat.{ℕ, zero, suc, _*_}
 use mathlib.Core.Bool.{cond}
 use mathlib.Core.List.{List, [], _∷_}
 use lib.Dec.{eqb}
@@ -7,30 +7,21 @@ use lib.ListN.{length}
 use Rattle.lines.specs.Text.{word}
 use Rattle.lines.specs.Hex.{hexBytes}
 
-abbrev pub other : List ℕ
-other = word "X"
+abbrev pub malformed : List ℕ
+malformed = word "X"
 
--- exactly one field, exactly two, three, four
-unfoldable pub one : (List ℕ → List ℕ) → List (List ℕ) → List ℕ
-one answer [] = other
-one answer (f ∷ []) = answer f
-one answer (f ∷ (g ∷ fs)) = other
+-- what gives a reply for n fields
+abbrev pub ReplyTo : ℕ → Type 0
+ReplyTo zero = List ℕ
+ReplyTo (suc n) = List ℕ → ReplyTo n
 
-unfoldable pub two : (List ℕ → List ℕ → List ℕ) → List (List ℕ) → List ℕ
-unfolding one
-two answer [] = other
-two answer (f ∷ fs) = one (answer f) fs
+-- the reply to a list of exactly n fields; X to fewer or more
+unfoldable pub exactly : (n : ℕ) → ReplyTo n → List (List ℕ) → List ℕ
+exactly zero reply [] = reply
+exactly zero reply (f ∷ fs) = malformed
+exactly (suc n) reply [] = malformed
+exactly (suc n) reply (f ∷ fs) = exactly n (reply f) fs
 
-unfoldable pub three : (List ℕ → List ℕ → List ℕ → List ℕ) → List (List ℕ) → List ℕ
-unfolding two
-three answer [] = other
-three answer (f ∷ fs) = two (answer f) fs
-
-unfoldable pub four : (List ℕ → List ℕ → List ℕ → List ℕ → List ℕ) → List (List ℕ) → List ℕ
-unfolding three
-four answer [] = other
-four answer (f ∷ fs) = three (answer f) fs
-
--- the answer to the bytes that a field spells; X unless all of it does
+-- the reply to the bytes that a field is in hexadecimal; X unless it is whole bytes of two digits each
 unfoldable pub fromHex : (List ℕ → List ℕ) → List ℕ → List ℕ
-fromHex answer field = cond (eqb (2 * length (hexBytes field)) (length field)) (answer (hexBytes field)) other
+fromHex reply field = cond (eqb (2 * length (hexBytes field)) (length field)) (reply (hexBytes field)) malformed

@@ -3,8 +3,6 @@ pub mod Hex
 pub mod Decimal
 pub mod Parts
 pub mod Fields
-pub mod Stream
 pub mod Printed
-pub mod Served
-pub mod Progress
-pub mod Output
+pub mod Example
+pub mod inner

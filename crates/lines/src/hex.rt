@@ -4,7 +4,7 @@ ghost use Prim.Native.Nat.{_*_, _/_, _≤_, _<_, _^_};
 ghost use lib.ListN.{length};
 ghost use Rattle.io.specs.Digits.{digits, glyph as Digits·glyph};
 ghost use Rattle.lines.specs.Hex.{digitOf, numberFrom, patternOf, hexPair, hexBytes, hexOf};
-ghost use Rattle.promises.specs.Onto.{onto};
+ghost use Rattle.promises.specs.Puts.{Puts};
 
 // A number that a text may be.
 pub enum Found {
@@ -66,8 +66,8 @@ pub fn put_hex(width: usize, n: u64, out: &mut [u8]) -> usize
     requires { ⌜ width ≤ 16 ⌝ }
     requires { ⌜ n < 16 ^ width ⌝ }
     requires { ⌜ width ≤ length (now out) ⌝ }
+    ensures { λ r. ⌜ Puts (digits 16 width n) (now (out .entry)) r (now (out .exit)) ⌝ }
     ensures { λ r. ⌜ r ≡ width ⌝ }
-    ensures { λ _. ⌜ now (out .exit) ≡ onto (digits 16 width n) (now (out .entry)) ⌝ }
 {
     let mut text = [0u8; 16];
     let k = io::hex(n, width, &mut text);
@@ -89,11 +89,11 @@ fn pair(a: u8, b: u8) -> u64
     high * 16 + low
 }
 
-// Puts the bytes that s spells at the start of out, and answers how many there are.
+// Decodes s, two digits a byte, up to the first two that are not both digits: puts the bytes at the
+// start of out, and answers how many there are.
 pub fn bytes(s: &[u8], out: &mut [u8]) -> usize
     requires { ⌜ length (now s) / 2 ≤ length (now out) ⌝ }
-    ensures { λ r. ⌜ r ≡ length (hexBytes (now (s .entry))) ⌝ }
-    ensures { λ _. ⌜ now (out .exit) ≡ onto (hexBytes (now (s .entry))) (now (out .entry)) ⌝ }
+    ensures { λ r. ⌜ Puts (hexBytes (now (s .entry))) (now (out .entry)) r (now (out .exit)) ⌝ }
     ensures { λ r. ⌜ 2 * r ≤ length (now (s .entry)) ⌝ }
 {
     let pairs = s.len() / 2;
@@ -121,8 +121,7 @@ fn glyph(d: u8) -> u8
 // Puts s in two digits a byte at the start of out, and answers how many digits there are.
 pub fn put_bytes(s: &[u8], out: &mut [u8]) -> usize
     requires { ⌜ 2 * length (now s) ≤ length (now out) ⌝ }
-    ensures { λ r. ⌜ r ≡ length (hexOf (now (s .entry))) ⌝ }
-    ensures { λ _. ⌜ now (out .exit) ≡ onto (hexOf (now (s .entry))) (now (out .entry)) ⌝ }
+    ensures { λ r. ⌜ Puts (hexOf (now (s .entry))) (now (out .entry)) r (now (out .exit)) ⌝ }
     ensures { λ r. ⌜ r ≡ 2 * length (now (s .entry)) ⌝ }
 {
     let mut i = 0;

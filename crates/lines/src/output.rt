@@ -1,7 +1,7 @@
 // Replies on their way to standard output: what the loops of the programs go by.
 ghost use Prim.Native.Nat.{_≤_};
 ghost use lib.ListN.{length};
-ghost use Rattle.lines.specs.Output.{Roomy};
+ghost use Rattle.lines.specs.inner.Output.{Roomy};
 use crate::stream::Held;
 
 // How many bytes of a buffer are filled with replies, once there is room for one more.

@@ -2,7 +2,7 @@
 ghost use mathlib.Core.Path.{_≡_};
 ghost use Prim.Native.Nat.{_+_, _≤_, _<_, _^_};
 ghost use lib.ListN.{length, drop};
-ghost use Rattle.lines.specs.Stream.{heldAt, heldWith, pieceOf, takenOf, keptWith};
+ghost use Rattle.lines.specs.inner.Stream.{heldAt, heldWith, pieceOf, takenOf, keptWith};
 
 // The line that is being read: how many of its bytes are kept, whether it has more, and how many
 // lines came before it.

@@ -4,10 +4,10 @@ ghost use Prim.Native.Nat.{_≤_};
 ghost use lib.ListN.{length};
 ghost use Rattle.bytes.specs.Bytes.{indexOf};
 ghost use Rattle.lines.specs.Text.{tab};
-ghost use Rattle.promises.specs.Onto.{onto};
+ghost use Rattle.promises.specs.Puts.{Puts};
 ghost use Rattle.lines.specs.Decimal.{decimalOf, numeralOf};
 ghost use Rattle.lines.specs.Printed.{headOf};
-ghost use Rattle.lines.specs.Fields.{other};
+ghost use Rattle.lines.specs.Fields.{malformed};
 use crate::hex::Found;
 use crate::hex::number;
 
@@ -36,8 +36,7 @@ pub fn numeral(most: usize, s: &[u8]) -> Found
 // Puts n in decimal at the start of out, and answers how many digits it has.
 pub fn put_decimal(n: u64, out: &mut [u8]) -> usize
     requires { ⌜ 20 ≤ length (now out) ⌝ }
-    ensures { λ r. ⌜ r ≡ length (decimalOf n) ⌝ }
-    ensures { λ _. ⌜ now (out .exit) ≡ onto (decimalOf n) (now (out .entry)) ⌝ }
+    ensures { λ r. ⌜ Puts (decimalOf n) (now (out .entry)) r (now (out .exit)) ⌝ }
     ensures { λ r. ⌜ r ≤ 20 ⌝ }
 {
     let mut digits = [0u8; 20];
@@ -48,8 +47,7 @@ pub fn put_decimal(n: u64, out: &mut [u8]) -> usize
 // Puts what stands before the answer to line number n at the start of out: n and a tab.
 pub fn put_head(n: u64, out: &mut [u8]) -> usize
     requires { ⌜ 21 ≤ length (now out) ⌝ }
-    ensures { λ r. ⌜ r ≡ length (headOf n) ⌝ }
-    ensures { λ _. ⌜ now (out .exit) ≡ onto (headOf n) (now (out .entry)) ⌝ }
+    ensures { λ r. ⌜ Puts (headOf n) (now (out .entry)) r (now (out .exit)) ⌝ }
     ensures { λ r. ⌜ r ≤ 21 ⌝ }
 {
     let digits = put_decimal(n, out);
@@ -58,10 +56,9 @@ pub fn put_head(n: u64, out: &mut [u8]) -> usize
 }
 
 // Puts X, the answer to a line that asks for nothing, at the start of out, and answers its length.
-pub fn put_other(out: &mut [u8]) -> usize
+pub fn put_malformed(out: &mut [u8]) -> usize
     requires { ⌜ 1 ≤ length (now out) ⌝ }
-    ensures { λ r. ⌜ r ≡ length other ⌝ }
-    ensures { λ _. ⌜ now (out .exit) ≡ onto other (now (out .entry)) ⌝ }
+    ensures { λ r. ⌜ Puts malformed (now (out .entry)) r (now (out .exit)) ⌝ }
 {
     bytes::copy(b"X", out)
 }

@@ -31,7 +31,7 @@ use Rattle.vector_types.proofs.Views.{view-facts}
 use Rattle.vector_types.proofs.Strict.{strict-plain}
 use Rattle.vector_types.proofs.Written.{writable, written-blob}
 use Rattle.lines.specs.Fields.{one, two, other}
-use Rattle.lines.proofs.Fields.{after, spelled-tab, one-field, two-fields}
+use Rattle.lines.proofs.Fields.{after, from-hex-tab, one-field, two-fields}
 use Rattle.probe_blobs.specs.Blobs.{readerOf, shownText, readText, kindOf, madeText, writtenBy, writeText, newBody, convertedText, convertedBy, convText}
 use Rattle.probe_blobs.specs.declared.Reader.{Reader}
 use Rattle.probe_blobs.specs.declared.Reader.the-variants.{Plain, Strict}
@@ -87,10 +87,10 @@ module _ (t : VectorType) (scratch made : List ℕ) (v : View) where
 -- ---- H is the last field
 pub last-read : (reader : Reader) (s : List ℕ) → one (readText reader) (fieldsOf s) ≡ readText reader s
 unfolding readText
-last-read reader s = one-field (readText reader) s (spelled-tab (shownText reader) s)
+last-read reader s = one-field (readText reader) s (from-hex-tab (shownText reader) s)
 
 written-tab : (kind : Kind) (number : Found) (s : List ℕ) → indexOf tab s < length s → writtenBy kind number s ≡ other
-written-tab (Known k) (Number d) s less = spelled-tab (madeText k d) s less
+written-tab (Known k) (Number d) s less = from-hex-tab (madeText k d) s less
 written-tab (Known k) Nothing s less = refl
 written-tab Unknown number s less = refl
 
@@ -100,7 +100,7 @@ unfolding writeText
 write-fields kind s stop e less = two-fields (writeText kind) s stop e less (written-tab (kindOf kind) (numeralOf 10 (take stop s)))
 
 converted-tab : (kind : Kind) (s : List ℕ) → indexOf tab s < length s → convertedBy kind s ≡ other
-converted-tab (Known t) s less = spelled-tab (convertedText t) s less
+converted-tab (Known t) s less = from-hex-tab (convertedText t) s less
 converted-tab Unknown s less = refl
 
 pub conv-fields : (s : List ℕ) (end : ℕ) → end ≡ indexOf tab s → end < length s

@@ -2,7 +2,7 @@
 ghost use mathlib.Core.Path.{_≡_};
 ghost use Prim.Native.Nat.{_*_, _≤_};
 ghost use lib.ListN.{length, take};
-ghost use Rattle.promises.specs.Onto.{onto};
+ghost use Rattle.promises.specs.Puts.{Puts};
 ghost use Rattle.lines.specs.Parts.{fieldsOf};
 ghost use Rattle.vector_types.specs.Layout.{maxBlobLength as longestBlob};
 ghost use Rattle.lines.specs.Fields.{two, three};
@@ -10,7 +10,7 @@ ghost use Rattle.probe_blobs.specs.Limits.{Puts, answerRoom, scratchRoom
 ghost use Rattle.probe_blobs.specs.Blobs.{refusalText, headerText, vectorText, readerOf, shownText, readText, kindOf, madeText, writtenBy, writeText, convertedText, convertedBy, convText};
 use convert::ConvertAnswer;
 use lines::hex::Found;
-use lines::text::put_other;
+use lines::text::put_malformed;
 use vector_types::Dims;
 use vector_types::ReadAnswer;
 use vector_types::VectorType;
@@ -40,12 +40,11 @@ fn put_refusal(number: u8, out: &mut [u8]) -> usize
     head + digits
 }
 
-// Puts what stands before a body at the start of out: a mark, the kind and the dims, parted by tabs.
+// Puts what stands before a body at the start of out: a mark, the kind and the dims, separated by tabs.
 fn put_header(mark: &[u8], kind: VectorType, dims: usize, out: &mut [u8]) -> usize
     requires { ⌜ length (now mark) ≡ 2 ⌝ }
     requires { ⌜ 44 ≤ length (now out) ⌝ }
-    ensures { λ r. ⌜ r ≡ length (headerText (now (mark .entry)) kind dims) ⌝ }
-    ensures { λ _. ⌜ now (out .exit) ≡ onto (headerText (now (mark .entry)) kind dims) (now (out .entry)) ⌝ }
+    ensures { λ r. ⌜ Puts (headerText (now (mark .entry)) kind dims) (now (out .entry)) r (now (out .exit)) ⌝ }
     ensures { λ r. ⌜ r ≤ 44 ⌝ }
 {
     let marked = bytes::copy(mark, out);
@@ -89,17 +88,17 @@ fn put_read(reader: Reader, blob: &[u8], out: &mut [u8]) -> usize
     }
 }
 
-// The answer to read|H or strict|H. The bytes that H spells are put into `spelled`.
-pub fn read_line(reader: Reader, field: &[u8], spelled: &mut [u8], out: &mut [u8]) -> usize
-    requires { ⌜ length (now field) ≤ 2 * length (now spelled) ⌝ }
+// The answer to read|H or strict|H. The bytes that H spells are put into `decoded`.
+pub fn read_line(reader: Reader, field: &[u8], decoded: &mut [u8], out: &mut [u8]) -> usize
+    requires { ⌜ length (now field) ≤ 2 * length (now decoded) ⌝ }
     requires { ⌜ answerRoom ≤ length (now out) ⌝ }
     ensures { λ r. ⌜ Puts (readText reader (now (field .entry))) (now (out .entry)) r (now (out .exit)) ⌝ }
 {
-    let count = lines::hex::bytes(field, spelled);
+    let count = lines::hex::bytes(field, decoded);
     if 2 * count != field.len() {
-        return put_other(out);
+        return put_malformed(out);
     }
-    put_read(reader, &spelled[..count], out)
+    put_read(reader, &decoded[..count], out)
 }
 
 fn kind_of(field: &[u8]) -> Kind
@@ -144,48 +143,48 @@ fn write_found(
     kind: Kind,
     number: Found,
     field: &[u8],
-    spelled: &mut [u8],
+    decoded: &mut [u8],
     made: &mut [u8],
     out: &mut [u8],
 ) -> usize
-    requires { ⌜ length (now field) ≤ 2 * length (now spelled) ⌝ }
+    requires { ⌜ length (now field) ≤ 2 * length (now decoded) ⌝ }
     requires { ⌜ length (now made) ≡ blobRoom ⌝ }
     requires { ⌜ answerRoom ≤ length (now out) ⌝ }
     ensures { λ r. ⌜ Puts (writtenBy kind number (now (field .entry))) (now (out .entry)) r (now (out .exit)) ⌝ }
 {
     let Kind::Known(named) = kind else {
-        return put_other(out);
+        return put_malformed(out);
     };
     let Found::Number(dims) = number else {
-        return put_other(out);
+        return put_malformed(out);
     };
-    let count = lines::hex::bytes(field, spelled);
+    let count = lines::hex::bytes(field, decoded);
     if 2 * count != field.len() {
-        return put_other(out);
+        return put_malformed(out);
     }
-    put_written(named, dims as usize, &spelled[..count], made, out)
+    put_written(named, dims as usize, &decoded[..count], made, out)
 }
 
 // The answer to write|K|N|H, of which this is K|N|H.
-pub fn write_line(rest: &[u8], spelled: &mut [u8], made: &mut [u8], out: &mut [u8]) -> usize
-    requires { ⌜ length (now rest) ≤ 2 * length (now spelled) ⌝ }
+pub fn write_line(rest: &[u8], decoded: &mut [u8], made: &mut [u8], out: &mut [u8]) -> usize
+    requires { ⌜ length (now rest) ≤ 2 * length (now decoded) ⌝ }
     requires { ⌜ length (now made) ≡ blobRoom ⌝ }
     requires { ⌜ answerRoom ≤ length (now out) ⌝ }
     ensures { λ r. ⌜ Puts (three writeText (fieldsOf (now (rest .entry)))) (now (out .entry)) r (now (out .exit)) ⌝ }
 {
     let end = lines::text::field_end(rest);
     if end == rest.len() {
-        return put_other(out);
+        return put_malformed(out);
     }
     let kind = kind_of(&rest[..end]);
     let more = &rest[end + 1..];
     let stop = lines::text::field_end(more);
     if stop == more.len() {
-        return put_other(out);
+        return put_malformed(out);
     }
     let number = lines::text::numeral(10, &more[..stop]);
     let field = &more[stop + 1..];
-    write_found(kind, number, field, spelled, made, out)
+    write_found(kind, number, field, decoded, made, out)
 }
 
 // Converts a blob to a kind, and puts what is made at the start of out.
@@ -211,36 +210,36 @@ fn put_converted(
 fn convert_found(
     kind: Kind,
     field: &[u8],
-    spelled: &mut [u8],
+    decoded: &mut [u8],
     scratch: &mut [u8],
     made: &mut [u8],
     out: &mut [u8],
 ) -> usize
-    requires { ⌜ length (now field) ≤ 2 * length (now spelled) ⌝ }
+    requires { ⌜ length (now field) ≤ 2 * length (now decoded) ⌝ }
     requires { ⌜ length (now scratch) ≡ scratchRoom ⌝ }
     requires { ⌜ length (now made) ≡ blobRoom ⌝ }
     requires { ⌜ answerRoom ≤ length (now out) ⌝ }
     ensures { λ r. ⌜ Puts (convertedBy kind (now (field .entry))) (now (out .entry)) r (now (out .exit)) ⌝ }
 {
     let Kind::Known(target) = kind else {
-        return put_other(out);
+        return put_malformed(out);
     };
-    let count = lines::hex::bytes(field, spelled);
+    let count = lines::hex::bytes(field, decoded);
     if 2 * count != field.len() {
-        return put_other(out);
+        return put_malformed(out);
     }
-    put_converted(target, &spelled[..count], scratch, made, out)
+    put_converted(target, &decoded[..count], scratch, made, out)
 }
 
 // The answer to conv|K|H, of which this is K|H.
 pub fn convert_line(
     rest: &[u8],
-    spelled: &mut [u8],
+    decoded: &mut [u8],
     scratch: &mut [u8],
     made: &mut [u8],
     out: &mut [u8],
 ) -> usize
-    requires { ⌜ length (now rest) ≤ 2 * length (now spelled) ⌝ }
+    requires { ⌜ length (now rest) ≤ 2 * length (now decoded) ⌝ }
     requires { ⌜ length (now scratch) ≡ scratchRoom ⌝ }
     requires { ⌜ length (now made) ≡ blobRoom ⌝ }
     requires { ⌜ answerRoom ≤ length (now out) ⌝ }
@@ -248,9 +247,9 @@ pub fn convert_line(
 {
     let end = lines::text::field_end(rest);
     if end == rest.len() {
-        return put_other(out);
+        return put_malformed(out);
     }
     let kind = kind_of(&rest[..end]);
     let field = &rest[end + 1..];
-    convert_found(kind, field, spelled, scratch, made, out)
+    convert_found(kind, field, decoded, scratch, made, out)
 }

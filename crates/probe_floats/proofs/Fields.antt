@@ -1,4 +1,4 @@
--- Laws of the answers about floats by their fields: the widths, and a last field that a tab in it makes X.
+-- Laws of the replies about floats by their fields: the widths, and a last field that a tab in it makes X.
 use mathlib.Core.Path.{_≡_}
 use mathlib.Core.List.{List}
 use Prim.Native.Nat.{ℕ, _<_, _≤_}
@@ -8,10 +8,10 @@ use Rattle.bytes.specs.Bytes.{indexOf}
 use Rattle.lines.specs.Text.{tab}
 use Rattle.lines.specs.Hex.{digitOf}
 use Rattle.lines.specs.Parts.{fieldsOf}
-use Rattle.lines.specs.Fields.{one, two, other}
+use Rattle.lines.specs.Fields.{exactly, malformed}
 use Rattle.lines.proofs.Digits.{pattern-none}
-use Rattle.lines.proofs.Fields.{after, one-field, two-fields, either}
-use Rattle.probe_floats.specs.Floats.{workOf, computedOf, ofWidth}
+use Rattle.lines.proofs.Fields.{afterField, fields-last, fields-last-two, cond-malformed}
+use Rattle.probe_floats.specs.Floats.{workOf, floatReply, rootReply}
 use Rattle.probe_floats.specs.declared.Work.{Work}
 use Rattle.probe_floats.specs.declared.Work.the-variants.{Root32, Root64, Narrow, Widen, Trunc}
 
@@ -29,17 +29,17 @@ wide Widen = record { takes = lit≤ tt; some = lit≤ tt; gives = lit≤ tt }
 wide Trunc = record { takes = lit≤ tt; some = lit≤ tt; gives = lit≤ tt }
 
 -- F is the last field
-tab-other : (w : Work) (s : List ℕ) → indexOf tab s < length s → computedOf w s ≡ other
-unfolding computedOf digitOf
-tab-other w s less = rw (pattern-none (workOf w .takes) tab s (lit≤ tt) less)
+tab-malformed : (w : Work) (s : List ℕ) → indexOf tab s < length s → floatReply w s ≡ malformed
+unfolding floatReply digitOf
+tab-malformed w s less = rw (pattern-none (workOf w .takes) tab s (lit≤ tt) less)
 
-pub last-computed : (w : Work) (s : List ℕ) → one (computedOf w) (fieldsOf s) ≡ computedOf w s
-last-computed w s = one-field (computedOf w) s (tab-other w s)
+pub float-last : (w : Work) (s : List ℕ) → exactly 1 (floatReply w) (fieldsOf s) ≡ floatReply w s
+float-last w s = fields-last (floatReply w) s (tab-malformed w s)
 
-width-other : (width s : List ℕ) → indexOf tab s < length s → ofWidth width s ≡ other
-unfolding ofWidth
-width-other width s less = rw (tab-other Root32 s less, tab-other Root64 s less, either, either)
+width-malformed : (width s : List ℕ) → indexOf tab s < length s → rootReply width s ≡ malformed
+unfolding rootReply
+width-malformed width s less = rw (tab-malformed Root32 s less, tab-malformed Root64 s less, cond-malformed, cond-malformed)
 
 pub root-fields : (s : List ℕ) (end : ℕ) → end ≡ indexOf tab s → end < length s
-    → ofWidth (take end s) (after end s) ≡ two ofWidth (fieldsOf s)
-root-fields s end e less = two-fields ofWidth s end e less (width-other (take end s))
+    → rootReply (take end s) (afterField end s) ≡ exactly 2 rootReply (fieldsOf s)
+root-fields s end e less = fields-last-two rootReply s end e less (width-malformed (take end s))

@@ -1,3 +1,3 @@
--- Laws of the answers about floats
+-- Laws of the replies about floats
 pub mod Fields
 pub mod Determined

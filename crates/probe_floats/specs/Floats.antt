@@ -1,6 +1,6 @@
--- The answers to lines about one float. With | for a tab the lines are
+-- The replies to lines about one float. With | for a tab the lines are
 --     root|W|F    narrow|F    widen|F    trunc|F
--- where W is 32 or 64 and F is a float's pattern in lower-case hexadecimal, the highest digit first. The answer is F|, and the
+-- where W is 32 or 64 and F is a float's pattern in lower-case hexadecimal, the highest digit first. The reply is F|, and the
 -- pattern of the result, or for trunc a number of two digits; it is X where W or F is none.
 use Prim.Native.Nat.{ℕ}
 use mathlib.Core.Bool.{cond}
@@ -12,7 +12,7 @@ use Rattle.rounding.specs.Narrow.{narrowed}
 use Rattle.rounding.specs.Truncate.{truncated}
 use Rattle.lines.specs.Text.{word, same}
 use Rattle.lines.specs.Hex.{patternOf}
-use Rattle.lines.specs.Fields.{other}
+use Rattle.lines.specs.Fields.{malformed}
 use Rattle.lines.specs.declared.hex.Found.{Found}
 use Rattle.lines.specs.declared.hex.Found.the-variants.{Number, Nothing}
 use Rattle.probe_floats.specs.declared.Work.{Work}
@@ -34,20 +34,20 @@ workOf Narrow = floatWork 16 8 (λ n. toBits binary32 (narrowed (ofBits binary64
 workOf Widen = floatWork 8 16 (λ n. toBits binary64 (ofBits binary32 n))
 workOf Trunc = floatWork 8 2 (λ n. truncated (ofBits binary32 n))
 
-abbrev pub floatOf : ℕ → ℕ → List ℕ
-floatOf width n = word "F\t" ++ digits 16 width n
+abbrev pub floatText : ℕ → ℕ → List ℕ
+floatText width n = word "F\t" ++ digits 16 width n
 
--- the answer of a row to what was found for F
-abbrev pub byFound : FloatWork → Found → List ℕ
-byFound r (Number n) = floatOf (r .gives) (r .result n)
-byFound r Nothing = other
+-- the reply of a row to what was found for F
+abbrev pub floatFoundText : FloatWork → Found → List ℕ
+floatFoundText r (Number n) = floatText (r .gives) (r .result n)
+floatFoundText r Nothing = malformed
 
-unfoldable pub computedOf : Work → List ℕ → List ℕ
-computedOf work field = byFound (workOf work) (patternOf (workOf work .takes) field)
+unfoldable pub floatReply : Work → List ℕ → List ℕ
+floatReply work field = floatFoundText (workOf work) (patternOf (workOf work .takes) field)
 
-unfoldable pub ofWidth : List ℕ → List ℕ → List ℕ
-unfolding computedOf
-ofWidth width field =
-    cond (same width (word "32")) (computedOf Root32 field)
-    (cond (same width (word "64")) (computedOf Root64 field)
-    other)
+unfoldable pub rootReply : List ℕ → List ℕ → List ℕ
+unfolding floatReply
+rootReply width field =
+    cond (same width (word "32")) (floatReply Root32 field)
+    (cond (same width (word "64")) (floatReply Root64 field)
+    malformed)

@@ -2,12 +2,12 @@
 ghost use mathlib.Core.Path.{_≡_};
 ghost use Prim.Native.Nat.{_≤_, _<_, _^_};
 ghost use lib.ListN.{length};
-ghost use Rattle.promises.specs.Onto.{onto};
+ghost use Rattle.promises.specs.Puts.{Puts};
 ghost use Rattle.lines.specs.Parts.{fieldsOf};
-ghost use Rattle.lines.specs.Fields.{two};
-ghost use Rattle.probe_floats.specs.Floats.{workOf, floatOf, computedOf, ofWidth};
+ghost use Rattle.lines.specs.Fields.{exactly};
+ghost use Rattle.probe_floats.specs.Floats.{workOf, floatText, floatReply, rootReply};
 use lines::hex::Found;
-use lines::text::put_other;
+use lines::text::put_malformed;
 
 // What is asked of a float's pattern.
 pub enum Work {
@@ -81,19 +81,17 @@ fn put_float(width: usize, n: u64, out: &mut [u8]) -> usize
     requires { ⌜ width ≤ 16 ⌝ }
     requires { ⌜ n < 16 ^ width ⌝ }
     requires { ⌜ 18 ≤ length (now out) ⌝ }
-    ensures { λ r. ⌜ r ≡ length (floatOf width n) ⌝ }
-    ensures { λ _. ⌜ now (out .exit) ≡ onto (floatOf width n) (now (out .entry)) ⌝ }
+    ensures { λ r. ⌜ Puts (floatText width n) (now (out .entry)) r (now (out .exit)) ⌝ }
 {
     let head = bytes::copy(b"F\t", out);
     let digits = lines::hex::put_hex(width, n, &mut out[head..]);
     head + digits
 }
 
-// The answer to narrow|F, widen|F or trunc|F, of which the work is found and this is F.
+// The reply to narrow|F, widen|F or trunc|F, of which the work is found and this is F.
 pub fn float_line(work: Work, field: &[u8], out: &mut [u8]) -> usize
     requires { ⌜ 18 ≤ length (now out) ⌝ }
-    ensures { λ r. ⌜ r ≡ length (computedOf work (now (field .entry))) ⌝ }
-    ensures { λ _. ⌜ now (out .exit) ≡ onto (computedOf work (now (field .entry))) (now (out .entry)) ⌝ }
+    ensures { λ r. ⌜ Puts (floatReply work (now (field .entry))) (now (out .entry)) r (now (out .exit)) ⌝ }
 {
     let w = widths(work);
     let found = lines::hex::pattern(w.takes, field);
@@ -102,19 +100,18 @@ pub fn float_line(work: Work, field: &[u8], out: &mut [u8]) -> usize
             let value = result(work, n);
             put_float(w.gives, value, out)
         }
-        Found::Nothing => put_other(out),
+        Found::Nothing => put_malformed(out),
     }
 }
 
-// The answer to root|W|F, of which this is W|F.
+// The reply to root|W|F, of which this is W|F.
 pub fn root_line(rest: &[u8], out: &mut [u8]) -> usize
     requires { ⌜ 18 ≤ length (now out) ⌝ }
-    ensures { λ r. ⌜ r ≡ length (two ofWidth (fieldsOf (now (rest .entry)))) ⌝ }
-    ensures { λ _. ⌜ now (out .exit) ≡ onto (two ofWidth (fieldsOf (now (rest .entry)))) (now (out .entry)) ⌝ }
+    ensures { λ r. ⌜ Puts (exactly 2 rootReply (fieldsOf (now (rest .entry)))) (now (out .entry)) r (now (out .exit)) ⌝ }
 {
     let end = lines::text::field_end(rest);
     if end == rest.len() {
-        return put_other(out);
+        return put_malformed(out);
     }
     let width = &rest[..end];
     let field = &rest[end + 1..];
@@ -124,5 +121,5 @@ pub fn root_line(rest: &[u8], out: &mut [u8]) -> usize
     if check::same(width, b"64") {
         return float_line(Work::Root64, field, out);
     }
-    put_other(out)
+    put_malformed(out)
 }

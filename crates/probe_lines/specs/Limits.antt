@@ -5,5 +5,5 @@ use Prim.Native.Nat.{ℕ}
 abbrev pub limit : ℕ
 limit = 1100000
 
-abbrev pub spelledRoom : ℕ
-spelledRoom = 550000
+abbrev pub decodedRoom : ℕ
+decodedRoom = 550000

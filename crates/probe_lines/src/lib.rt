@@ -2,12 +2,12 @@
 ghost use mathlib.Core.Path.{_≡_};
 ghost use Prim.Native.Nat.{_*_, _≤_};
 ghost use lib.ListN.{length};
-ghost use Rattle.promises.specs.Onto.{onto};
+ghost use Rattle.promises.specs.Puts.{Puts};
 ghost use Rattle.lines.specs.Parts.{fieldsOf};
 ghost use Rattle.probe_blobs.specs.Limits.{scratchRoom, blobRoom};
 ghost use Rattle.probe_lines.specs.Limits.{limit};
 ghost use Rattle.probe_lines.specs.Line.{vecprobeReply, answerTo, verbOf};
-use lines::text::put_other;
+use lines::text::put_malformed;
 use probe_blobs::Reader;
 use probe_floats::Work;
 
@@ -60,7 +60,7 @@ pub const LIMIT: usize = 1100000;
 
 // Room for the bytes that a line spells in hexadecimal, for the elements that a conversion goes
 // through, and for the longest blob.
-pub const SPELLED: usize = LIMIT / 2;
+pub const DECODED: usize = LIMIT / 2;
 
 pub const SCRATCH: usize = 4 * vector_types::MAX_DIMS;
 
@@ -70,49 +70,47 @@ pub const BLOB: usize = vector_types::MAX_BLOB_LENGTH;
 fn answer_to(
     verb: Verb,
     rest: &[u8],
-    spelled: &mut [u8],
+    decoded: &mut [u8],
     scratch: &mut [u8],
     made: &mut [u8],
     out: &mut [u8],
 ) -> usize
-    requires { ⌜ length (now rest) ≤ 2 * length (now spelled) ⌝ }
+    requires { ⌜ length (now rest) ≤ 2 * length (now decoded) ⌝ }
     requires { ⌜ length (now scratch) ≡ scratchRoom ⌝ }
     requires { ⌜ length (now made) ≡ blobRoom ⌝ }
     requires { ⌜ limit ≤ length (now out) ⌝ }
-    ensures { λ r. ⌜ r ≡ length (answerTo verb (fieldsOf (now (rest .entry)))) ⌝ }
-    ensures { λ _. ⌜ now (out .exit) ≡ onto (answerTo verb (fieldsOf (now (rest .entry)))) (now (out .entry)) ⌝ }
+    ensures { λ r. ⌜ Puts (answerTo verb (fieldsOf (now (rest .entry)))) (now (out .entry)) r (now (out .exit)) ⌝ }
 {
     match verb {
         Verb::Root => probe_floats::root_line(rest, out),
         Verb::Float(work) => probe_floats::float_line(work, rest, out),
-        Verb::Read(reader) => probe_blobs::read_line(reader, rest, spelled, out),
-        Verb::Write => probe_blobs::write_line(rest, spelled, made, out),
-        Verb::Convert => probe_blobs::convert_line(rest, spelled, scratch, made, out),
-        Verb::Near => probe_near::near_line(rest, spelled, out),
-        Verb::Other => put_other(out),
+        Verb::Read(reader) => probe_blobs::read_line(reader, rest, decoded, out),
+        Verb::Write => probe_blobs::write_line(rest, decoded, made, out),
+        Verb::Convert => probe_blobs::convert_line(rest, decoded, scratch, made, out),
+        Verb::Near => probe_near::near_line(rest, decoded, out),
+        Verb::Other => put_malformed(out),
     }
 }
 
 // Puts the answer to a line at the start of out, and answers its length; the others are room to work in.
 pub fn answer(
     line: &[u8],
-    spelled: &mut [u8],
+    decoded: &mut [u8],
     scratch: &mut [u8],
     made: &mut [u8],
     out: &mut [u8],
 ) -> usize
-    requires { ⌜ length (now line) ≤ 2 * length (now spelled) ⌝ }
+    requires { ⌜ length (now line) ≤ 2 * length (now decoded) ⌝ }
     requires { ⌜ length (now scratch) ≡ scratchRoom ⌝ }
     requires { ⌜ length (now made) ≡ blobRoom ⌝ }
     requires { ⌜ limit ≤ length (now out) ⌝ }
-    ensures { λ r. ⌜ r ≡ length (vecprobeReply (now (line .entry))) ⌝ }
-    ensures { λ _. ⌜ now (out .exit) ≡ onto (vecprobeReply (now (line .entry))) (now (out .entry)) ⌝ }
+    ensures { λ r. ⌜ Puts (vecprobeReply (now (line .entry))) (now (out .entry)) r (now (out .exit)) ⌝ }
 {
     let end = lines::text::field_end(line);
     if end == line.len() {
-        return put_other(out);
+        return put_malformed(out);
     }
     let verb = verb_of(&line[..end]);
     let rest = &line[end + 1..];
-    answer_to(verb, rest, spelled, scratch, made, out)
+    answer_to(verb, rest, decoded, scratch, made, out)
 }

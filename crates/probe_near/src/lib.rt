@@ -2,12 +2,12 @@
 ghost use mathlib.Core.Path.{_≡_};
 ghost use Prim.Native.Nat.{_+_, _*_, _≤_};
 ghost use lib.ListN.{length, take};
-ghost use Rattle.promises.specs.Onto.{onto};
+ghost use Rattle.promises.specs.Puts.{Puts};
 ghost use Rattle.lines.specs.Parts.{fieldsOf};
 ghost use Rattle.lines.specs.Fields.{four};
 ghost use Rattle.probe_near.specs.Near.{nearerText, partsText, candidatesText, nearBy, nearText};
 use distance::Distance;
-use lines::text::put_other;
+use lines::text::put_malformed;
 use nearer::Among;
 use nearer::Candidate;
 use nearer::NearerAnswer;
@@ -19,8 +19,7 @@ use vecdist_lines::put_value;
 // Puts which candidate is nearer and its distance, or a refusal, at the start of out.
 fn put_nearer(answer: NearerAnswer, out: &mut [u8]) -> usize
     requires { ⌜ 32 ≤ length (now out) ⌝ }
-    ensures { λ r. ⌜ r ≡ length (nearerText answer) ⌝ }
-    ensures { λ _. ⌜ now (out .exit) ≡ onto (nearerText answer) (now (out .entry)) ⌝ }
+    ensures { λ r. ⌜ Puts (nearerText answer) (now (out .entry)) r (now (out .exit)) ⌝ }
 {
     match answer {
         NearerAnswer::Nearer(found) => {
@@ -45,8 +44,7 @@ fn put_blobs(distance: Distance, probe: usize, pair: usize, blobs: &[u8], out: &
     requires { ⌜ probe ≤ pair ⌝ }
     requires { ⌜ pair ≤ length (now blobs) ⌝ }
     requires { ⌜ 32 ≤ length (now out) ⌝ }
-    ensures { λ r. ⌜ r ≡ length (partsText distance probe pair (now (blobs .entry))) ⌝ }
-    ensures { λ _. ⌜ now (out .exit) ≡ onto (partsText distance probe pair (now (blobs .entry))) (now (out .entry)) ⌝ }
+    ensures { λ r. ⌜ Puts (partsText distance probe pair (now (blobs .entry))) (now (out .entry)) r (now (out .exit)) ⌝ }
 {
     let both = &blobs[..pair];
     put_nearer(
@@ -55,86 +53,83 @@ fn put_blobs(distance: Distance, probe: usize, pair: usize, blobs: &[u8], out: &
     )
 }
 
-// The answer to near|D|P|A|B, of which D is found, the first `probe` bytes of `spelled` are those that P
+// The answer to near|D|P|A|B, of which D is found, the first `probe` bytes of `decoded` are those that P
 // spells, and these are A and B. The bytes that they spell are put after those, one after the other.
 fn near_candidates(
     distance: Distance,
     probe: usize,
     first: &[u8],
     second: &[u8],
-    spelled: &mut [u8],
+    decoded: &mut [u8],
     out: &mut [u8],
 ) -> usize
-    requires { ⌜ 2 * probe + (length (now first) + length (now second)) ≤ 2 * length (now spelled) ⌝ }
+    requires { ⌜ 2 * probe + (length (now first) + length (now second)) ≤ 2 * length (now decoded) ⌝ }
     requires { ⌜ 32 ≤ length (now out) ⌝ }
-    ensures { λ r. ⌜ r ≡ length (candidatesText distance (take probe (now (spelled .entry))) (now (first .entry)) (now (second .entry))) ⌝ }
-    ensures { λ _. ⌜ now (out .exit) ≡ onto (candidatesText distance (take probe (now (spelled .entry))) (now (first .entry)) (now (second .entry))) (now (out .entry)) ⌝ }
+    ensures { λ r. ⌜ Puts (candidatesText distance (take probe (now (decoded .entry))) (now (first .entry)) (now (second .entry))) (now (out .entry)) r (now (out .exit)) ⌝ }
 {
-    let m = lines::hex::bytes(first, &mut spelled[probe..]);
+    let m = lines::hex::bytes(first, &mut decoded[probe..]);
     if 2 * m != first.len() {
-        return put_other(out);
+        return put_malformed(out);
     }
     let pair = probe + m;
-    let n = lines::hex::bytes(second, &mut spelled[pair..]);
+    let n = lines::hex::bytes(second, &mut decoded[pair..]);
     if 2 * n != second.len() {
-        return put_other(out);
+        return put_malformed(out);
     }
-    put_blobs(distance, probe, pair, &spelled[..pair + n], out)
+    put_blobs(distance, probe, pair, &decoded[..pair + n], out)
 }
 
 // The answer to near|D|P|A|B, of which D is found and these are P, A and B. The bytes that they spell
-// are put into `spelled`.
+// are put into `decoded`.
 fn near_fields(
     asked: Asked,
     probe: &[u8],
     first: &[u8],
     second: &[u8],
-    spelled: &mut [u8],
+    decoded: &mut [u8],
     out: &mut [u8],
 ) -> usize
-    requires { ⌜ length (now probe) + (length (now first) + length (now second)) ≤ 2 * length (now spelled) ⌝ }
+    requires { ⌜ length (now probe) + (length (now first) + length (now second)) ≤ 2 * length (now decoded) ⌝ }
     requires { ⌜ 32 ≤ length (now out) ⌝ }
-    ensures { λ r. ⌜ r ≡ length (nearBy asked (now (probe .entry)) (now (first .entry)) (now (second .entry))) ⌝ }
-    ensures { λ _. ⌜ now (out .exit) ≡ onto (nearBy asked (now (probe .entry)) (now (first .entry)) (now (second .entry))) (now (out .entry)) ⌝ }
+    ensures { λ r. ⌜ Puts (nearBy asked (now (probe .entry)) (now (first .entry)) (now (second .entry))) (now (out .entry)) r (now (out .exit)) ⌝ }
 {
     let Asked::Known(distance) = asked else {
-        return put_other(out);
+        return put_malformed(out);
     };
-    let count = lines::hex::bytes(probe, spelled);
+    let count = lines::hex::bytes(probe, decoded);
     if 2 * count != probe.len() {
-        return put_other(out);
+        return put_malformed(out);
     }
-    near_candidates(distance, count, first, second, spelled, out)
+    near_candidates(distance, count, first, second, decoded, out)
 }
 
 // The answer to near|D|P|A|B, of which this is D|P|A|B.
-pub fn near_line(rest: &[u8], spelled: &mut [u8], out: &mut [u8]) -> usize
-    requires { ⌜ length (now rest) ≤ 2 * length (now spelled) ⌝ }
+pub fn near_line(rest: &[u8], decoded: &mut [u8], out: &mut [u8]) -> usize
+    requires { ⌜ length (now rest) ≤ 2 * length (now decoded) ⌝ }
     requires { ⌜ 32 ≤ length (now out) ⌝ }
-    ensures { λ r. ⌜ r ≡ length (four nearText (fieldsOf (now (rest .entry)))) ⌝ }
-    ensures { λ _. ⌜ now (out .exit) ≡ onto (four nearText (fieldsOf (now (rest .entry)))) (now (out .entry)) ⌝ }
+    ensures { λ r. ⌜ Puts (four nearText (fieldsOf (now (rest .entry)))) (now (out .entry)) r (now (out .exit)) ⌝ }
 {
     let end = lines::text::field_end(rest);
     if end == rest.len() {
-        return put_other(out);
+        return put_malformed(out);
     }
     let asked = asked_of(&rest[..end]);
     let blobs = &rest[end + 1..];
     let stop = lines::text::field_end(blobs);
     if stop == blobs.len() {
-        return put_other(out);
+        return put_malformed(out);
     }
     let candidates = &blobs[stop + 1..];
     let middle = lines::text::field_end(candidates);
     if middle == candidates.len() {
-        return put_other(out);
+        return put_malformed(out);
     }
     near_fields(
         asked,
         &blobs[..stop],
         &candidates[..middle],
         &candidates[middle + 1..],
-        spelled,
+        decoded,
         out,
     )
 }

@@ -1,2 +1,3 @@
 -- Laws of what writers leave
 pub mod Onto
+pub mod Puts

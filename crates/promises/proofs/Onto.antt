@@ -25,7 +25,7 @@ onto-put w l o b n e p h =
     (rw length-append (omega arith), rw (p, ← e, drop-cons l n 0) (at ∙ simp (append-assoc, length-append, ← e, add-one)))
 
 -- what is written to the part after the first n bytes
-onto-part : (v w l : List ℕ) (n : ℕ) → length v ≡ n → take n (onto v l) ++ onto w (drop n (onto v l)) ≡ onto (v ++ w) l
+pub onto-part : (v w l : List ℕ) (n : ℕ) → length v ≡ n → take n (onto v l) ++ onto w (drop n (onto v l)) ≡ onto (v ++ w) l
 onto-part v w l n e =
     rw (take-at v (drop (length v) l) n e, drop-at v (drop (length v) l) n e, drop-drop (length w) (length v) l, length-append v w, append-assoc)
 
@@ -43,7 +43,7 @@ pub tail-onto : (a : ℕ) (l ys w : List ℕ) → ys ≡ onto w (take (length l 
 tail-onto a l ys w e = tail-back a l ys ∙ rw (e, tail-lent a l)
 
 -- a text w written to the first k bytes, of which the others then follow
-onto-front : (w l : List ℕ) (k : ℕ) → length w ≤ k → k ≤ length l → onto w (take k l) ++ drop k l ≡ onto w l
+pub onto-front : (w l : List ℕ) (k : ℕ) → length w ≤ k → k ≤ length l → onto w (take k l) ++ drop k l ≡ onto w l
 onto-front w l k h fits =
     let e = drop-append-le (length w) (take k l) (drop k l) (omega (arith, length-take-le k l fits)) in
     append-assoc w (drop (length w) (take k l)) (drop k l) ∙ rw (← e, take-append-drop)

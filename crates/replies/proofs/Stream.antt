@@ -3,7 +3,7 @@ use mathlib.Core.Path.{_≡_}
 use mathlib.Core.List.{List, _++_}
 use Prim.Native.Nat.{ℕ}
 use lib.Dec.{lit<}
-use Rattle.lines.specs.Served.{Serving, lastSaid}
+use Rattle.lines.specs.inner.Served.{Serving, lastSaid}
 use Rattle.lines.specs.declared.stream.Held.{Held}
 use Rattle.lines.proofs.Standing.{said-whole}
 use Rattle.replies.specs.Program.{limitOf, programReply}

@@ -7,4 +7,4 @@ use Rattle.probe_blobs.specs.Limits.{scratchRoom, blobRoom}
 
 -- for the bytes that a line spells, for a conversion, and for what is made
 abbrev pub Rooms : List ℕ → List ℕ → List ℕ → List ℕ → Type 0
-Rooms line spelled scratch made = (length line ≤ 2 * length spelled) × (length scratch ≡ scratchRoom) × (length made ≡ blobRoom)
+Rooms line decoded scratch made = (length line ≤ 2 * length decoded) × (length scratch ≡ scratchRoom) × (length made ≡ blobRoom)

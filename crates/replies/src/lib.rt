@@ -8,7 +8,7 @@ pub use serving::serve;
 ghost use mathlib.Core.Path.{_≡_};
 ghost use Prim.Native.Nat.{_≤_};
 ghost use lib.ListN.{length};
-ghost use Rattle.promises.specs.Onto.{onto};
+ghost use Rattle.promises.specs.Puts.{Puts};
 ghost use Rattle.probe_lines.specs.Limits.{limit};
 ghost use Rattle.replies.specs.Rooms.{Rooms};
 ghost use Rattle.replies.specs.Program.{limitOf, programReply};
@@ -38,18 +38,17 @@ pub fn limit_of(program: Program) -> usize
 pub fn answer(
     program: Program,
     line: &[u8],
-    spelled: &mut [u8],
+    decoded: &mut [u8],
     scratch: &mut [u8],
     made: &mut [u8],
     out: &mut [u8],
 ) -> usize
-    requires { ⌜ Rooms (now line) (now spelled) (now scratch) (now made) ⌝ }
+    requires { ⌜ Rooms (now line) (now decoded) (now scratch) (now made) ⌝ }
     requires { ⌜ limit ≤ length (now out) ⌝ }
-    ensures { λ r. ⌜ r ≡ length (programReply program (now (line .entry))) ⌝ }
-    ensures { λ _. ⌜ now (out .exit) ≡ onto (programReply program (now (line .entry))) (now (out .entry)) ⌝ }
+    ensures { λ r. ⌜ Puts (programReply program (now (line .entry))) (now (out .entry)) r (now (out .exit)) ⌝ }
 {
     match program {
-        Program::Vecdist => vecdist_lines::answer(line, spelled, out),
-        Program::Vecprobe => probe_lines::answer(line, spelled, scratch, made, out),
+        Program::Vecdist => vecdist_lines::answer(line, decoded, out),
+        Program::Vecprobe => probe_lines::answer(line, decoded, scratch, made, out),
     }
 }

@@ -2,9 +2,9 @@
 ghost use mathlib.Core.Path.{_≡_};
 ghost use Prim.Native.Nat.{_+_, _≤_, _<_, _^_};
 ghost use lib.ListN.{length};
-ghost use Rattle.lines.specs.Output.{Stepped};
+ghost use Rattle.lines.specs.inner.Output.{Stepped};
 ghost use Rattle.probe_blobs.specs.Limits.{scratchRoom, blobRoom};
-ghost use Rattle.probe_lines.specs.Limits.{limit, spelledRoom};
+ghost use Rattle.probe_lines.specs.Limits.{limit, decodedRoom};
 ghost use Rattle.replies.specs.Rooms.{Rooms};
 ghost use Rattle.replies.specs.Program.{longest};
 use crate::LONGEST;
@@ -18,9 +18,9 @@ use lines::output::Step;
 use lines::output::make_room;
 use lines::stream::Held;
 use probe_lines::BLOB;
+use probe_lines::DECODED;
 use probe_lines::LIMIT;
 use probe_lines::SCRATCH;
-use probe_lines::SPELLED;
 
 // As many bytes of a line as are kept: a line of more is answered X.
 fn line_room() -> [u8; LIMIT]
@@ -30,10 +30,10 @@ fn line_room() -> [u8; LIMIT]
 }
 
 // Room to work in: for the bytes that a line spells, for a conversion, and for what is made.
-fn spelled_room() -> [u8; SPELLED]
-    ensures { λ r. ⌜ spelledRoom ≡ length r ⌝ }
+fn decoded_room() -> [u8; DECODED]
+    ensures { λ r. ⌜ decodedRoom ≡ length r ⌝ }
 {
-    [0; SPELLED]
+    [0; DECODED]
 }
 
 fn scratch_room() -> [u8; SCRATCH]
@@ -81,7 +81,7 @@ fn serve_from(
     at: usize,
     kept: &mut [u8],
     held: Held,
-    spelled: &mut [u8],
+    decoded: &mut [u8],
     scratch: &mut [u8],
     made: &mut [u8],
     out: &mut [u8],
@@ -89,7 +89,7 @@ fn serve_from(
 ) -> Step
     requires { ⌜ at < length (now chunk) ⌝ }
     requires { ⌜ held .count ≤ length (now kept) ⌝ }
-    requires { ⌜ Rooms (now kept) (now spelled) (now scratch) (now made) ⌝ }
+    requires { ⌜ Rooms (now kept) (now decoded) (now scratch) (now made) ⌝ }
     requires { ⌜ held .before + 1 < 2 ^ 64 ⌝ }
     requires { ⌜ start + longest ≤ length (now out) ⌝ }
     ensures { λ r. ⌜ Stepped (length (now (chunk .entry))) at (length (now (kept .entry))) held (length (now (out .entry))) r ⌝ }
@@ -100,7 +100,7 @@ fn serve_from(
         at,
         kept,
         held,
-        spelled,
+        decoded,
         scratch,
         made,
         &mut out[start..],
@@ -121,13 +121,13 @@ fn serve_chunk(
     chunk: &[u8],
     kept: &mut [u8],
     held: Held,
-    spelled: &mut [u8],
+    decoded: &mut [u8],
     scratch: &mut [u8],
     made: &mut [u8],
     out: &mut [u8],
 ) -> Done
     requires { ⌜ held .count ≤ length (now kept) ⌝ }
-    requires { ⌜ Rooms (now kept) (now spelled) (now scratch) (now made) ⌝ }
+    requires { ⌜ Rooms (now kept) (now decoded) (now scratch) (now made) ⌝ }
     requires { ⌜ held .before + length (now chunk) < 2 ^ 64 ⌝ }
     requires { ⌜ longest ≤ length (now out) ⌝ }
     ensures { λ r. ⌜ r .held .count ≤ length (now (kept .entry)) ⌝ }
@@ -150,7 +150,7 @@ fn serve_chunk(
             at,
             kept,
             line,
-            spelled,
+            decoded,
             scratch,
             made,
             out,
@@ -169,17 +169,17 @@ fn serve_end(
     program: Program,
     kept: &[u8],
     held: Held,
-    spelled: &mut [u8],
+    decoded: &mut [u8],
     scratch: &mut [u8],
     made: &mut [u8],
     out: &mut [u8],
 ) -> bool
     requires { ⌜ held .count ≤ length (now kept) ⌝ }
-    requires { ⌜ Rooms (now kept) (now spelled) (now scratch) (now made) ⌝ }
+    requires { ⌜ Rooms (now kept) (now decoded) (now scratch) (now made) ⌝ }
     requires { ⌜ held .before + 1 < 2 ^ 64 ⌝ }
     requires { ⌜ longest ≤ length (now out) ⌝ }
 {
-    let said = finish(program, kept, held, spelled, scratch, made, out);
+    let said = finish(program, kept, held, decoded, scratch, made, out);
     io::write_all(libc::STDOUT_FILENO, &out[..said])
 }
 
@@ -187,7 +187,7 @@ fn serve_end(
 pub fn run(program: Program) {
     let most = limit_of(program);
     let mut kept = line_room();
-    let mut spelled = spelled_room();
+    let mut decoded = decoded_room();
     let mut scratch = scratch_room();
     let mut made = blob_room();
     let mut out = reply_room();
@@ -211,7 +211,7 @@ pub fn run(program: Program) {
             &chunk[..n],
             &mut kept[..most],
             held,
-            &mut spelled,
+            &mut decoded,
             &mut scratch,
             &mut made,
             &mut out,
@@ -226,7 +226,7 @@ pub fn run(program: Program) {
         program,
         &kept[..most],
         held,
-        &mut spelled,
+        &mut decoded,
         &mut scratch,
         &mut made,
         &mut out,

@@ -4,9 +4,9 @@ ghost use Prim.Native.Nat.{_+_, _≤_, _<_, _^_};
 ghost use mathlib.Core.List.{[], _∷_, _++_};
 ghost use lib.ListN.{length, drop};
 ghost use Rattle.lines.specs.Text.{newline};
-ghost use Rattle.promises.specs.Onto.{onto};
-ghost use Rattle.lines.specs.Stream.{keptWith, pieceOf};
-ghost use Rattle.lines.specs.Served.{heldAnswer, heldReply, saidOf, servedOf, lastSaid};
+ghost use Rattle.promises.specs.Puts.{Puts};
+ghost use Rattle.lines.specs.inner.Stream.{keptWith, pieceOf};
+ghost use Rattle.lines.specs.inner.Served.{heldAnswer, heldReply, saidOf, servedOf, lastSaid};
 ghost use Rattle.probe_lines.specs.Limits.{limit};
 ghost use Rattle.replies.specs.Rooms.{Rooms};
 ghost use Rattle.replies.specs.Program.{longest, programReply};
@@ -14,29 +14,28 @@ use crate::Program;
 use crate::answer;
 use lines::stream::Held;
 use lines::stream::Served;
-use lines::text::put_other;
+use lines::text::put_malformed;
 
 // The answer to the line of which this is kept.
 fn answer_held(
     program: Program,
     kept: &[u8],
     held: Held,
-    spelled: &mut [u8],
+    decoded: &mut [u8],
     scratch: &mut [u8],
     made: &mut [u8],
     out: &mut [u8],
 ) -> usize
     requires { ⌜ held .count ≤ length (now kept) ⌝ }
-    requires { ⌜ Rooms (now kept) (now spelled) (now scratch) (now made) ⌝ }
+    requires { ⌜ Rooms (now kept) (now decoded) (now scratch) (now made) ⌝ }
     requires { ⌜ limit ≤ length (now out) ⌝ }
-    ensures { λ r. ⌜ r ≡ length (heldAnswer (programReply program) (now (kept .entry)) held) ⌝ }
-    ensures { λ _. ⌜ now (out .exit) ≡ onto (heldAnswer (programReply program) (now (kept .entry)) held) (now (out .entry)) ⌝ }
+    ensures { λ r. ⌜ Puts (heldAnswer (programReply program) (now (kept .entry)) held) (now (out .entry)) r (now (out .exit)) ⌝ }
 {
     if held.long {
-        return put_other(out);
+        return put_malformed(out);
     }
     let count = held.count;
-    answer(program, &kept[..count], spelled, scratch, made, out)
+    answer(program, &kept[..count], decoded, scratch, made, out)
 }
 
 // The answer to the line of which this is kept, and a newline.
@@ -44,23 +43,22 @@ fn put_line(
     program: Program,
     kept: &[u8],
     held: Held,
-    spelled: &mut [u8],
+    decoded: &mut [u8],
     scratch: &mut [u8],
     made: &mut [u8],
     out: &mut [u8],
 ) -> usize
     requires { ⌜ held .count ≤ length (now kept) ⌝ }
-    requires { ⌜ Rooms (now kept) (now spelled) (now scratch) (now made) ⌝ }
+    requires { ⌜ Rooms (now kept) (now decoded) (now scratch) (now made) ⌝ }
     requires { ⌜ limit < length (now out) ⌝ }
-    ensures { λ r. ⌜ r ≡ length (heldAnswer (programReply program) (now (kept .entry)) held ++ (newline ∷ [])) ⌝ }
-    ensures { λ _. ⌜ now (out .exit) ≡ onto (heldAnswer (programReply program) (now (kept .entry)) held ++ (newline ∷ [])) (now (out .entry)) ⌝ }
+    ensures { λ r. ⌜ Puts (heldAnswer (programReply program) (now (kept .entry)) held ++ (newline ∷ [])) (now (out .entry)) r (now (out .exit)) ⌝ }
 {
     let room = out.len() - 1;
     let said = answer_held(
         program,
         kept,
         held,
-        spelled,
+        decoded,
         scratch,
         made,
         &mut out[..room],
@@ -74,17 +72,16 @@ fn reply(
     program: Program,
     kept: &[u8],
     held: Held,
-    spelled: &mut [u8],
+    decoded: &mut [u8],
     scratch: &mut [u8],
     made: &mut [u8],
     out: &mut [u8],
 ) -> usize
     requires { ⌜ held .count ≤ length (now kept) ⌝ }
-    requires { ⌜ Rooms (now kept) (now spelled) (now scratch) (now made) ⌝ }
+    requires { ⌜ Rooms (now kept) (now decoded) (now scratch) (now made) ⌝ }
     requires { ⌜ held .before + 1 < 2 ^ 64 ⌝ }
     requires { ⌜ longest ≤ length (now out) ⌝ }
-    ensures { λ r. ⌜ r ≡ length (heldReply (programReply program) (now (kept .entry)) held) ⌝ }
-    ensures { λ _. ⌜ now (out .exit) ≡ onto (heldReply (programReply program) (now (kept .entry)) held) (now (out .entry)) ⌝ }
+    ensures { λ r. ⌜ Puts (heldReply (programReply program) (now (kept .entry)) held) (now (out .entry)) r (now (out .exit)) ⌝ }
 {
     let number = held.before + 1;
     let head = lines::text::put_head(number, out);
@@ -92,7 +89,7 @@ fn reply(
         program,
         kept,
         held,
-        spelled,
+        decoded,
         scratch,
         made,
         &mut out[head..],
@@ -108,14 +105,14 @@ pub fn serve(
     at: usize,
     kept: &mut [u8],
     held: Held,
-    spelled: &mut [u8],
+    decoded: &mut [u8],
     scratch: &mut [u8],
     made: &mut [u8],
     out: &mut [u8],
 ) -> Served
     requires { ⌜ at ≤ length (now chunk) ⌝ }
     requires { ⌜ held .count ≤ length (now kept) ⌝ }
-    requires { ⌜ Rooms (now kept) (now spelled) (now scratch) (now made) ⌝ }
+    requires { ⌜ Rooms (now kept) (now decoded) (now scratch) (now made) ⌝ }
     requires { ⌜ held .before + 1 < 2 ^ 64 ⌝ }
     requires { ⌜ longest ≤ length (now out) ⌝ }
     ensures { λ r. ⌜ r ≡ servedOf (programReply program) (now (kept .entry)) (drop at (now (chunk .entry))) at held ⌝ }
@@ -126,7 +123,7 @@ pub fn serve(
     let next = taken.at;
     let line = taken.held;
     if taken.ended {
-        let said = reply(program, kept, line, spelled, scratch, made, out);
+        let said = reply(program, kept, line, decoded, scratch, made, out);
         let fresh = lines::stream::next(line);
         return Served {
             held: fresh,
@@ -146,20 +143,19 @@ pub fn finish(
     program: Program,
     kept: &[u8],
     held: Held,
-    spelled: &mut [u8],
+    decoded: &mut [u8],
     scratch: &mut [u8],
     made: &mut [u8],
     out: &mut [u8],
 ) -> usize
     requires { ⌜ held .count ≤ length (now kept) ⌝ }
-    requires { ⌜ Rooms (now kept) (now spelled) (now scratch) (now made) ⌝ }
+    requires { ⌜ Rooms (now kept) (now decoded) (now scratch) (now made) ⌝ }
     requires { ⌜ held .before + 1 < 2 ^ 64 ⌝ }
     requires { ⌜ longest ≤ length (now out) ⌝ }
-    ensures { λ r. ⌜ r ≡ length (lastSaid (programReply program) (now (kept .entry)) held) ⌝ }
-    ensures { λ _. ⌜ now (out .exit) ≡ onto (lastSaid (programReply program) (now (kept .entry)) held) (now (out .entry)) ⌝ }
+    ensures { λ r. ⌜ Puts (lastSaid (programReply program) (now (kept .entry)) held) (now (out .entry)) r (now (out .exit)) ⌝ }
 {
     if held.count == 0 {
         return 0;
     }
-    reply(program, kept, held, spelled, scratch, made, out)
+    reply(program, kept, held, decoded, scratch, made, out)
 }

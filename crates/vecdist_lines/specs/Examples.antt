@@ -1,7 +1,6 @@
--- Lines with their answers, document 01's first: one table, and one statement about all of it, which antt computes.
-use mathlib.Core.Path.{_≡_, refl}
-use mathlib.Core.List.{List, [], _∷_, map}
-use Prim.Native.String.{String}
+-- Examples: lines with their replies, document 01's first: one table, and one statement about all of it, which antt computes.
+use mathlib.Core.Path.{refl}
+use mathlib.Core.List.{List, [], _∷_}
 use lib.Ieee.{add, sub, mul, div, neg, eq, lt, ofInt, ofBits, toBits}
 use Rattle.float_laws.specs.Running.{running, total}
 use Rattle.little_endian.specs.Bytes.{numberAt}
@@ -12,18 +11,12 @@ use Rattle.vector_types.specs.Read.{readOf, refusals, shown}
 use Rattle.vector_types.specs.Parts.{bodyOf}
 use Rattle.distance_sums.specs.Merged.{merged}
 use Rattle.distance.specs.Answer.{distanceOf}
-use Rattle.lines.specs.Text.{word, same}
+use Rattle.lines.specs.Text.{same}
 use Rattle.lines.specs.Hex.{digitOf, hexPair, hexBytes}
 use Rattle.lines.specs.Decimal.{decimalOf}
 use Rattle.lines.specs.Parts.{partsOf}
+use Rattle.lines.specs.Example.{Example, example, RepliesAs}
 use Rattle.vecdist_lines.specs.Line.{vecdistReply}
-
-pub record Example : Type 0 where
-  pub line : String
-  pub answer : String
-
-abbrev pub example : String → String → Example
-example l a = record { line = l; answer = a }
 
 abbrev pub table : List Example
 table =
@@ -53,7 +46,7 @@ table =
     ∷ example "cos\t07\t0g" "X"
     ∷ []
 
-pub table-holds : map (λ (e : Example). vecdistReply (word (e .line))) table ≡ map (λ (e : Example). word (e .answer)) table
+pub table-holds : RepliesAs vecdistReply table
 unfolding vecdistReply partsOf same digitOf hexPair hexBytes decimalOf toBits
     distanceOf readOf bodyOf namedKind byByte lengthBeforeType bodyFits refusals shown firstFrom numberAt layoutRow running total root merged add sub mul div neg eq lt ofInt ofBits
 table-holds = refl

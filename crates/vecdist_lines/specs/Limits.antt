@@ -1,6 +1,6 @@
--- How long a line may be.
+-- How long a line of vecdist may be.
 use Prim.Native.Nat.{ℕ}
 
 -- as many bytes as a line may have before its newline
-abbrev pub limit : ℕ
-limit = 32768
+abbrev pub vecdistLimit : ℕ
+vecdistLimit = 32768

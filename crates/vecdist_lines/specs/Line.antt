@@ -1,7 +1,7 @@
--- What vecdist answers to a line. With | for a tab, a line is
+-- What vecdist replies to a line. With | for a tab, a line is
 --     D|A|B
--- where D is cos, l2, dot or jac, and A and B are blobs in lower-case hexadecimal. The answer is D| and the pattern of the distance
--- in sixteen digits, or R|, the number of a refusal, and a, b or - for the blob that it is about. The answer to any other line is X.
+-- where D is cos, l2, dot or jac, and A and B are blobs in lower-case hexadecimal. The reply is D| and the pattern of the distance
+-- in sixteen digits, or R|, the number of a refusal, and a, b or - for the blob that it is about. The reply to any other line is X.
 use Prim.Native.Nat.{ℕ}
 use mathlib.Core.Bool.{cond}
 use mathlib.Core.List.{List, _++_}
@@ -10,8 +10,8 @@ use Rattle.io.specs.Digits.{digits}
 use Rattle.lines.specs.Text.{word, same}
 use Rattle.lines.specs.Printed.{headOf}
 use Rattle.lines.specs.Parts.{fieldsOf}
-use Rattle.lines.specs.Fields.{other, three, fromHex}
-use Rattle.distance.specs.Answer.{distanceOf}
+use Rattle.lines.specs.Fields.{malformed, exactly, fromHex}
+use Rattle.distance.specs.Answer.{distanceNumber, distanceOf}
 use Rattle.distance.specs.declared.Distance.the-variants.{Cos, L2, Dot, Jaccard}
 use Rattle.distance.specs.declared.Which.{Which}
 use Rattle.distance.specs.declared.Which.the-variants.{First, Second, Neither}
@@ -33,27 +33,27 @@ askedOf field =
 abbrev pub valueText : List ℕ → Float → List ℕ
 valueText mark x = mark ++ digits 16 16 (toBits binary64 x)
 
-abbrev pub refusalText : ℕ → List ℕ → List ℕ
-refusalText n name = word "R\t" ++ (headOf n ++ name)
+abbrev pub namedRefusalText : ℕ → List ℕ → List ℕ
+namedRefusalText n name = word "R\t" ++ (headOf n ++ name)
 
-abbrev pub nameOf : Which → List ℕ
-nameOf First = word "a"
-nameOf Second = word "b"
-nameOf Neither = word "-"
+abbrev pub whichName : Which → List ℕ
+whichName First = word "a"
+whichName Second = word "b"
+whichName Neither = word "-"
 
-unfoldable pub answerText : DistanceAnswer → List ℕ
-answerText (Measured x) = valueText (word "D\t") x
-answerText (Refused r w) = refusalText (r .number) (nameOf w)
+unfoldable pub distanceText : DistanceAnswer → List ℕ
+distanceText (Measured x) = valueText (word "D\t") x
+distanceText (Refused r w) = namedRefusalText (distanceNumber (Refused r w)) (whichName w)
 
--- the answer to the blobs that A and B spell, where D names a distance
-abbrev pub askedBy : Asked → List ℕ → List ℕ → List ℕ
-askedBy (Known m) first second = fromHex (λ a. fromHex (λ b. answerText (distanceOf m a b)) second) first
-askedBy Unknown first second = other
+-- the reply for the blobs that A and B are, where D names a distance
+abbrev pub distanceFoundReply : Asked → List ℕ → List ℕ → List ℕ
+distanceFoundReply (Known m) first second = fromHex (λ a. fromHex (λ b. distanceText (distanceOf m a b)) second) first
+distanceFoundReply Unknown first second = malformed
 
-unfoldable pub pairText : List ℕ → List ℕ → List ℕ → List ℕ
-unfolding askedOf answerText fromHex
-pairText field first second = askedBy (askedOf field) first second
+unfoldable pub distanceReply : List ℕ → List ℕ → List ℕ → List ℕ
+unfolding askedOf distanceText fromHex
+distanceReply field first second = distanceFoundReply (askedOf field) first second
 
 unfoldable pub vecdistReply : List ℕ → List ℕ
-unfolding three pairText
-vecdistReply line = three pairText (fieldsOf line)
+unfolding exactly distanceReply
+vecdistReply line = exactly 3 distanceReply (fieldsOf line)

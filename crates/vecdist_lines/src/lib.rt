@@ -1,13 +1,13 @@
-// What vecdist answers to a line.
+// What vecdist replies to a line.
 ghost use mathlib.Core.Path.{_≡_};
 ghost use Prim.Native.Nat.{_+_, _*_, _≤_};
 ghost use lib.ListN.{length};
-ghost use Rattle.promises.specs.Onto.{onto};
-ghost use Rattle.vecdist_lines.specs.Line.{askedOf, valueText, refusalText, answerText, askedBy, vecdistReply};
+ghost use Rattle.promises.specs.Puts.{Puts};
+ghost use Rattle.vecdist_lines.specs.Line.{askedOf, valueText, namedRefusalText, distanceText, distanceFoundReply, vecdistReply};
 use distance::Distance;
 use distance::DistanceAnswer;
 use distance::Which;
-use lines::text::put_other;
+use lines::text::put_malformed;
 
 // As many bytes as a line may have before its newline.
 pub const LIMIT: usize = 32768;
@@ -40,89 +40,84 @@ pub fn asked_of(field: &[u8]) -> Asked
 pub fn put_value(mark: &[u8], x: f64, out: &mut [u8]) -> usize
     requires { ⌜ length (now mark) ≤ 4 ⌝ }
     requires { ⌜ 32 ≤ length (now out) ⌝ }
-    ensures { λ r. ⌜ r ≡ length (valueText (now (mark .entry)) x) ⌝ }
-    ensures { λ _. ⌜ now (out .exit) ≡ onto (valueText (now (mark .entry)) x) (now (out .entry)) ⌝ }
+    ensures { λ r. ⌜ Puts (valueText (now (mark .entry)) x) (now (out .entry)) r (now (out .exit)) ⌝ }
 {
     let head = bytes::copy(mark, out);
     head + lines::hex::put_hex(16, little_endian::bits64(x), &mut out[head..])
 }
 
-// Puts R, the number of a refusal, and the name of the blob that it is about, parted by tabs.
-pub fn put_refusal(number: u8, name: &[u8], out: &mut [u8]) -> usize
+// Puts R, the number of a refusal, and the name of the blob that it is about, separated by tabs.
+pub fn put_named_refusal(number: u8, name: &[u8], out: &mut [u8]) -> usize
     requires { ⌜ length (now name) ≡ 1 ⌝ }
     requires { ⌜ 32 ≤ length (now out) ⌝ }
-    ensures { λ r. ⌜ r ≡ length (refusalText number (now (name .entry))) ⌝ }
-    ensures { λ _. ⌜ now (out .exit) ≡ onto (refusalText number (now (name .entry))) (now (out .entry)) ⌝ }
+    ensures { λ r. ⌜ Puts (namedRefusalText number (now (name .entry))) (now (out .entry)) r (now (out .exit)) ⌝ }
 {
     let head = bytes::copy(b"R\t", out);
-    let told = head + lines::text::put_head(number as u64, &mut out[head..]);
-    told + bytes::copy(name, &mut out[told..])
+    let end = head + lines::text::put_head(number as u64, &mut out[head..]);
+    end + bytes::copy(name, &mut out[end..])
 }
 
 // Puts an answer at the start of out.
 fn put_answer(answer: DistanceAnswer, out: &mut [u8]) -> usize
     requires { ⌜ 32 ≤ length (now out) ⌝ }
-    ensures { λ r. ⌜ r ≡ length (answerText answer) ⌝ }
-    ensures { λ _. ⌜ now (out .exit) ≡ onto (answerText answer) (now (out .entry)) ⌝ }
+    ensures { λ r. ⌜ Puts (distanceText answer) (now (out .entry)) r (now (out .exit)) ⌝ }
 {
     match answer {
         DistanceAnswer::Measured(x) => put_value(b"D\t", x, out),
         DistanceAnswer::Refused(refusal, which) => match which {
-            Which::First => put_refusal(refusal.number, b"a", out),
-            Which::Second => put_refusal(refusal.number, b"b", out),
-            Which::Neither => put_refusal(refusal.number, b"-", out),
+            Which::First => put_named_refusal(refusal.number, b"a", out),
+            Which::Second => put_named_refusal(refusal.number, b"b", out),
+            Which::Neither => put_named_refusal(refusal.number, b"-", out),
         },
     }
 }
 
-// The answer to D|A|B, of which D is found and these are A and B. The bytes that they spell are put
-// into `spelled`, one after the other.
-fn answer_pair(
+// The reply to D|A|B, of which D is found and these are A and B: they are decoded into `decoded`, one
+// after the other.
+fn answer_found(
     asked: Asked,
     first: &[u8],
     second: &[u8],
-    spelled: &mut [u8],
+    decoded: &mut [u8],
     out: &mut [u8],
 ) -> usize
-    requires { ⌜ length (now first) + length (now second) ≤ 2 * length (now spelled) ⌝ }
+    requires { ⌜ length (now first) + length (now second) ≤ 2 * length (now decoded) ⌝ }
     requires { ⌜ 32 ≤ length (now out) ⌝ }
-    ensures { λ r. ⌜ r ≡ length (askedBy asked (now (first .entry)) (now (second .entry))) ⌝ }
-    ensures { λ _. ⌜ now (out .exit) ≡ onto (askedBy asked (now (first .entry)) (now (second .entry))) (now (out .entry)) ⌝ }
+    ensures { λ r. ⌜ Puts (distanceFoundReply asked (now (first .entry)) (now (second .entry))) (now (out .entry)) r (now (out .exit)) ⌝ }
 {
     let Asked::Known(distance) = asked else {
-        return put_other(out);
+        return put_malformed(out);
     };
-    let m = lines::hex::bytes(first, spelled);
+    let m = lines::hex::bytes(first, decoded);
     if 2 * m != first.len() {
-        return put_other(out);
+        return put_malformed(out);
     }
-    let n = lines::hex::bytes(second, &mut spelled[m..]);
+    let n = lines::hex::bytes(second, &mut decoded[m..]);
     if 2 * n != second.len() {
-        return put_other(out);
+        return put_malformed(out);
     }
-    let blobs = &spelled[..m + n];
+    let blobs = &decoded[..m + n];
     put_answer(
         distance::vector_distance(distance, &blobs[..m], &blobs[m..]),
         out,
     )
 }
 
-// Puts the answer to a line at the start of out, and answers its length; `spelled` is room to work in.
-pub fn answer(line: &[u8], spelled: &mut [u8], out: &mut [u8]) -> usize
-    requires { ⌜ length (now line) ≤ 2 * length (now spelled) ⌝ }
+// Puts the reply to a line at the start of out, and answers its length; `decoded` is room to work in.
+pub fn answer(line: &[u8], decoded: &mut [u8], out: &mut [u8]) -> usize
+    requires { ⌜ length (now line) ≤ 2 * length (now decoded) ⌝ }
     requires { ⌜ 32 ≤ length (now out) ⌝ }
-    ensures { λ r. ⌜ r ≡ length (vecdistReply (now (line .entry))) ⌝ }
-    ensures { λ _. ⌜ now (out .exit) ≡ onto (vecdistReply (now (line .entry))) (now (out .entry)) ⌝ }
+    ensures { λ r. ⌜ Puts (vecdistReply (now (line .entry))) (now (out .entry)) r (now (out .exit)) ⌝ }
 {
     let end = lines::text::field_end(line);
     if end == line.len() {
-        return put_other(out);
+        return put_malformed(out);
     }
     let asked = asked_of(&line[..end]);
     let rest = &line[end + 1..];
     let stop = lines::text::field_end(rest);
     if stop == rest.len() {
-        return put_other(out);
+        return put_malformed(out);
     }
-    answer_pair(asked, &rest[..stop], &rest[stop + 1..], spelled, out)
+    answer_found(asked, &rest[..stop], &rest[stop + 1..], decoded, out)
 }

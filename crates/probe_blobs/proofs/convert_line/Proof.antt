@@ -19,7 +19,7 @@ returns c =
     let t = c .before .before .before .before in
     let rest = t .before .before .before .before .before .before .before .args .rest .now in
     let all : indexOf tab rest ≡ length rest = sym (t .before .field-end .ensures .0) ∙ t .if1 .taken in
-    same-text _ _ _ _ _ (sym (two-short convText rest all)) (c .before .before .put-other .ensures)
+    same-text _ _ _ _ _ (sym (two-short convText rest all)) (c .before .before .put-malformed .ensures)
 
 slice-aggregate-kind-of : tie.Need-slice-aggregate-kind-of
 slice-aggregate-kind-of c = sym (length-take-le _ _ (omega arith))

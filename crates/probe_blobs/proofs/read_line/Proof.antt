@@ -1,7 +1,7 @@
 -- `read_line` meets its contract: X, or what the reader shows of the bytes that the field spells.
 use mathlib.Core.Path.{sym}
 use lib.Seq.{length-take-le}
-use Rattle.lines.proofs.Fields.{same-text, spelled-part, spelled-all}
+use Rattle.lines.proofs.Fields.{same-text, from-hex-part, from-hex-put}
 use Rattle.probe_blobs.specs.Blobs.{shownText, readText}
 use borrow.Author.Needs.{needs}
 use native.Mathlib.Omega.{arith}
@@ -13,7 +13,7 @@ unfolding readText
 returns c =
     let a = c .before .before .before .before .before .before .before .before .before .before .before .before .args in
     let s = c .before .before .before .before .before .before .before .bytes in
-    same-text _ _ _ _ _ (spelled-part (shownText (a .reader)) (a .field .now) (s .result) (s .ensures .0) (c .before .before .before .before .if1 .taken)) (c .before .before .put-other .ensures)
+    same-text _ _ _ _ _ (from-hex-part (shownText (a .reader)) (a .field .now) (s .result) (s .ensures .0) (c .before .before .before .before .if1 .taken)) (c .before .before .put-malformed .ensures)
 
 slice-aggregate-put-read : tie.Need-slice-aggregate-put-read
 slice-aggregate-put-read c = sym (length-take-le _ _ (omega arith))
@@ -23,7 +23,7 @@ unfolding readText
 returns-2 c =
     let a = c .before .before .before .before .before .before .before .before .before .before .before .before .before .args in
     let s = c .before .before .before .before .before .before .before .before .bytes in
-    let e = spelled-all (shownText (a .reader)) (a .field .now) (s .result) (a .spelled .now) (s .last .1 .0) (s .ensures .0, s .ensures .1 .0) (c .before .before .before .before .before .if1 .left) in
+    let e = from-hex-put (shownText (a .reader)) (a .field .now) (s .result) (a .decoded .now) (s .last .1 .0) (s .ensures .0, s .ensures .1 .0) (c .before .before .before .before .before .if1 .left) in
     same-text _ _ _ _ _ e (c .before .before .put-read .ensures)
 
 pub read-line-spec : {M : Type 1} → statement M

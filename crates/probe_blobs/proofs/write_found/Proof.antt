@@ -2,7 +2,7 @@
 use mathlib.Core.Path.{_≡_, sym, _∙_}
 use lib.Seq.{length-take-le}
 use Rattle.lines.specs.Fields.{fromHex}
-use Rattle.lines.proofs.Fields.{same-text, spelled-part, spelled-all}
+use Rattle.lines.proofs.Fields.{same-text, from-hex-part, from-hex-put}
 use Rattle.probe_blobs.specs.Blobs.{madeText, writtenBy}
 use borrow.Author.Needs.{needs}
 use native.Mathlib.Omega.{arith}
@@ -10,10 +10,10 @@ use Rattle.probe_blobs.proofs.write_found.Statement.{statement}
 use Rattle.probe_blobs.proofs.write_found.Tie as tie
 
 returns : tie.Need-returns
-returns c = rw (c .before .before .before .before .enum-told .given .1) (c .before .before .put-other .ensures)
+returns c = rw (c .before .before .before .before .enum-told .given .1) (c .before .before .put-malformed .ensures)
 
 returns-2 : tie.Need-returns-2
-returns-2 c = rw (c .before .before .before .before .before .before .before .kind .given .1, c .before .before .before .before .enum-told2 .given .1) (c .before .before .put-other2 .ensures)
+returns-2 c = rw (c .before .before .before .before .before .before .before .kind .given .1, c .before .before .before .before .enum-told2 .given .1) (c .before .before .put-malformed2 .ensures)
 
 -- the answer where kind and number are known
 asked : (c : tie.After-number) → let a = c .before .before .before .before .before .before .before .before .before .args in
@@ -23,7 +23,7 @@ asked c = rw (c .before .before .before .kind .given .1, c .number .given .1)
 returns-3 : tie.Need-returns-3
 returns-3 c =
     let s = c .before .before .before .before .before .before .before .bytes in
-    same-text _ _ _ _ _ (spelled-part _ _ (s .result) (s .ensures .0) (c .before .before .before .before .if1 .taken) ∙ asked (c .before .before .before .before .before .before .before .before .before .before)) (c .before .before .put-other3 .ensures)
+    same-text _ _ _ _ _ (from-hex-part _ _ (s .result) (s .ensures .0) (c .before .before .before .before .if1 .taken) ∙ asked (c .before .before .before .before .before .before .before .before .before .before)) (c .before .before .put-malformed3 .ensures)
 
 slice-aggregate-put-written : tie.Need-slice-aggregate-put-written
 slice-aggregate-put-written c = sym (length-take-le _ _ (omega arith))
@@ -32,7 +32,7 @@ returns-4 : tie.Need-returns-4
 returns-4 c =
     let s = c .before .before .before .before .before .before .before .before .before .before .before .bytes in
     let a = c .before .before .before .before .before .before .before .before .before .before .before .before .before .before .before .before .before .before .before .before .before .before .before .args in
-    let e = spelled-all _ (a .field .now) (s .result) (a .spelled .now) (s .last .1 .0) (s .ensures .0, s .ensures .1 .0) (c .before .before .before .before .before .before .before .before .if1 .left) in
+    let e = from-hex-put _ (a .field .now) (s .result) (a .decoded .now) (s .last .1 .0) (s .ensures .0, s .ensures .1 .0) (c .before .before .before .before .before .before .before .before .if1 .left) in
     same-text _ _ _ _ _ (e ∙ asked (c .before .before .before .before .before .before .before .before .before .before .before .before .before .before)) (c .before .before .before .before .put-written .ensures)
 
 pub write-found-spec : {M : Type 1} → statement M

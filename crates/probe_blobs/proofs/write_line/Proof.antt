@@ -24,7 +24,7 @@ returns c =
     let t = c .before .before .before .before in
     let rest = t .before .before .before .before .before .before .args .rest .now in
     let all : indexOf tab rest ≡ length rest = sym (t .before .field-end .ensures .0) ∙ t .if1 .taken in
-    same-text _ _ _ _ _ (sym (three-short writeText rest all)) (c .before .before .put-other .ensures)
+    same-text _ _ _ _ _ (sym (three-short writeText rest all)) (c .before .before .put-malformed .ensures)
 
 slice-aggregate-kind-of : tie.Need-slice-aggregate-kind-of
 slice-aggregate-kind-of c = sym (length-take-le _ _ (omega arith))
@@ -48,7 +48,7 @@ returns-2 : tie.Need-returns-2
 returns-2 c =
     let here = c .before .before .before .before .before in
     let all : indexOf tab (more here) ≡ length (more here) = sym (here .field-end2 .ensures .0) ∙ c .before .before .before .before .if2 .taken in
-    same-text _ _ _ _ _ (sym (two-short (writeText (kind here)) (more here) all) ∙ by-more here) (c .before .before .put-other2 .ensures)
+    same-text _ _ _ _ _ (sym (two-short (writeText (kind here)) (more here) all) ∙ by-more here) (c .before .before .put-malformed2 .ensures)
 
 slice-aggregate-numeral : tie.Need-slice-aggregate-numeral
 slice-aggregate-numeral c = sym (length-take-le _ _ (omega arith))

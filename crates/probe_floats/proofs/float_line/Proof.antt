@@ -1,12 +1,12 @@
--- `float_line` meets its contract: the row's answer to the number that was found, or X.
+-- `float_line` meets its contract: the row's reply to the number that was found, or X.
 use mathlib.Core.Path.{_≡_, sym, ap, ap₂, _∙_}
 use Prim.Native.Nat.{ℕ}
 use native.Mathlib.Omega.{arith}
 use Rattle.lines.specs.Hex.{patternOf}
 use Rattle.lines.specs.declared.hex.Found.the-variants.{Number}
 use Rattle.lines.proofs.Digits.{pattern-below}
-use Rattle.lines.proofs.Fields.{same-text}
-use Rattle.probe_floats.specs.Floats.{workOf, floatOf, byFound, computedOf}
+use Rattle.promises.proofs.Puts.{puts-same}
+use Rattle.probe_floats.specs.Floats.{workOf, floatText, floatFoundText, floatReply}
 use Rattle.probe_floats.proofs.Fields.{wide}
 use borrow.Author.Needs.{needs}
 use Rattle.probe_floats.proofs.float_line.Statement.{statement}
@@ -34,23 +34,23 @@ put-float-requires c κs =
     (omega (arith, w .some, g), (omega (arith, w .gives, g), (rw g (c .before .result .ensures .1), omega arith)))
 
 returns : tie.Need-returns
-unfolding computedOf
+unfolding floatReply
 returns c =
     let d = c .before .before .before .before .before .before .before .before .before in
     let work = d .before .before .before .args .work in
     let found = read (c .before .before .before .before .before .before) in
     let value = c .before .before .before .before .result .ensures .0 in
-    let e = ap₂ floatOf (d .widths .ensures .1) value ∙ sym (ap (byFound (workOf work)) found) in
-    same-text _ _ _ _ _ e (c .before .before .put-float .ensures)
+    let e = ap₂ floatText (d .widths .ensures .1) value ∙ sym (ap (floatFoundText (workOf work)) found) in
+    puts-same e (c .before .before .put-float .ensures)
 
 returns-2 : tie.Need-returns-2
-unfolding computedOf
+unfolding floatReply
 returns-2 c =
     let told = c .before .before .before .before in
     let p = told .before .before in
     let work = p .before .before .before .before .args .work in
     let e = sym (asked p) ∙ told .enum-told .given .1 in
-    same-text _ _ _ _ _ (sym (ap (byFound (workOf work)) e)) (c .before .before .put-other .ensures)
+    puts-same (sym (ap (floatFoundText (workOf work)) e)) (c .before .before .put-malformed .ensures)
 
 pub float-line-spec : {M : Type 1} → statement M
 float-line-spec =

@@ -1,4 +1,4 @@
--- `root_line` meets its contract: the tests of W pick the case of `ofWidth`.
+-- `root_line` meets its contract: the tests of W pick the case of `rootReply`.
 use mathlib.Core.Path.{_≡_, sym, _∙_}
 use mathlib.Core.Bool.{false}
 use mathlib.Core.List.{List}
@@ -9,10 +9,11 @@ use lib.Seq.{length-take-le}
 use Rattle.bytes.specs.Bytes.{indexOf}
 use Rattle.lines.specs.Text.{word, same, tab}
 use Rattle.lines.specs.Parts.{fieldsOf}
-use Rattle.lines.proofs.Same.{tested}
-use Rattle.lines.specs.Fields.{two, other}
-use Rattle.lines.proofs.Fields.{two-short, same-text}
-use Rattle.probe_floats.specs.Floats.{computedOf, ofWidth}
+use Rattle.lines.proofs.Same.{same-tested}
+use Rattle.promises.proofs.Puts.{puts-same}
+use Rattle.lines.specs.Fields.{malformed, exactly}
+use Rattle.lines.proofs.Fields.{fields-few}
+use Rattle.probe_floats.specs.Floats.{floatReply, rootReply}
 use Rattle.probe_floats.specs.declared.Work.the-variants.{Root32, Root64}
 use Rattle.probe_floats.proofs.Fields.{root-fields}
 use borrow.Author.Needs.{needs}
@@ -24,7 +25,7 @@ returns c =
     let t = c .before .before .before .before in
     let rest = t .before .before .before .before .args .rest .now in
     let all : indexOf tab rest ≡ length rest = sym (t .before .field-end .ensures .0) ∙ t .if1 .taken in
-    same-text _ _ _ _ _ (sym (two-short ofWidth rest all)) (c .before .before .put-other .ensures)
+    puts-same (sym (fields-few 0 rootReply rest all)) (c .before .before .put-malformed .ensures)
 
 slice-aggregate-width : tie.Need-slice-aggregate-width
 slice-aggregate-width c = sym (length-take-le _ _ (omega arith))
@@ -48,36 +49,36 @@ width c = take (c .before .before .before .field-end .result) (rest c)
 abbrev field : tie.After-field → List ℕ
 field c = let from = c .before .before .before .field-end .result + 1 in take (length (rest c) - from) (drop from (rest c))
 
-by-width : (c : tie.After-field) (x : List ℕ) → x ≡ ofWidth (width c) (field c) → x ≡ two ofWidth (fieldsOf (rest c))
+by-width : (c : tie.After-field) (x : List ℕ) → x ≡ rootReply (width c) (field c) → x ≡ exactly 2 rootReply (fieldsOf (rest c))
 by-width c x e = e ∙ root-fields (rest c) _ (c .before .before .before .field-end .ensures .0) (omega arith)
 
 not-32 : (c : tie.Else2) → same (width (c .before .before .before)) (word "32") ≡ false
-not-32 c = tested _ _ _ (c .before .same .ensures) ∙ c .if2 .left
+not-32 c = same-tested _ _ _ (c .before .same .ensures) ∙ c .if2 .left
 
 returns-2 : tie.Need-returns-2
-unfolding ofWidth
+unfolding rootReply
 returns-2 c =
     let t = c .before .before .before .before in
     let here = t .before .before .before in
-    let is-32 = tested _ _ _ (t .before .same .ensures) ∙ t .if2 .taken in
-    same-text _ _ _ _ _ (by-width here (computedOf Root32 (field here)) (rw is-32)) (c .before .before .float-line .ensures)
+    let is-32 = same-tested _ _ _ (t .before .same .ensures) ∙ t .if2 .taken in
+    puts-same (by-width here (floatReply Root32 (field here)) (rw is-32)) (c .before .before .float-line .ensures)
 
 returns-3 : tie.Need-returns-3
-unfolding ofWidth
+unfolding rootReply
 returns-3 c =
     let t = c .before .before .before .before in
     let e = t .before .before .before in
     let here = e .before .before .before in
-    let is-64 = tested _ _ _ (t .before .same2 .ensures) ∙ t .if3 .taken in
-    same-text _ _ _ _ _ (by-width here (computedOf Root64 (field here)) (rw (not-32 e, is-64))) (c .before .before .float-line2 .ensures)
+    let is-64 = same-tested _ _ _ (t .before .same2 .ensures) ∙ t .if3 .taken in
+    puts-same (by-width here (floatReply Root64 (field here)) (rw (not-32 e, is-64))) (c .before .before .float-line2 .ensures)
 
 returns-4 : tie.Need-returns-4
-unfolding ofWidth
+unfolding rootReply
 returns-4 c =
     let t = c .before .before .before .before in
     let e = t .before .before .before in
-    let not-64 = tested _ _ _ (t .before .same2 .ensures) ∙ t .if3 .left in
-    same-text _ _ _ _ _ (by-width (e .before .before .before) other (rw (not-32 e, not-64))) (c .before .before .put-other2 .ensures)
+    let not-64 = same-tested _ _ _ (t .before .same2 .ensures) ∙ t .if3 .left in
+    puts-same (by-width (e .before .before .before) malformed (rw (not-32 e, not-64))) (c .before .before .put-malformed2 .ensures)
 
 pub root-line-spec : {M : Type 1} → statement M
 root-line-spec =

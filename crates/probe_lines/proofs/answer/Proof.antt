@@ -19,7 +19,7 @@ returns c =
     let t = c .before .before .before .before in
     let line = t .before .before .before .before .before .before .before .args .line .now in
     let all : indexOf tab line ≡ length line = sym (t .before .field-end .ensures .0) ∙ t .if1 .taken in
-    same-text _ _ _ _ _ (sym (answer-short line all)) (c .before .before .put-other .ensures)
+    same-text _ _ _ _ _ (sym (answer-short line all)) (c .before .before .put-malformed .ensures)
 
 slice-aggregate-verb-of : tie.Need-slice-aggregate-verb-of
 slice-aggregate-verb-of c = sym (length-take-le _ _ (omega arith))

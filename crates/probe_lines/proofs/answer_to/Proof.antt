@@ -66,7 +66,7 @@ unfolding answerTo
 returns-7 c =
     let told = c .before .before .before .before in
     let rest = told .before .before .before .before .before .before .before .args .rest .now in
-    same-text _ _ _ _ _ (by-verb Other rest (told .enum-told5 .given .1)) (c .before .before .put-other .ensures)
+    same-text _ _ _ _ _ (by-verb Other rest (told .enum-told5 .given .1)) (c .before .before .put-malformed .ensures)
 
 pub answer-to-spec : {M : Type 1} → statement M
 answer-to-spec =

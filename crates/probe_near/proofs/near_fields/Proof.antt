@@ -3,7 +3,7 @@ use mathlib.Core.Path.{_≡_, sym, ap, _∙_}
 use mathlib.Core.List.{List}
 use Prim.Native.Nat.{ℕ}
 use Rattle.lines.specs.Fields.{fromHex}
-use Rattle.lines.proofs.Fields.{same-text, spelled-part, spelled-all}
+use Rattle.lines.proofs.Fields.{same-text, from-hex-part, from-hex-put}
 use Rattle.vecdist_lines.specs.declared.Asked.{Asked}
 use Rattle.probe_near.specs.Near.{candidatesText, nearBy}
 use borrow.Author.Needs.{needs}
@@ -11,7 +11,7 @@ use Rattle.probe_near.proofs.near_fields.Statement.{statement}
 use Rattle.probe_near.proofs.near_fields.Tie as tie
 
 returns : tie.Need-returns
-returns c = rw (c .before .before .before .before .enum-told .given .1) (c .before .before .put-other .ensures)
+returns c = rw (c .before .before .before .before .enum-told .given .1) (c .before .before .put-malformed .ensures)
 
 -- the answer to a probe where the distance is known
 abbrev text : tie.After-asked → List ℕ → List ℕ
@@ -24,14 +24,14 @@ returns-2 : tie.Need-returns-2
 returns-2 c =
     let k = c .before .before .before .before .before .before .before .before .before .before in
     let s = c .before .before .before .before .before .before .before .bytes in
-    same-text _ _ _ _ _ (spelled-part (text k) _ (s .result) (s .ensures .0) (c .before .before .before .before .if1 .taken) ∙ known k) (c .before .before .put-other2 .ensures)
+    same-text _ _ _ _ _ (from-hex-part (text k) _ (s .result) (s .ensures .0) (c .before .before .before .before .if1 .taken) ∙ known k) (c .before .before .put-malformed2 .ensures)
 
 returns-3 : tie.Need-returns-3
 returns-3 c =
     let k = c .before .before .before .before .before .before .before .before .before .before .before .before .before in
     let s = c .before .before .before .before .before .before .before .before .before .before .bytes in
     let a = k .before .before .before .before .before .before .before .args in
-    let e = spelled-all (text k) (a .probe .now) (s .result) (a .spelled .now) (s .last .1 .0) (s .ensures .0, s .ensures .1 .0) (c .before .before .before .before .before .before .before .if1 .left) in
+    let e = from-hex-put (text k) (a .probe .now) (s .result) (a .decoded .now) (s .last .1 .0) (s .ensures .0, s .ensures .1 .0) (c .before .before .before .before .before .before .before .if1 .left) in
     same-text _ _ _ _ _ (e ∙ known k) (c .before .before .before .before .near-candidates .ensures)
 
 pub near-fields-spec : {M : Type 1} → statement M

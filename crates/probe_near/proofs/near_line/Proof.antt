@@ -10,7 +10,7 @@ use Rattle.bytes.specs.Bytes.{indexOf}
 use Rattle.lines.specs.Text.{tab}
 use Rattle.lines.specs.Parts.{fieldsOf}
 use Rattle.lines.specs.Fields.{two, three, four, other}
-use Rattle.lines.proofs.Fields.{same-text, after, two-short, two-fields, three-short, three-fields, four-short, four-fields, fields-within, spelled-tab, spelled-other}
+use Rattle.lines.proofs.Fields.{same-text, after, two-short, two-fields, three-short, three-fields, four-short, four-fields, fields-within, from-hex-tab, from-hex-malformed}
 use Rattle.vecdist_lines.specs.Line.{askedOf}
 use Rattle.vecdist_lines.specs.declared.Asked.{Asked}
 use Rattle.vecdist_lines.specs.declared.Asked.the-variants.{Known, Unknown}
@@ -21,7 +21,7 @@ use Rattle.probe_near.proofs.near_line.Tie as tie
 
 -- B is the last field
 tab-other : (asked : Asked) (probe first s : List ℕ) → indexOf tab s < length s → nearBy asked probe first s ≡ other
-tab-other (Known m) probe first s less = spelled-other _ probe (spelled-other _ first (spelled-tab _ s less))
+tab-other (Known m) probe first s less = from-hex-malformed _ probe (from-hex-malformed _ first (from-hex-tab _ s less))
 tab-other Unknown probe first s less = refl
 
 returns : tie.Need-returns
@@ -29,7 +29,7 @@ returns c =
     let t = c .before .before .before .before in
     let rest = t .before .before .before .before .before .args .rest .now in
     let all : indexOf tab rest ≡ length rest = sym (t .before .field-end .ensures .0) ∙ t .if1 .taken in
-    same-text _ _ _ _ _ (sym (four-short nearText rest all)) (c .before .before .put-other .ensures)
+    same-text _ _ _ _ _ (sym (four-short nearText rest all)) (c .before .before .put-malformed .ensures)
 
 -- D|P|A|B, D and P|A|B
 abbrev rest : tie.After-field-end2 → List ℕ
@@ -50,7 +50,7 @@ returns-2 : tie.Need-returns-2
 returns-2 c =
     let here = c .before .before .before .before .before in
     let all : indexOf tab (blobs here) ≡ length (blobs here) = sym (here .field-end2 .ensures .0) ∙ c .before .before .before .before .if2 .taken in
-    same-text _ _ _ _ _ (sym (three-short (nearText (field here)) (blobs here) all) ∙ by-blobs here) (c .before .before .put-other2 .ensures)
+    same-text _ _ _ _ _ (sym (three-short (nearText (field here)) (blobs here) all) ∙ by-blobs here) (c .before .before .put-malformed2 .ensures)
 
 -- P and A|B
 abbrev probe : tie.After-field-end3 → List ℕ
@@ -68,7 +68,7 @@ returns-3 : tie.Need-returns-3
 returns-3 c =
     let here = c .before .before .before .before .before in
     let all : indexOf tab (candidates here) ≡ length (candidates here) = sym (here .field-end3 .ensures .0) ∙ c .before .before .before .before .if3 .taken in
-    same-text _ _ _ _ _ (sym (two-short (nearText (field (here .before .before .before)) (probe here)) (candidates here) all) ∙ by-candidates here) (c .before .before .put-other3 .ensures)
+    same-text _ _ _ _ _ (sym (two-short (nearText (field (here .before .before .before)) (probe here)) (candidates here) all) ∙ by-candidates here) (c .before .before .put-malformed3 .ensures)
 
 -- P, A and B have room: of D|P|A|B, P|A|B and A|B each has fewer bytes than what it stands in
 within : (d blobs rest p candidates a b room : ℕ) → d + blobs < rest → p + candidates < blobs → a + b < candidates → rest ≤ room → p + (a + b) ≤ room

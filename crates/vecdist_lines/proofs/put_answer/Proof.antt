@@ -1,38 +1,38 @@
--- `put_answer` meets its contract: each arm puts its case of `answerText`.
+-- `put_answer` meets its contract: each arm puts its case of `distanceText`.
 use mathlib.Core.Path.{_≡_}
-use Rattle.lines.proofs.Fields.{same-text}
+use Rattle.promises.proofs.Puts.{puts-same}
 use Rattle.vector_types.specs.declared.Refusal.{Refusal}
 use Rattle.distance.specs.declared.Which.{Which}
 use Rattle.distance.specs.declared.DistanceAnswer.{DistanceAnswer}
 use Rattle.distance.specs.declared.DistanceAnswer.the-variants.{Refused}
-use Rattle.vecdist_lines.specs.Line.{refusalText, nameOf, answerText}
+use Rattle.vecdist_lines.specs.Line.{namedRefusalText, whichName, distanceText}
 use borrow.Author.Needs.{needs}
 use Rattle.vecdist_lines.proofs.put_answer.Statement.{statement}
 use Rattle.vecdist_lines.proofs.put_answer.Tie as tie
 
 returns : tie.Need-returns
-unfolding answerText
+unfolding distanceText
 returns c = rw (c .before .before .before .before .before .before .answer .given .1) (c .before .before .put-value .ensures)
 
 -- what is put of a refusal that is about the blob v
-refused : {x : DistanceAnswer} {r : Refusal} {w v : Which} → x ≡ Refused r w → w ≡ v → refusalText (r .number) (nameOf v) ≡ answerText x
-unfolding answerText
+refused : {x : DistanceAnswer} {r : Refusal} {w v : Which} → x ≡ Refused r w → w ≡ v → namedRefusalText (r .number) (whichName v) ≡ distanceText x
+unfolding distanceText
 refused e f = rw (e, f)
 
 returns-2 : tie.Need-returns-2
 returns-2 c =
-    let told = c .before .before .before .before .before in
-    same-text _ _ _ _ _ (refused (told .before .before .before .answer2 .given .1) (told .enum-told .given .1)) (c .before .before .put-refusal .ensures)
+    let arm = c .before .before .before .before .before in
+    puts-same (refused (arm .before .before .before .answer2 .given .1) (arm .enum-arm .given .1)) (c .before .before .put-named-refusal .ensures)
 
 returns-3 : tie.Need-returns-3
 returns-3 c =
-    let told = c .before .before .before .before .before in
-    same-text _ _ _ _ _ (refused (told .before .before .before .answer2 .given .1) (told .enum-told2 .given .1)) (c .before .before .put-refusal2 .ensures)
+    let arm = c .before .before .before .before .before in
+    puts-same (refused (arm .before .before .before .answer2 .given .1) (arm .enum-told2 .given .1)) (c .before .before .put-named-refusal2 .ensures)
 
 returns-4 : tie.Need-returns-4
 returns-4 c =
-    let told = c .before .before .before .before .before in
-    same-text _ _ _ _ _ (refused (told .before .before .before .answer2 .given .1) (told .enum-told3 .given .1)) (c .before .before .put-refusal3 .ensures)
+    let arm = c .before .before .before .before .before in
+    puts-same (refused (arm .before .before .before .answer2 .given .1) (arm .enum-told3 .given .1)) (c .before .before .put-named-refusal3 .ensures)
 
 pub put-answer-spec : {M : Type 1} → statement M
 put-answer-spec =

@@ -6,7 +6,7 @@ use borrow.Author.Needs.{needs}
 use lib.ListN.{length, drop}
 use Rattle.lines.specs.Hex.{hexBytes}
 use Rattle.lines.proofs.Writing.{Writing, write-none, write-next, write-all}
-use Rattle.lines.proofs.Pairs.{one-pair, no-pair, no-more-pairs, length-hexBytes}
+use Rattle.lines.proofs.Pairs.{hexBytes-pair, hexBytes-no-pair, hexBytes-end, length-hexBytes}
 use Rattle.lines.proofs.hex.bytes.Statement.{statement}
 use Rattle.lines.proofs.hex.bytes.Tie as tie
 
@@ -41,8 +41,8 @@ returns : tie.Need-returns Inv-loop μ-loop
 returns c =
     let l = c .before .before .before .before .before .loop in
     let s = c .before .before .before .before .before .before .before .before .args .s .now in
-    let p = write-all (l .inv) (no-pair s (l .i) (omega arith) (c .before .pair .ensures) (c .if1 .taken)) in
-    (p .0, (p .1, omega (arith, length-hexBytes s)))
+    let p = write-all (l .inv) (hexBytes-no-pair s (l .i) (omega arith) (c .before .pair .ensures) (c .if1 .taken)) in
+    (p, omega (arith, p .size, length-hexBytes s))
 
 cast-out : tie.Need-cast-out Inv-loop μ-loop
 cast-out c = omega arith
@@ -60,7 +60,7 @@ loop-again : tie.Need-loop-again Inv-loop μ-loop
 loop-again c =
     let l = c .before .before .before .before .before .loop in
     let s = c .before .before .before .before .before .before .before .before .args .s .now in
-    let next = one-pair s (l .i) (omega arith) (c .before .pair .ensures) (c .if1 .left) in
+    let next = hexBytes-pair s (l .i) (omega arith) (c .before .pair .ensures) (c .if1 .left) in
     write-next (l .inv) next (omega (arith, length-hexBytes s)) refl
 
 same-length-2 : tie.Need-same-length-2 Inv-loop μ-loop
@@ -70,8 +70,8 @@ returns-2 : tie.Need-returns-2 Inv-loop μ-loop
 returns-2 c =
     let l = c .before .loop in
     let s = c .before .before .before .before .args .s .now in
-    let p = write-all (l .inv) (no-more-pairs s (l .i) (c .loop-test .left)) in
-    (p .0, (p .1, omega (arith, length-hexBytes s)))
+    let p = write-all (l .inv) (hexBytes-end s (l .i) (c .loop-test .left)) in
+    (p, omega (arith, p .size, length-hexBytes s))
 
 pub bytes-spec : {M : Type 1} → statement M
 bytes-spec =

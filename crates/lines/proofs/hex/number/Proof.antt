@@ -5,7 +5,7 @@ use native.Mathlib.Omega.{arith}
 use native.Mathlib.Nat.{pow-zero, pow-le-pow-right}
 use lib.ListN.{length, drop}
 use Rattle.lines.specs.Hex.{numberFrom}
-use Rattle.lines.proofs.Digits.{one-digit, no-digit, no-more, one-more}
+use Rattle.lines.proofs.Digits.{number-digit, number-no-digit, number-end, digit-below}
 use Rattle.lines.proofs.hex.number.Statement.{statement}
 use Rattle.lines.proofs.hex.number.Tie as tie
 
@@ -28,13 +28,13 @@ returns : tie.Need-returns Inv-loop μ-loop
 returns c =
     let l = c .before .before .before .before .loop in
     let a = c .before .before .before .before .before .before .args in
-    sym (l .inv .1 ∙ no-digit (a .base) (l .n) (a .s .now) (l .i) (c .before .before .before .loop-test .taken) (c .before .digit .ensures) (c .if1 .taken))
+    sym (l .inv .1 ∙ number-no-digit (a .base) (l .n) (a .s .now) (l .i) (c .before .before .before .loop-test .taken) (c .before .digit .ensures) (c .if1 .taken))
 
 loop-again : tie.Need-loop-again Inv-loop μ-loop
 loop-again c =
     let l = c .before .before .before .before .loop in
     let a = c .before .before .before .before .before .before .args in
-    (one-more (a .base) (l .n) (c .before .digit .result) (l .i) (l .inv .0) (c .if1 .left), l .inv .1 ∙ one-digit (a .base) (l .n) (a .s .now) (l .i) (c .before .before .before .loop-test .taken) (c .before .digit .ensures) (c .if1 .left))
+    (digit-below (a .base) (l .n) (c .before .digit .result) (l .i) (l .inv .0) (c .if1 .left), l .inv .1 ∙ number-digit (a .base) (l .n) (a .s .now) (l .i) (c .before .before .before .loop-test .taken) (c .before .digit .ensures) (c .if1 .left))
 
 -- with one digit more it has room
 room : (c : tie.Else1 Inv-loop μ-loop) → c .before .before .before .before .loop .n * c .before .before .before .before .before .before .args .base + c .before .digit .result < 2 ^ 64
@@ -42,7 +42,7 @@ room c =
     let l = c .before .before .before .before .loop in
     let a = c .before .before .before .before .before .before .args in
     let most : a .base ^ (l .i + 1) ≤ a .base ^ length (a .s .now) = pow-le-pow-right (omega arith) (omega arith) in
-    omega (arith, one-more (a .base) (l .n) (c .before .digit .result) (l .i) (l .inv .0) (c .if1 .left))
+    omega (arith, digit-below (a .base) (l .n) (c .before .digit .result) (l .i) (l .inv .0) (c .if1 .left))
 
 mul-n : tie.Need-mul-n Inv-loop μ-loop
 mul-n c = omega (arith, room c)
@@ -60,7 +60,7 @@ returns-2 : tie.Need-returns-2 Inv-loop μ-loop
 returns-2 c =
     let l = c .before .loop in
     let a = c .before .before .before .args in
-    sym (l .inv .1 ∙ no-more (a .base) (l .n) (a .s .now) (l .i) (c .loop-test .left))
+    sym (l .inv .1 ∙ number-end (a .base) (l .n) (a .s .now) (l .i) (c .loop-test .left))
 
 pub number-spec : {M : Type 1} → statement M
 number-spec =

@@ -6,7 +6,7 @@ use borrow.Author.Needs.{needs}
 use lib.ListN.{length, drop, length-set}
 use Rattle.lines.specs.Hex.{hexOf}
 use Rattle.lines.proofs.Writing.{Writing, write-none, write-next, write-all}
-use Rattle.lines.proofs.Pairs.{one-put, no-more-put, length-hexOf}
+use Rattle.lines.proofs.Pairs.{hexOf-byte, hexOf-end, length-hexOf}
 use Rattle.lines.proofs.hex.put_bytes.Statement.{statement}
 use Rattle.lines.proofs.hex.put_bytes.Tie as tie
 
@@ -50,7 +50,7 @@ loop-again : tie.Need-loop-again Inv-loop μ-loop
 loop-again c =
     let l = c .before .before .before .before .loop in
     let a = c .before .before .before .before .before .before .before .args in
-    let next = one-put (a .s .now) (l .i) (c .before .before .before .loop-test .taken) in
+    let next = hexOf-byte (a .s .now) (l .i) (c .before .before .before .loop-test .taken) in
     let fits : length (hexOf (a .s .now)) ≤ length (a .out .now) = omega (arith, length-hexOf (a .s .now)) in
     write-next (write-next (l .inv) (rw (c .before .glyph .ensures, c .glyph2 .ensures) next) fits refl) refl fits (omega arith)
 
@@ -64,7 +64,7 @@ returns : tie.Need-returns Inv-loop μ-loop
 returns c =
     let l = c .before .loop in
     let s = c .before .before .before .before .args .s .now in
-    (sym (length-hexOf s), (write-all (l .inv) (no-more-put s (l .i) (c .loop-test .left)) .1, refl))
+    (record { size = sym (length-hexOf s); left = write-all (l .inv) (hexOf-end s (l .i) (c .loop-test .left)) .left }, refl)
 
 pub put-bytes-spec : {M : Type 1} → statement M
 put-bytes-spec =

@@ -5,8 +5,8 @@ use native.Mathlib.Omega.{arith}
 use borrow.Author.Needs.{needs}
 use lib.Dec.{lit<}
 use Rattle.io.specs.Digits.{digits}
-use Rattle.promises.proofs.Onto.{copied}
-use Rattle.lines.proofs.Spelled.{length-digits, fewest-most}
+use Rattle.promises.proofs.Puts.{puts-copy}
+use Rattle.lines.proofs.Decimal.{length-digits, fewest-most}
 use Rattle.lines.proofs.hex.put_hex.Statement.{statement}
 use Rattle.lines.proofs.hex.put_hex.Tie as tie
 
@@ -29,8 +29,8 @@ returns c =
     let h = c .before .before .before .before .before in
     let a = h .before .before .before .args in
     let e = h .hex .ensures .1 .1 ∙ ap (λ (k : ℕ). digits 16 k (a .n)) (wide h) in
-    let p = copied _ _ _ _ _ e (c .before .before .copy .ensures .0) (c .before .before .copy .ensures .1) in
-    (p .0 ∙ length-digits 16 (a .width) (a .n), p .1)
+    let p = puts-copy e (c .before .before .copy .ensures) in
+    (p, p .size ∙ length-digits 16 (a .width) (a .n))
 
 pub put-hex-spec : {M : Type 1} → statement M
 put-hex-spec =

@@ -5,7 +5,7 @@ use native.Mathlib.Omega.{arith}
 use lib.ListN.{drop}
 use Rattle.bytes.specs.Bytes.{indexOf}
 use Rattle.lines.specs.Text.{newline}
-use Rattle.lines.specs.Stream.{keptWith}
+use Rattle.lines.specs.inner.Stream.{keptWith}
 use Rattle.lines.proofs.Parting.{slice-from}
 use Rattle.lines.proofs.Pieces.{taken-ended, taken-open, piece-is}
 use borrow.Author.Needs.{needs}

@@ -4,8 +4,8 @@ use Prim.Native.Nat.{_≤_}
 use native.Mathlib.Omega.{arith}
 use borrow.Author.Needs.{needs}
 use lib.Dec.{lit<, lit≤}
-use Rattle.promises.proofs.Onto.{copied}
-use Rattle.lines.proofs.Spelled.{fewest-decimal, fewest-most}
+use Rattle.promises.proofs.Puts.{puts-copy}
+use Rattle.lines.proofs.Decimal.{fewest-decimal, fewest-most}
 use Rattle.lines.proofs.text.put_decimal.Statement.{statement}
 use Rattle.lines.proofs.text.put_decimal.Tie as tie
 
@@ -20,8 +20,7 @@ returns c =
     let h = c .before .before .before .before .before in
     let n = h .before .before .before .args .n in
     let e = h .decimal .ensures .1 .1 ∙ fewest-decimal n (h .decimal .result) (h .decimal .ensures .1 .0) in
-    let p = copied _ _ _ _ _ e (c .before .before .copy .ensures .0) (c .before .before .copy .ensures .1) in
-    (p .0, (p .1, omega (arith, few h, c .before .before .copy .ensures .0)))
+    (puts-copy e (c .before .before .copy .ensures), omega (arith, few h, c .before .before .copy .ensures .0))
 
 pub put-decimal-spec : {M : Type 1} → statement M
 put-decimal-spec =

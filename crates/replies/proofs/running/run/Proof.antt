@@ -7,18 +7,18 @@ use lib.ListN.{length, take}
 use lib.Seq.{length-take-le, length-front}
 use Rattle.lines.specs.declared.stream.Held.{Held}
 use Rattle.probe_blobs.specs.Limits.{scratchRoom, blobRoom}
-use Rattle.probe_lines.specs.Limits.{limit, spelledRoom}
+use Rattle.probe_lines.specs.Limits.{limit, decodedRoom}
 use borrow.Author.Needs.{needs}
 use Rattle.replies.proofs.running.run.Statement.{statement}
 use Rattle.replies.proofs.running.run.Tie as tie
 
 abbrev Inv-loop : tie.InvT-loop
-Inv-loop program most kept₀ spelled₀ scratch₀ made₀ out₀ chunk₀ held₀ left₀ kept spelled scratch made out chunk held left =
-    (length kept ≡ limit) × (length spelled ≡ spelledRoom) × (length scratch ≡ scratchRoom) × (length made ≡ blobRoom) × (length out ≡ 1200000) × (length chunk ≡ 65536)
+Inv-loop program most kept₀ decoded₀ scratch₀ made₀ out₀ chunk₀ held₀ left₀ kept decoded scratch made out chunk held left =
+    (length kept ≡ limit) × (length decoded ≡ decodedRoom) × (length scratch ≡ scratchRoom) × (length made ≡ blobRoom) × (length out ≡ 1200000) × (length chunk ≡ 65536)
     × (held .count ≤ most) × (held .before + left ≤ 0x8000_0000_0000_0000)
 
 abbrev μ-loop : tie.MeasureT-loop
-μ-loop program most kept₀ spelled₀ scratch₀ made₀ out₀ chunk₀ held₀ left₀ kept spelled scratch made out chunk held left = left
+μ-loop program most kept₀ decoded₀ scratch₀ made₀ out₀ chunk₀ held₀ left₀ kept decoded scratch made out chunk held left = left
 
 loop-holds : tie.Need-loop-holds Inv-loop μ-loop
 loop-holds c =

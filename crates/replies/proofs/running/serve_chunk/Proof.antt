@@ -10,12 +10,12 @@ use Rattle.replies.proofs.running.serve_chunk.Statement.{statement}
 use Rattle.replies.proofs.running.serve_chunk.Tie as tie
 
 abbrev Inv-loop : tie.InvT-loop
-Inv-loop program chunk kept₀ spelled₀ scratch₀ made₀ out₀ line₀ at₀ filled₀ kept spelled scratch made out line at filled =
+Inv-loop program chunk kept₀ decoded₀ scratch₀ made₀ out₀ line₀ at₀ filled₀ kept decoded scratch made out line at filled =
     (at ≤ length chunk) × (filled ≤ length out) × (line .count ≤ length kept) × (line .before ≤ line₀ .before + at)
-    × (length kept ≡ length kept₀) × (length spelled ≡ length spelled₀) × (length scratch ≡ length scratch₀) × (length made ≡ length made₀) × (length out ≡ length out₀)
+    × (length kept ≡ length kept₀) × (length decoded ≡ length decoded₀) × (length scratch ≡ length scratch₀) × (length made ≡ length made₀) × (length out ≡ length out₀)
 
 abbrev μ-loop : tie.MeasureT-loop
-μ-loop program chunk kept₀ spelled₀ scratch₀ made₀ out₀ line₀ at₀ filled₀ kept spelled scratch made out line at filled = length chunk - at
+μ-loop program chunk kept₀ decoded₀ scratch₀ made₀ out₀ line₀ at₀ filled₀ kept decoded scratch made out line at filled = length chunk - at
 
 -- there is room for a reply
 roomy : (c : tie.After-room Inv-loop μ-loop) → c .room .given .0 .0 + longest ≤ length (c .before .before .before .before .before .loop .out)

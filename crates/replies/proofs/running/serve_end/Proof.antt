@@ -4,7 +4,7 @@ use Prim.Native.Nat.{_≤_}
 use native.Mathlib.Omega.{arith}
 use lib.ListN.{length}
 use lib.Seq.{length-take-le}
-use Rattle.lines.specs.Served.{lastSaid}
+use Rattle.lines.specs.inner.Served.{lastSaid}
 use Rattle.promises.proofs.Onto.{onto-within}
 use Rattle.replies.specs.Program.{programReply}
 use borrow.Author.Needs.{needs}

@@ -2,7 +2,7 @@
 use Prim.Native.Nat.{_+_}
 use native.Mathlib.Omega.{arith}
 use lib.ListN.{length}
-use Rattle.lines.specs.Output.{Stepped}
+use Rattle.lines.specs.inner.Output.{Stepped}
 use Rattle.lines.specs.declared.output.Step.{Step}
 use Rattle.lines.proofs.Serving.{stepped}
 use Rattle.replies.specs.Program.{programReply}

@@ -7,7 +7,7 @@ use Rattle.replies.proofs.serving.answer_held.Statement.{statement}
 use Rattle.replies.proofs.serving.answer_held.Tie as tie
 
 returns : tie.Need-returns
-returns c = rw (c .before .before .before .before .if1 .taken) (c .before .before .put-other .ensures)
+returns c = rw (c .before .before .before .before .if1 .taken) (c .before .before .put-malformed .ensures)
 
 slice-aggregate-answer : tie.Need-slice-aggregate-answer
 slice-aggregate-answer c = sym (length-take-le _ _ (omega arith))

@@ -5,7 +5,7 @@ use native.Mathlib.Omega.{arith}
 use lib.ListN.{length}
 use lib.Seq.{length-take-le}
 use Rattle.lines.specs.Text.{newline}
-use Rattle.lines.specs.Served.{heldAnswer}
+use Rattle.lines.specs.inner.Served.{heldAnswer}
 use Rattle.promises.proofs.Onto.{Ended, onto-ended}
 use Rattle.replies.specs.Program.{programReply}
 use borrow.Author.Needs.{needs}

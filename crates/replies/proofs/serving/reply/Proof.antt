@@ -6,7 +6,7 @@ use native.Mathlib.Omega.{arith}
 use lib.ListN.{length, length-append}
 use Rattle.lines.specs.Text.{newline}
 use Rattle.lines.specs.Printed.{headOf, replyOf}
-use Rattle.lines.specs.Served.{heldAnswer}
+use Rattle.lines.specs.inner.Served.{heldAnswer}
 use Rattle.promises.proofs.Onto.{onto-then, tail-within}
 use Rattle.replies.specs.Program.{programReply}
 use borrow.Author.Needs.{needs}

@@ -7,7 +7,7 @@ use lib.Dec.{eqb}
 use lib.ListN.{length, take}
 use Rattle.lines.specs.Text.{word}
 use Rattle.lines.specs.Printed.{replyOf}
-use Rattle.lines.specs.Stream.{heldAt, takenOf, keptWith, pieceOf}
+use Rattle.lines.specs.inner.Stream.{heldAt, takenOf, keptWith, pieceOf}
 use Rattle.lines.specs.declared.stream.Held.{Held}
 use Rattle.lines.specs.declared.stream.Served.{Served}
 

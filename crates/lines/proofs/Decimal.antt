@@ -28,20 +28,20 @@ fewest-most b w n k m p le h f = elim (decLt m k) [ yes more ↦ absurd (over mo
         omega (arith, f .2 wide)
 
 -- with k more digits than one
-spelled : (k d n : ℕ) → k ≤ d → n < 10 ^ suc k → (0 < k → 10 ^ k ≤ n) → digits 10 (suc k) n ≡ decimalIn (suc d) n
+decimal-digits : (k d n : ℕ) → k ≤ d → n < 10 ^ suc k → (0 < k → 10 ^ k ≤ n) → digits 10 (suc k) n ≡ decimalIn (suc d) n
 unfolding decimalIn
-spelled zero d n le h f =
+decimal-digits zero d n le h f =
     let small : n < 10 = h in
     rw (mod-eq-of-lt small, lt-ltb n 10 small)
-spelled (suc k) zero n le h f = absurd (omega arith)
-spelled (suc k) (suc d) n le h f =
+decimal-digits (suc k) zero n le h f = absurd (omega arith)
+decimal-digits (suc k) (suc d) n le h f =
     let pos : 0 < 10 = lit< tt in
     let up : 10 ^ suc k ≤ n = f (omega arith) in
     let some : 1 ≤ suc k = omega arith in
     let ten : 10 ^ 1 ≤ 10 ^ suc k = pow-le-pow-right pos some in
     let big : 10 ≤ n = omega arith in
     let low : n / 10 < 10 ^ suc k = div-lt-iff-lt-mul pos .1 (rw (pow-suc 10 (suc k)) at h) in
-    rw (le-ltb n 10 big) (ap (λ (t : List ℕ). t ++ (glyph (n % 10) ∷ [])) (spelled k d (n / 10) (omega arith) low (λ p. le-div-iff-mul-le pos .1 (rw (pow-suc 10 k) at up))))
+    rw (le-ltb n 10 big) (ap (λ (t : List ℕ). t ++ (glyph (n % 10) ∷ [])) (decimal-digits k d (n / 10) (omega arith) low (λ p. le-div-iff-mul-le pos .1 (rw (pow-suc 10 k) at up))))
 
 below-pow : (k : ℕ) → k < 10 ^ k
 below-pow zero = lit< tt
@@ -53,7 +53,7 @@ fewest-decimal n zero f = absurd (omega arith)
 fewest-decimal n (suc k) f =
     let e : suc k - 1 ≡ k = omega arith in
     let least : (0 < k → 10 ^ k ≤ n) = λ p. rw e at (f .2 (omega arith)) in
-    spelled k n n (size k least) (f .1) least
+    decimal-digits k n n (size k least) (f .1) least
   where
     size : (j : ℕ) → (0 < j → 10 ^ j ≤ n) → j ≤ n
     size zero g = omega arith

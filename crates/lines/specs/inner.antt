@@ -1,0 +1,4 @@
+pub mod Stream
+pub mod Served
+pub mod Progress
+pub mod Output
