@@ -1,4 +1,0 @@
-pub mod Stream
-pub mod Served
-pub mod Progress
-pub mod Output

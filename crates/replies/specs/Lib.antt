@@ -1,4 +1,0 @@
-pub mod Program
-pub mod Rooms
-pub mod Printed
-pub mod Examples
