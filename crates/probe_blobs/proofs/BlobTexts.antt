@@ -1,4 +1,4 @@
--- Laws of the answers about blobs: what a view, a written blob and a converted one measure, and the fields of a line.
+-- Laws of the replies about blobs: what a view, a written blob and a converted one measure, and the fields of a line.
 use mathlib.Core.Path.{_≡_, refl, ap}
 use mathlib.Core.Bool.{Bool, true, false, cond, _&&_}
 use mathlib.Core.List.{List}
@@ -30,9 +30,9 @@ use Rattle.convert.specs.declared.ConvertAnswer.the-variants.{Converted, Refuse
 use Rattle.vector_types.proofs.Views.{view-facts}
 use Rattle.vector_types.proofs.Strict.{strict-plain}
 use Rattle.vector_types.proofs.Written.{writable, written-blob}
-use Rattle.lines.specs.Fields.{one, two, other}
-use Rattle.lines.proofs.Fields.{after, from-hex-tab, one-field, two-fields}
-use Rattle.probe_blobs.specs.Blobs.{readerOf, shownText, readText, kindOf, madeText, writtenBy, writeText, newBody, convertedText, convertedBy, convText}
+use Rattle.lines.specs.Fields.{exactly, malformed}
+use Rattle.lines.proofs.Fields.{afterField, from-hex-tab, fields-last, fields-last-two}
+use Rattle.probe_blobs.specs.Blobs.{readerOf, readBlobText, readReply, kindOf, writeBodyText, writeFoundReply, writeReply, convertedBody, convertBlobText, convertFoundReply, convertReply}
 use Rattle.probe_blobs.specs.declared.Reader.{Reader}
 use Rattle.probe_blobs.specs.declared.Reader.the-variants.{Plain, Strict}
 use Rattle.probe_blobs.specs.declared.Kind.{Kind}
@@ -75,35 +75,35 @@ module _ (t : VectorType) (scratch made : List ℕ) (v : View) where
       (omega (arith, ltb-false (length made) (length new) fits, size), rw e (take-at new (drop (length new) made) (v .length) size))
 
   made-in : (r : ReadAnswer) (body : List ℕ) → convertIn r body t (length scratch) (length made) ≡ Converted v
-      → (v .length ≤ length made) × (take (v .length) (outcomeIn r body t scratch made .out) ≡ newBody t r body)
+      → (v .length ≤ length made) × (take (v .length) (outcomeIn r body t scratch made .out) ≡ convertedBody t r body)
   made-in (Accepted w) body e = made-by (w .kind) (w .dims .0) body e
   made-in (Unread r) body e = let z = ap reach e in absurd (omega arith)
 
   pub converted-room : (s : List ℕ) → convertOf s t (length scratch) (length made) ≡ Converted v
-      → (v .length ≤ length made) × (take (v .length) (convertOutcome s t scratch made .out) ≡ newBody t (readOf s) (bodyOf s))
+      → (v .length ≤ length made) × (take (v .length) (convertOutcome s t scratch made .out) ≡ convertedBody t (readOf s) (bodyOf s))
   unfolding convertOf convertOutcome
   converted-room s e = made-in (readOf s) (bodyOf s) e
 
 -- ---- H is the last field
-pub last-read : (reader : Reader) (s : List ℕ) → one (readText reader) (fieldsOf s) ≡ readText reader s
-unfolding readText
-last-read reader s = one-field (readText reader) s (from-hex-tab (shownText reader) s)
+pub read-last : (reader : Reader) (s : List ℕ) → exactly 1 (readReply reader) (fieldsOf s) ≡ readReply reader s
+unfolding readReply
+read-last reader s = fields-last (readReply reader) s (from-hex-tab (readBlobText reader) s)
 
-written-tab : (kind : Kind) (number : Found) (s : List ℕ) → indexOf tab s < length s → writtenBy kind number s ≡ other
-written-tab (Known k) (Number d) s less = from-hex-tab (madeText k d) s less
-written-tab (Known k) Nothing s less = refl
-written-tab Unknown number s less = refl
+write-tab : (kind : Kind) (number : Found) (s : List ℕ) → indexOf tab s < length s → writeFoundReply kind number s ≡ malformed
+write-tab (Known k) (Number d) s less = from-hex-tab (writeBodyText k d) s less
+write-tab (Known k) Nothing s less = refl
+write-tab Unknown number s less = refl
 
 pub write-fields : (kind s : List ℕ) (stop : ℕ) → stop ≡ indexOf tab s → stop < length s
-    → writeText kind (take stop s) (after stop s) ≡ two (writeText kind) (fieldsOf s)
-unfolding writeText
-write-fields kind s stop e less = two-fields (writeText kind) s stop e less (written-tab (kindOf kind) (numeralOf 10 (take stop s)))
+    → writeReply kind (take stop s) (afterField stop s) ≡ exactly 2 (writeReply kind) (fieldsOf s)
+unfolding writeReply
+write-fields kind s stop e less = fields-last-two (writeReply kind) s stop e less (write-tab (kindOf kind) (numeralOf 10 (take stop s)))
 
-converted-tab : (kind : Kind) (s : List ℕ) → indexOf tab s < length s → convertedBy kind s ≡ other
-converted-tab (Known t) s less = from-hex-tab (convertedText t) s less
-converted-tab Unknown s less = refl
+convert-tab : (kind : Kind) (s : List ℕ) → indexOf tab s < length s → convertFoundReply kind s ≡ malformed
+convert-tab (Known t) s less = from-hex-tab (convertBlobText t) s less
+convert-tab Unknown s less = refl
 
-pub conv-fields : (s : List ℕ) (end : ℕ) → end ≡ indexOf tab s → end < length s
-    → convText (take end s) (after end s) ≡ two convText (fieldsOf s)
-unfolding convText
-conv-fields s end e less = two-fields convText s end e less (converted-tab (kindOf (take end s)))
+pub convert-fields : (s : List ℕ) (end : ℕ) → end ≡ indexOf tab s → end < length s
+    → convertReply (take end s) (afterField end s) ≡ exactly 2 convertReply (fieldsOf s)
+unfolding convertReply
+convert-fields s end e less = fields-last-two convertReply s end e less (convert-tab (kindOf (take end s)))

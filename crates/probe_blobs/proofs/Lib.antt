@@ -1,3 +1,3 @@
--- Laws of the answers about blobs
+-- Laws of the replies about blobs
 pub mod BlobTexts
 pub mod Determined

@@ -4,10 +4,10 @@ ghost use Prim.Native.Nat.{_*_, _≤_};
 ghost use lib.ListN.{length, take};
 ghost use Rattle.promises.specs.Puts.{Puts};
 ghost use Rattle.lines.specs.Parts.{fieldsOf};
-ghost use Rattle.vector_types.specs.Layout.{maxBlobLength as longestBlob};
-ghost use Rattle.lines.specs.Fields.{two, three};
-ghost use Rattle.probe_blobs.specs.Limits.{Puts, answerRoom, scratchRoom, blobRoom};
-ghost use Rattle.probe_blobs.specs.Blobs.{refusalText, headerText, vectorText, readerOf, shownText, readText, kindOf, madeText, writtenBy, writeText, convertedText, convertedBy, convText};
+ghost use Rattle.lines.specs.Fields.{exactly};
+ghost use Rattle.vector_types.specs.Layout.{maxBlobLength, byByte};
+ghost use Rattle.probe_blobs.specs.Limits.{replyRoom, scratchRoom, blobRoom};
+ghost use Rattle.probe_blobs.specs.Blobs.{refusalText, headerText, vectorText, readerOf, readBlobText, readReply, kindNamed, kindOf, writeBodyText, writeFoundReply, writeReply, convertBlobText, convertFoundReply, convertReply};
 use convert::ConvertAnswer;
 use lines::hex::Found;
 use lines::text::put_malformed;
@@ -48,16 +48,16 @@ fn put_header(mark: &[u8], kind: VectorType, dims: usize, out: &mut [u8]) -> usi
     ensures { λ r. ⌜ r ≤ 44 ⌝ }
 {
     let marked = bytes::copy(mark, out);
-    let named = marked + lines::text::put_head(type_byte(kind) as u64, &mut out[marked..]);
-    named + lines::text::put_head(dims as u64, &mut out[named..])
+    let end = marked + lines::text::put_head(type_byte(kind) as u64, &mut out[marked..]);
+    end + lines::text::put_head(dims as u64, &mut out[end..])
 }
 
 // Puts a vector at the start of out: what stands before the body, and the body, the first of these bytes.
 fn put_vector(mark: &[u8], view: View, bytes: &[u8], out: &mut [u8]) -> usize
     requires { ⌜ length (now mark) ≡ 2 ⌝ }
     requires { ⌜ view .length ≤ length (now bytes) ⌝ }
-    requires { ⌜ view .length ≤ longestBlob ⌝ }
-    requires { ⌜ answerRoom ≤ length (now out) ⌝ }
+    requires { ⌜ view .length ≤ maxBlobLength ⌝ }
+    requires { ⌜ replyRoom ≤ length (now out) ⌝ }
     ensures { λ r. ⌜ Puts (vectorText (now (mark .entry)) view (take (view .length) (now (bytes .entry)))) (now (out .entry)) r (now (out .exit)) ⌝ }
 {
     let kind = view.kind;
@@ -79,8 +79,8 @@ fn read_by(reader: Reader, blob: &[u8]) -> ReadAnswer
 
 // Puts what a reader answers of a blob at the start of out.
 fn put_read(reader: Reader, blob: &[u8], out: &mut [u8]) -> usize
-    requires { ⌜ answerRoom ≤ length (now out) ⌝ }
-    ensures { λ r. ⌜ Puts (shownText reader (now (blob .entry))) (now (out .entry)) r (now (out .exit)) ⌝ }
+    requires { ⌜ replyRoom ≤ length (now out) ⌝ }
+    ensures { λ r. ⌜ Puts (readBlobText reader (now (blob .entry))) (now (out .entry)) r (now (out .exit)) ⌝ }
 {
     match read_by(reader, blob) {
         ReadAnswer::Accepted(view) => put_vector(b"V\t", view, blob, out),
@@ -88,11 +88,11 @@ fn put_read(reader: Reader, blob: &[u8], out: &mut [u8]) -> usize
     }
 }
 
-// The answer to read|H or strict|H. The bytes that H spells are put into `decoded`.
+// The reply to read|H or strict|H. H is decoded into `decoded`.
 pub fn read_line(reader: Reader, field: &[u8], decoded: &mut [u8], out: &mut [u8]) -> usize
     requires { ⌜ length (now field) ≤ 2 * length (now decoded) ⌝ }
-    requires { ⌜ answerRoom ≤ length (now out) ⌝ }
-    ensures { λ r. ⌜ Puts (readText reader (now (field .entry))) (now (out .entry)) r (now (out .exit)) ⌝ }
+    requires { ⌜ replyRoom ≤ length (now out) ⌝ }
+    ensures { λ r. ⌜ Puts (readReply reader (now (field .entry))) (now (out .entry)) r (now (out .exit)) ⌝ }
 {
     let count = lines::hex::bytes(field, decoded);
     if 2 * count != field.len() {
@@ -101,32 +101,35 @@ pub fn read_line(reader: Reader, field: &[u8], decoded: &mut [u8], out: &mut [u8
     put_read(reader, &decoded[..count], out)
 }
 
+// The kind that a type byte names.
+fn kind_by(byte: u64) -> Kind
+    ensures { λ r. ⌜ r ≡ kindNamed (byByte byte) ⌝ }
+{
+    match byte {
+        1 => Kind::Known(VectorType::Float32Dense),
+        2 => Kind::Known(VectorType::Float64Dense),
+        3 => Kind::Known(VectorType::Float1Bit),
+        4 => Kind::Known(VectorType::Float8),
+        9 => Kind::Known(VectorType::Float32Sparse),
+        _ => Kind::Unknown,
+    }
+}
+
+// The kind that a field names: a type byte in one decimal digit.
 fn kind_of(field: &[u8]) -> Kind
     ensures { λ r. ⌜ r ≡ kindOf (now (field .entry)) ⌝ }
 {
-    if check::same(field, b"1") {
-        return Kind::Known(VectorType::Float32Dense);
+    match lines::text::numeral(1, field) {
+        Found::Number(byte) => kind_by(byte),
+        Found::Nothing => Kind::Unknown,
     }
-    if check::same(field, b"2") {
-        return Kind::Known(VectorType::Float64Dense);
-    }
-    if check::same(field, b"3") {
-        return Kind::Known(VectorType::Float1Bit);
-    }
-    if check::same(field, b"4") {
-        return Kind::Known(VectorType::Float8);
-    }
-    if check::same(field, b"9") {
-        return Kind::Known(VectorType::Float32Sparse);
-    }
-    Kind::Unknown
 }
 
 // Writes a blob into `made`, and puts it at the start of out: W, a tab, and the blob.
 fn put_written(kind: VectorType, dims: usize, body: &[u8], made: &mut [u8], out: &mut [u8]) -> usize
     requires { ⌜ length (now made) ≡ blobRoom ⌝ }
-    requires { ⌜ answerRoom ≤ length (now out) ⌝ }
-    ensures { λ r. ⌜ Puts (madeText kind dims (now (body .entry))) (now (out .entry)) r (now (out .exit)) ⌝ }
+    requires { ⌜ replyRoom ≤ length (now out) ⌝ }
+    ensures { λ r. ⌜ Puts (writeBodyText kind dims (now (body .entry))) (now (out .entry)) r (now (out .exit)) ⌝ }
 {
     match vector_types::write(kind, Dims(dims), body, made) {
         WriteAnswer::Written(length) => {
@@ -138,7 +141,7 @@ fn put_written(kind: VectorType, dims: usize, body: &[u8], made: &mut [u8], out:
     }
 }
 
-// The answer to write|K|N|H, of which K and N are found and this is H.
+// The reply to write|K|N|H, of which K and N are found and this is H.
 fn write_found(
     kind: Kind,
     number: Found,
@@ -149,10 +152,10 @@ fn write_found(
 ) -> usize
     requires { ⌜ length (now field) ≤ 2 * length (now decoded) ⌝ }
     requires { ⌜ length (now made) ≡ blobRoom ⌝ }
-    requires { ⌜ answerRoom ≤ length (now out) ⌝ }
-    ensures { λ r. ⌜ Puts (writtenBy kind number (now (field .entry))) (now (out .entry)) r (now (out .exit)) ⌝ }
+    requires { ⌜ replyRoom ≤ length (now out) ⌝ }
+    ensures { λ r. ⌜ Puts (writeFoundReply kind number (now (field .entry))) (now (out .entry)) r (now (out .exit)) ⌝ }
 {
-    let Kind::Known(named) = kind else {
+    let Kind::Known(known) = kind else {
         return put_malformed(out);
     };
     let Found::Number(dims) = number else {
@@ -162,15 +165,15 @@ fn write_found(
     if 2 * count != field.len() {
         return put_malformed(out);
     }
-    put_written(named, dims as usize, &decoded[..count], made, out)
+    put_written(known, dims as usize, &decoded[..count], made, out)
 }
 
-// The answer to write|K|N|H, of which this is K|N|H.
+// The reply to write|K|N|H, of which this is K|N|H.
 pub fn write_line(rest: &[u8], decoded: &mut [u8], made: &mut [u8], out: &mut [u8]) -> usize
     requires { ⌜ length (now rest) ≤ 2 * length (now decoded) ⌝ }
     requires { ⌜ length (now made) ≡ blobRoom ⌝ }
-    requires { ⌜ answerRoom ≤ length (now out) ⌝ }
-    ensures { λ r. ⌜ Puts (three writeText (fieldsOf (now (rest .entry)))) (now (out .entry)) r (now (out .exit)) ⌝ }
+    requires { ⌜ replyRoom ≤ length (now out) ⌝ }
+    ensures { λ r. ⌜ Puts (exactly 3 writeReply (fieldsOf (now (rest .entry)))) (now (out .entry)) r (now (out .exit)) ⌝ }
 {
     let end = lines::text::field_end(rest);
     if end == rest.len() {
@@ -197,8 +200,8 @@ fn put_converted(
 ) -> usize
     requires { ⌜ length (now scratch) ≡ scratchRoom ⌝ }
     requires { ⌜ length (now made) ≡ blobRoom ⌝ }
-    requires { ⌜ answerRoom ≤ length (now out) ⌝ }
-    ensures { λ r. ⌜ Puts (convertedText target (now (blob .entry))) (now (out .entry)) r (now (out .exit)) ⌝ }
+    requires { ⌜ replyRoom ≤ length (now out) ⌝ }
+    ensures { λ r. ⌜ Puts (convertBlobText target (now (blob .entry))) (now (out .entry)) r (now (out .exit)) ⌝ }
 {
     match convert::convert(blob, target, scratch, made) {
         ConvertAnswer::Converted(view) => put_vector(b"C\t", view, made, out),
@@ -206,7 +209,7 @@ fn put_converted(
     }
 }
 
-// The answer to conv|K|H, of which K is found and this is H.
+// The reply to conv|K|H, of which K is found and this is H.
 fn convert_found(
     kind: Kind,
     field: &[u8],
@@ -218,8 +221,8 @@ fn convert_found(
     requires { ⌜ length (now field) ≤ 2 * length (now decoded) ⌝ }
     requires { ⌜ length (now scratch) ≡ scratchRoom ⌝ }
     requires { ⌜ length (now made) ≡ blobRoom ⌝ }
-    requires { ⌜ answerRoom ≤ length (now out) ⌝ }
-    ensures { λ r. ⌜ Puts (convertedBy kind (now (field .entry))) (now (out .entry)) r (now (out .exit)) ⌝ }
+    requires { ⌜ replyRoom ≤ length (now out) ⌝ }
+    ensures { λ r. ⌜ Puts (convertFoundReply kind (now (field .entry))) (now (out .entry)) r (now (out .exit)) ⌝ }
 {
     let Kind::Known(target) = kind else {
         return put_malformed(out);
@@ -231,7 +234,7 @@ fn convert_found(
     put_converted(target, &decoded[..count], scratch, made, out)
 }
 
-// The answer to conv|K|H, of which this is K|H.
+// The reply to conv|K|H, of which this is K|H.
 pub fn convert_line(
     rest: &[u8],
     decoded: &mut [u8],
@@ -242,8 +245,8 @@ pub fn convert_line(
     requires { ⌜ length (now rest) ≤ 2 * length (now decoded) ⌝ }
     requires { ⌜ length (now scratch) ≡ scratchRoom ⌝ }
     requires { ⌜ length (now made) ≡ blobRoom ⌝ }
-    requires { ⌜ answerRoom ≤ length (now out) ⌝ }
-    ensures { λ r. ⌜ Puts (two convText (fieldsOf (now (rest .entry)))) (now (out .entry)) r (now (out .exit)) ⌝ }
+    requires { ⌜ replyRoom ≤ length (now out) ⌝ }
+    ensures { λ r. ⌜ Puts (exactly 2 convertReply (fieldsOf (now (rest .entry)))) (now (out .entry)) r (now (out .exit)) ⌝ }
 {
     let end = lines::text::field_end(rest);
     if end == rest.len() {

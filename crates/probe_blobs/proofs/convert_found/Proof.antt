@@ -1,9 +1,10 @@
--- `convert_found` meets its contract: X, or what a conversion makes of the bytes that the field spells.
+-- `convert_found` meets its contract: X, or what a conversion makes of the bytes that the field is in hexadecimal.
 use mathlib.Core.Path.{_≡_, sym, _∙_}
 use lib.Seq.{length-take-le}
 use Rattle.lines.specs.Fields.{fromHex}
-use Rattle.lines.proofs.Fields.{same-text, from-hex-part, from-hex-put}
-use Rattle.probe_blobs.specs.Blobs.{convertedText, convertedBy}
+use Rattle.promises.proofs.Puts.{puts-same}
+use Rattle.lines.proofs.Fields.{from-hex-part, from-hex-put}
+use Rattle.probe_blobs.specs.Blobs.{convertBlobText, convertFoundReply}
 use borrow.Author.Needs.{needs}
 use native.Mathlib.Omega.{arith}
 use Rattle.probe_blobs.proofs.convert_found.Statement.{statement}
@@ -12,24 +13,26 @@ use Rattle.probe_blobs.proofs.convert_found.Tie as tie
 returns : tie.Need-returns
 returns c = rw (c .before .before .before .before .enum-told .given .1) (c .before .before .put-malformed .ensures)
 
--- the answer where the kind is known
-asked : (c : tie.After-kind) → let a = c .before .before .before .before .before .before .before .args in fromHex (convertedText (c .kind .given .0 .0)) (a .field .now) ≡ convertedBy (a .kind) (a .field .now)
-asked c = rw (c .kind .given .1)
+-- the reply where the kind is known
+known : (c : tie.After-kind) → let a = c .before .before .before .before .before .before .before .args in fromHex (convertBlobText (c .kind .given .0 .0)) (a .field .now) ≡ convertFoundReply (a .kind) (a .field .now)
+known c = rw (c .kind .given .1)
 
 returns-2 : tie.Need-returns-2
 returns-2 c =
-    let s = c .before .before .before .before .before .before .before .bytes in
-    same-text _ _ _ _ _ (from-hex-part _ _ (s .result) (s .ensures .0) (c .before .before .before .before .if1 .taken) ∙ asked (c .before .before .before .before .before .before .before .before .before .before)) (c .before .before .put-malformed2 .ensures)
+    let test = c .before .before .before .before in
+    let decoded = test .before .before .before in
+    let s = decoded .bytes in
+    puts-same (from-hex-part _ _ (s .result) (s .ensures .0 .size) (test .if1 .taken) ∙ known (decoded .before .before .before)) (c .before .before .put-malformed2 .ensures)
 
 slice-aggregate-put-converted : tie.Need-slice-aggregate-put-converted
 slice-aggregate-put-converted c = sym (length-take-le _ _ (omega arith))
 
 returns-3 : tie.Need-returns-3
 returns-3 c =
-    let s = c .before .before .before .before .before .before .before .before .before .before .before .before .before .before .bytes in
-    let a = c .before .before .before .before .before .before .before .before .before .before .before .before .before .before .before .before .before .before .before .before .before .before .before .before .args in
-    let e = from-hex-put _ (a .field .now) (s .result) (a .decoded .now) (s .last .1 .0) (s .ensures .0, s .ensures .1 .0) (c .before .before .before .before .before .before .before .before .before .before .before .if1 .left) in
-    same-text _ _ _ _ _ (e ∙ asked (c .before .before .before .before .before .before .before .before .before .before .before .before .before .before .before .before .before)) (c .before .before .before .before .before .before .put-converted .ensures)
+    let put = c .before .before .before .before .before .before in
+    let test = put .before .before .before .before .before in
+    let decoded = test .before .before .before in
+    puts-same (from-hex-put _ _ (decoded .bytes .ensures .0) (test .if1 .left) ∙ known (decoded .before .before .before)) (put .put-converted .ensures)
 
 pub convert-found-spec : {M : Type 1} → statement M
 convert-found-spec =

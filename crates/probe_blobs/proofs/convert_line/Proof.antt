@@ -5,10 +5,11 @@ use lib.ListN.{length, take}
 use lib.Seq.{length-take-le}
 use Rattle.bytes.specs.Bytes.{indexOf}
 use Rattle.lines.specs.Text.{tab}
-use Rattle.lines.proofs.Fields.{same-text, two-short, after}
+use Rattle.promises.proofs.Puts.{puts-same}
+use Rattle.lines.proofs.Fields.{fields-few, afterField}
 use Rattle.probe_blobs.specs.declared.Kind.{Kind}
-use Rattle.probe_blobs.specs.Blobs.{convertedBy, convText}
-use Rattle.probe_blobs.proofs.BlobTexts.{conv-fields}
+use Rattle.probe_blobs.specs.Blobs.{convertFoundReply, convertReply}
+use Rattle.probe_blobs.proofs.BlobTexts.{convert-fields}
 use borrow.Author.Needs.{needs}
 use native.Mathlib.Omega.{arith}
 use Rattle.probe_blobs.proofs.convert_line.Statement.{statement}
@@ -16,24 +17,25 @@ use Rattle.probe_blobs.proofs.convert_line.Tie as tie
 
 returns : tie.Need-returns
 returns c =
-    let t = c .before .before .before .before in
-    let rest = t .before .before .before .before .before .before .before .args .rest .now in
-    let all : indexOf tab rest ≡ length rest = sym (t .before .field-end .ensures .0) ∙ t .if1 .taken in
-    same-text _ _ _ _ _ (sym (two-short convText rest all)) (c .before .before .put-malformed .ensures)
+    let test = c .before .before .before .before in
+    let rest = test .before .before .before .before .before .before .before .args .rest .now in
+    let all : indexOf tab rest ≡ length rest = sym (test .before .field-end .ensures .0) ∙ test .if1 .taken in
+    puts-same (sym (fields-few 0 convertReply rest all)) (c .before .before .put-malformed .ensures)
 
 slice-aggregate-kind-of : tie.Need-slice-aggregate-kind-of
 slice-aggregate-kind-of c = sym (length-take-le _ _ (omega arith))
 
 returns-2 : tie.Need-returns-2
-unfolding convText
+unfolding convertReply
 returns-2 c =
-    let k = c .before .before .before .before .before .before .before .before .before .before .before .before .before .before in
-    let f = k .before .before .before .field-end in
-    let end = f .result in
-    let rest = k .before .before .before .before .before .before .before .before .before .args .rest .now in
-    let field = after end rest in
-    let found : convertedBy (k .kind-of .result) field ≡ convText (take end rest) field = ap (λ (x : Kind). convertedBy x field) (k .kind-of .ensures) in
-    same-text _ _ _ _ _ (found ∙ conv-fields rest end (f .ensures .0) (lt-of-le-ne (f .ensures .1) (k .before .before .if1 .left))) (c .before .before .before .before .before .before .before .before .convert-found .ensures)
+    let put = c .before .before .before .before .before .before .before .before in
+    let named = put .before .before .before .before .before .before in
+    let test = named .before .before in
+    let f = test .before .field-end in
+    let rest = test .before .before .before .before .before .before .before .args .rest .now in
+    let field = afterField (f .result) rest in
+    let found : convertFoundReply (named .kind-of .result) field ≡ convertReply (take (f .result) rest) field = ap (λ (x : Kind). convertFoundReply x field) (named .kind-of .ensures) in
+    puts-same (found ∙ convert-fields rest (f .result) (f .ensures .0) (lt-of-le-ne (f .ensures .1) (test .if1 .left))) (put .convert-found .ensures)
 
 pub convert-line-spec : {M : Type 1} → statement M
 convert-line-spec =

@@ -9,57 +9,67 @@ use Rattle.vector_types.specs.Parts.{bodyOf}
 use Rattle.convert.specs.Convert.{convertOf, convertOutcome}
 use Rattle.convert.specs.declared.ConvertAnswer.{ConvertAnswer}
 use Rattle.convert.proofs.Answered.{outcome-parts}
-use Rattle.lines.proofs.Fields.{same-text}
-use Rattle.probe_blobs.specs.Blobs.{vectorText, newText, newBody, convertedText}
+use Rattle.promises.proofs.Puts.{puts-same}
+use Rattle.probe_blobs.specs.Blobs.{vectorText, convertText, convertedBody, convertBlobText}
 use Rattle.probe_blobs.proofs.BlobTexts.{converted-room}
 use borrow.Author.Needs.{needs}
 use native.Mathlib.Omega.{arith}
 use Rattle.probe_blobs.proofs.put_converted.Statement.{statement}
 use Rattle.probe_blobs.proofs.put_converted.Tie as tie
 
+-- the start, from where the conversion has answered
+abbrev start : tie.After-convert → tie.Start
+start c = c .before .before .before .before .before .before .before
+
 -- the new body, what the conversion answers, and what is put for an answer r
 abbrev body : tie.After-convert → List ℕ
-body c = let a = c .before .before .before .before .before .before .before .args in newBody (a .target) (readOf (a .blob .now)) (bodyOf (a .blob .now))
+body c = let a = start c .args in convertedBody (a .target) (readOf (a .blob .now)) (bodyOf (a .blob .now))
 
-answer : (c : tie.After-convert) → let a = c .before .before .before .before .before .before .before .args in
+answer : (c : tie.After-convert) → let a = start c .args in
     (c .convert .result ≡ convertOf (a .blob .now) (a .target) (length (a .scratch .now)) (length (a .made .now)))
     × (c .convert .last .1 .1 .1 .0 ≡ convertOutcome (a .blob .now) (a .target) (a .scratch .now) (a .made .now) .out)
-answer c = let a = c .before .before .before .before .before .before .before .args in outcome-parts (a .blob .now) (a .target) (a .scratch .now) (a .made .now) _ _ _ (c .convert .ensures)
+answer c = let a = start c .args in outcome-parts (a .blob .now) (a .target) (a .scratch .now) (a .made .now) _ _ _ (c .convert .ensures)
 
-text : (c : tie.After-convert) (r : ConvertAnswer) → c .convert .result ≡ r → let a = c .before .before .before .before .before .before .before .args in newText r (body c) ≡ convertedText (a .target) (a .blob .now)
+text : (c : tie.After-convert) (r : ConvertAnswer) → c .convert .result ≡ r → let a = start c .args in convertText r (body c) ≡ convertBlobText (a .target) (a .blob .now)
 text c r e =
-    let start = c .before .before .before .before .before .before .before in
-    let roomy = ap₂ (λ (m n : ℕ). convertOf (start .args .blob .now) (start .args .target) m n) (start .pre .0) (start .pre .1 .0) in
-    ap (λ (x : ConvertAnswer). newText x (body c)) (sym e ∙ answer c .0 ∙ roomy)
+    let s = start c in
+    let roomy = ap₂ (λ (m n : ℕ). convertOf (s .args .blob .now) (s .args .target) m n) (s .pre .0) (s .pre .1 .0) in
+    ap (λ (x : ConvertAnswer). convertText x (body c)) (sym e ∙ answer c .0 ∙ roomy)
 
--- the first bytes of the room are the new body
-room : (c : tie.After-view) → let v = c .view .given .0 .0 in let t = c .before .before .before .before .before .before in
-    (v .length ≤ length (t .before .before .before .before .before .before .before .args .made .now)) × (take (v .length) (t .convert .last .1 .1 .1 .0) ≡ body t)
+-- the arm of a converted blob: the first bytes of the room are the new body
+abbrev made : tie.After-view → tie.After-convert
+made c = c .before .before .before .before .before .before
+
+room : (c : tie.After-view) → let v = c .view .given .0 .0 in
+    (v .length ≤ length (start (made c) .args .made .now)) × (take (v .length) (made c .convert .last .1 .1 .1 .0) ≡ body (made c))
 room c =
-    let t = c .before .before .before .before .before .before in
-    let a = t .before .before .before .before .before .before .before .args in
-    rw (answer t .1) (converted-room (a .target) (a .scratch .now) (a .made .now) (c .view .given .0 .0) (a .blob .now) (sym (answer t .0) ∙ c .view .given .1))
+    let t = made c in
+    let a = start t .args in
+    let v = c .view .given .0 .0 in
+    let r = converted-room (a .target) (a .scratch .now) (a .made .now) v (a .blob .now) (sym (answer t .0) ∙ c .view .given .1) in
+    (r .0, ap (take (v .length)) (answer t .1) ∙ r .1)
 
 put-vector-requires : tie.Need-put-vector-requires
 put-vector-requires c κs =
-    let told = c .before .before .before .before in
-    let t = told .before .before .before .before .before .before in
-    let start = t .before .before .before .before .before .before .before in
-    let size = room told .0 in
-    (refl, (omega (arith, size, t .convert .kept .1 .1 .1 .0), (omega (arith, size, start .pre), omega (arith, start .pre))))
+    let arm = c .before .before .before .before in
+    let size = room arm .0 in
+    let pre = start (made arm) .pre in
+    (refl, (omega (arith, size, made arm .convert .kept .1 .1 .1 .0), (omega (arith, size, pre), omega (arith, pre))))
 
 returns : tie.Need-returns
-unfolding newText
+unfolding convertText
 returns c =
-    let told = c .before .before .before .before .before .before .before in
-    let made = ap (λ (s : List ℕ). vectorText (word "C\t") (told .view .given .0 .0) s) (room told .1) in
-    same-text _ _ _ _ _ (made ∙ text (told .before .before .before .before .before .before) _ (told .view .given .1)) (c .before .before .put-vector .ensures)
+    let put = c .before .before in
+    let arm = put .before .before .before .before .before in
+    let texts = ap (λ (s : List ℕ). vectorText (word "C\t") (arm .view .given .0 .0) s) (room arm .1) in
+    puts-same (texts ∙ text (made arm) _ (arm .view .given .1)) (put .put-vector .ensures)
 
 returns-2 : tie.Need-returns-2
-unfolding newText
+unfolding convertText
 returns-2 c =
-    let told = c .before .before .before .before .before in
-    same-text _ _ _ _ _ (text (told .before .before .before .before .before .before) _ (told .refusal .given .1)) (c .before .before .put-refusal .ensures)
+    let put = c .before .before in
+    let arm = put .before .before .before in
+    puts-same (text (arm .before .before .before .before .before .before) _ (arm .refusal .given .1)) (put .put-refusal .ensures)
 
 pub put-converted-spec : {M : Type 1} → statement M
 put-converted-spec =

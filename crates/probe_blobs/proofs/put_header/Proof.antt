@@ -4,8 +4,7 @@ use mathlib.Core.List.{_++_, append-assoc}
 use Prim.Native.Nat.{ℕ, _+_, _≤_}
 use Rattle.vector_types.specs.Layout.{byteOf}
 use Rattle.lines.specs.Printed.{headOf}
-use Rattle.promises.proofs.Onto.{copied}
-use Rattle.lines.proofs.Fields.{same-text, puts-then}
+use Rattle.promises.proofs.Puts.{puts-same, puts-copy, puts-then}
 use Rattle.probe_blobs.specs.Blobs.{headerText}
 use borrow.Author.Needs.{needs}
 use native.Mathlib.Omega.{arith}
@@ -18,21 +17,18 @@ within h k n size e two first second = omega arith
 
 returns : tie.Need-returns
 returns c =
-    let n = c .before .before .put-head2 in
-    let k = c .before .before .before .before .before .before .put-head in
-    let byte = c .before .before .before .before .before .before .before .before .type-byte in
-    let h = c .before .before .before .before .before .before .before .before .before .before .before .copy in
-    let start = c .before .before .before .before .before .before .before .before .before .before .before .before .before .before .before in
+    let counted = c .before .before in
+    let named = counted .before .before .before .before in
+    let byte = named .before .before in
+    let marked = byte .before .before .before in
+    let start = marked .before .before .before .before in
     let a = start .args in
-    let kind = headOf (byte .result) in
-    let dims = headOf (a .dims) in
     let mark = a .mark .now in
-    let m = copied mark mark (a .out .now) (h .last .1 .0) (h .result) refl (h .ensures .0) (h .ensures .1) in
-    let p = puts-then mark kind (a .out .now) _ _ (h .result) _ m (k .ensures .0, k .ensures .1 .0) in
-    let q = puts-then (mark ++ kind) dims (a .out .now) _ _ (h .result + k .result) _ p (n .ensures .0, n .ensures .1 .0) in
-    let text : (mark ++ kind) ++ dims ≡ headerText mark (a .kind) (a .dims) = rw (byte .ensures, append-assoc mark (headOf (byteOf (a .kind))) dims) in
-    let put = same-text _ _ (a .out .now) _ _ text q in
-    (put .0, (put .1, within (h .result) (k .result) (n .result) _ (h .ensures .0) (start .pre .0) (k .ensures .1 .1) (n .ensures .1 .1)))
+    let n = counted .put-head2 in
+    let k = named .put-head in
+    let put = puts-then (puts-then (puts-copy {t = mark} refl (marked .copy .ensures)) (k .ensures .0)) (n .ensures .0) in
+    let text : (mark ++ headOf (byte .type-byte .result)) ++ headOf (a .dims) ≡ headerText mark (a .kind) (a .dims) = rw (byte .type-byte .ensures, append-assoc mark (headOf (byteOf (a .kind))) (headOf (a .dims))) in
+    (puts-same text put, within (marked .copy .result) (k .result) (n .result) _ (marked .copy .ensures .0) (start .pre .0) (k .ensures .1) (n .ensures .1))
 
 pub put-header-spec : {M : Type 1} → statement M
 put-header-spec =

@@ -2,8 +2,8 @@
 use mathlib.Core.Path.{_≡_, refl, sym, ap, _∙_}
 use Rattle.vector_types.specs.declared.ReadAnswer.{ReadAnswer}
 use Rattle.vector_types.specs.declared.ReadAnswer.the-variants.{Accepted, Refused}
-use Rattle.lines.proofs.Fields.{same-text}
-use Rattle.probe_blobs.specs.Blobs.{viewText, readerOf}
+use Rattle.promises.proofs.Puts.{puts-same}
+use Rattle.probe_blobs.specs.Blobs.{readText, readerOf}
 use Rattle.probe_blobs.proofs.BlobTexts.{seen-within}
 use borrow.Author.Needs.{needs}
 use native.Mathlib.Omega.{arith}
@@ -19,21 +19,26 @@ refused c = sym (c .before .before .read-by .ensures) ∙ c .refusal .given .1
 
 put-vector-requires : tie.Need-put-vector-requires
 put-vector-requires c κs =
-    let a = c .before .before .before .before .before .before .before .before .args in
-    let w = seen-within (a .reader) (a .blob .now) _ (shown (c .before .before .before)) in
+    let arm = c .before .before .before in
+    let a = arm .before .before .before .before .before .args in
+    let w = seen-within (a .reader) (a .blob .now) _ (shown arm) in
     (refl, (w .0, (w .1, omega arith)))
 
 returns : tie.Need-returns
-unfolding viewText
+unfolding readText
 returns c =
-    let a = c .before .before .before .before .before .before .before .before .before .before .before .args in
-    same-text _ _ _ _ _ (sym (ap (λ (r : ReadAnswer). viewText r (a .blob .now)) (shown (c .before .before .before .before .before .before)))) (c .before .before .put-vector .ensures)
+    let put = c .before .before in
+    let arm = put .before .before .before .before in
+    let blob = arm .before .before .before .before .before .args .blob .now in
+    puts-same (sym (ap (λ (r : ReadAnswer). readText r blob) (shown arm))) (put .put-vector .ensures)
 
 returns-2 : tie.Need-returns-2
-unfolding viewText
+unfolding readText
 returns-2 c =
-    let a = c .before .before .before .before .before .before .before .before .before .before .args in
-    same-text _ _ _ _ _ (sym (ap (λ (r : ReadAnswer). viewText r (a .blob .now)) (refused (c .before .before .before .before .before)))) (c .before .before .put-refusal .ensures)
+    let put = c .before .before in
+    let arm = put .before .before .before in
+    let blob = arm .before .before .before .before .before .args .blob .now in
+    puts-same (sym (ap (λ (r : ReadAnswer). readText r blob) (refused arm))) (put .put-refusal .ensures)
 
 pub put-read-spec : {M : Type 1} → statement M
 put-read-spec =

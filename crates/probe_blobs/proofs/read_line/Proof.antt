@@ -1,30 +1,33 @@
 -- `read_line` meets its contract: X, or what the reader shows of the bytes that the field spells.
 use mathlib.Core.Path.{sym}
 use lib.Seq.{length-take-le}
-use Rattle.lines.proofs.Fields.{same-text, from-hex-part, from-hex-put}
-use Rattle.probe_blobs.specs.Blobs.{shownText, readText}
+use Rattle.promises.proofs.Puts.{puts-same}
+use Rattle.lines.proofs.Fields.{from-hex-part, from-hex-put}
+use Rattle.probe_blobs.specs.Blobs.{readBlobText, readReply}
 use borrow.Author.Needs.{needs}
 use native.Mathlib.Omega.{arith}
 use Rattle.probe_blobs.proofs.read_line.Statement.{statement}
 use Rattle.probe_blobs.proofs.read_line.Tie as tie
 
 returns : tie.Need-returns
-unfolding readText
+unfolding readReply
 returns c =
-    let a = c .before .before .before .before .before .before .before .before .before .before .before .before .args in
-    let s = c .before .before .before .before .before .before .before .bytes in
-    same-text _ _ _ _ _ (from-hex-part (shownText (a .reader)) (a .field .now) (s .result) (s .ensures .0) (c .before .before .before .before .if1 .taken)) (c .before .before .put-malformed .ensures)
+    let test = c .before .before .before .before in
+    let decoded = test .before .before .before in
+    let a = decoded .before .before .before .before .before .args in
+    let s = decoded .bytes in
+    puts-same (from-hex-part (readBlobText (a .reader)) (a .field .now) (s .result) (s .ensures .0 .size) (test .if1 .taken)) (c .before .before .put-malformed .ensures)
 
 slice-aggregate-put-read : tie.Need-slice-aggregate-put-read
 slice-aggregate-put-read c = sym (length-take-le _ _ (omega arith))
 
 returns-2 : tie.Need-returns-2
-unfolding readText
+unfolding readReply
 returns-2 c =
-    let a = c .before .before .before .before .before .before .before .before .before .before .before .before .before .args in
-    let s = c .before .before .before .before .before .before .before .before .bytes in
-    let e = from-hex-put (shownText (a .reader)) (a .field .now) (s .result) (a .decoded .now) (s .last .1 .0) (s .ensures .0, s .ensures .1 .0) (c .before .before .before .before .before .if1 .left) in
-    same-text _ _ _ _ _ e (c .before .before .put-read .ensures)
+    let test = c .before .before .before .before .before in
+    let decoded = test .before .before .before in
+    let a = decoded .before .before .before .before .before .args in
+    puts-same (from-hex-put (readBlobText (a .reader)) (a .field .now) (decoded .bytes .ensures .0) (test .if1 .left)) (c .before .before .put-read .ensures)
 
 pub read-line-spec : {M : Type 1} → statement M
 read-line-spec =

@@ -1,9 +1,10 @@
--- `write_found` meets its contract: X, or what is written of the bytes that the field spells.
+-- `write_found` meets its contract: X, or what is written of the bytes that the field is in hexadecimal.
 use mathlib.Core.Path.{_≡_, sym, _∙_}
 use lib.Seq.{length-take-le}
 use Rattle.lines.specs.Fields.{fromHex}
-use Rattle.lines.proofs.Fields.{same-text, from-hex-part, from-hex-put}
-use Rattle.probe_blobs.specs.Blobs.{madeText, writtenBy}
+use Rattle.promises.proofs.Puts.{puts-same}
+use Rattle.lines.proofs.Fields.{from-hex-part, from-hex-put}
+use Rattle.probe_blobs.specs.Blobs.{writeBodyText, writeFoundReply}
 use borrow.Author.Needs.{needs}
 use native.Mathlib.Omega.{arith}
 use Rattle.probe_blobs.proofs.write_found.Statement.{statement}
@@ -13,27 +14,31 @@ returns : tie.Need-returns
 returns c = rw (c .before .before .before .before .enum-told .given .1) (c .before .before .put-malformed .ensures)
 
 returns-2 : tie.Need-returns-2
-returns-2 c = rw (c .before .before .before .before .before .before .before .kind .given .1, c .before .before .before .before .enum-told2 .given .1) (c .before .before .put-malformed2 .ensures)
+returns-2 c =
+    let arm = c .before .before .before .before in
+    rw (arm .before .before .before .kind .given .1, arm .enum-told2 .given .1) (c .before .before .put-malformed2 .ensures)
 
--- the answer where kind and number are known
-asked : (c : tie.After-number) → let a = c .before .before .before .before .before .before .before .before .before .args in
-    fromHex (madeText (c .before .before .before .kind .given .0 .0) (c .number .given .0 .0)) (a .field .now) ≡ writtenBy (a .kind) (a .number) (a .field .now)
-asked c = rw (c .before .before .before .kind .given .1, c .number .given .1)
+-- the reply where kind and number are known
+known : (c : tie.After-number) → let a = c .before .before .before .before .before .before .before .before .before .args in
+    fromHex (writeBodyText (c .before .before .before .kind .given .0 .0) (c .number .given .0 .0)) (a .field .now) ≡ writeFoundReply (a .kind) (a .number) (a .field .now)
+known c = rw (c .before .before .before .kind .given .1, c .number .given .1)
 
 returns-3 : tie.Need-returns-3
 returns-3 c =
-    let s = c .before .before .before .before .before .before .before .bytes in
-    same-text _ _ _ _ _ (from-hex-part _ _ (s .result) (s .ensures .0) (c .before .before .before .before .if1 .taken) ∙ asked (c .before .before .before .before .before .before .before .before .before .before)) (c .before .before .put-malformed3 .ensures)
+    let test = c .before .before .before .before in
+    let decoded = test .before .before .before in
+    let s = decoded .bytes in
+    puts-same (from-hex-part _ _ (s .result) (s .ensures .0 .size) (test .if1 .taken) ∙ known (decoded .before .before .before)) (c .before .before .put-malformed3 .ensures)
 
 slice-aggregate-put-written : tie.Need-slice-aggregate-put-written
 slice-aggregate-put-written c = sym (length-take-le _ _ (omega arith))
 
 returns-4 : tie.Need-returns-4
 returns-4 c =
-    let s = c .before .before .before .before .before .before .before .before .before .before .before .bytes in
-    let a = c .before .before .before .before .before .before .before .before .before .before .before .before .before .before .before .before .before .before .before .before .before .before .before .args in
-    let e = from-hex-put _ (a .field .now) (s .result) (a .decoded .now) (s .last .1 .0) (s .ensures .0, s .ensures .1 .0) (c .before .before .before .before .before .before .before .before .if1 .left) in
-    same-text _ _ _ _ _ (e ∙ asked (c .before .before .before .before .before .before .before .before .before .before .before .before .before .before)) (c .before .before .before .before .put-written .ensures)
+    let put = c .before .before .before .before in
+    let test = put .before .before .before .before in
+    let decoded = test .before .before .before in
+    puts-same (from-hex-put _ _ (decoded .bytes .ensures .0) (test .if1 .left) ∙ known (decoded .before .before .before)) (put .put-written .ensures)
 
 pub write-found-spec : {M : Type 1} → statement M
 write-found-spec =

@@ -9,10 +9,11 @@ use Rattle.bytes.specs.Bytes.{indexOf}
 use Rattle.lines.specs.Text.{tab}
 use Rattle.lines.specs.Parts.{fieldsOf}
 use Rattle.lines.specs.declared.hex.Found.{Found}
-use Rattle.lines.specs.Fields.{two, three}
-use Rattle.lines.proofs.Fields.{same-text, two-short, after, three-short, three-fields}
+use Rattle.promises.proofs.Puts.{puts-same}
+use Rattle.lines.specs.Fields.{exactly}
+use Rattle.lines.proofs.Fields.{afterField, fields-few, fields-first}
 use Rattle.probe_blobs.specs.declared.Kind.{Kind}
-use Rattle.probe_blobs.specs.Blobs.{writeText, writtenBy}
+use Rattle.probe_blobs.specs.Blobs.{writeReply, writeFoundReply}
 use Rattle.probe_blobs.proofs.BlobTexts.{write-fields}
 use borrow.Author.Needs.{needs}
 use native.Mathlib.Omega.{arith}
@@ -21,49 +22,54 @@ use Rattle.probe_blobs.proofs.write_line.Tie as tie
 
 returns : tie.Need-returns
 returns c =
-    let t = c .before .before .before .before in
-    let rest = t .before .before .before .before .before .before .args .rest .now in
-    let all : indexOf tab rest ≡ length rest = sym (t .before .field-end .ensures .0) ∙ t .if1 .taken in
-    same-text _ _ _ _ _ (sym (three-short writeText rest all)) (c .before .before .put-malformed .ensures)
+    let test = c .before .before .before .before in
+    let rest = test .before .before .before .before .before .before .args .rest .now in
+    let all : indexOf tab rest ≡ length rest = sym (test .before .field-end .ensures .0) ∙ test .if1 .taken in
+    puts-same (sym (fields-few 1 writeReply rest all)) (c .before .before .put-malformed .ensures)
 
 slice-aggregate-kind-of : tie.Need-slice-aggregate-kind-of
 slice-aggregate-kind-of c = sym (length-take-le _ _ (omega arith))
 
+-- where the first field ends, from where the second does
+abbrev one : tie.After-field-end2 → tie.After-field-end
+one c = c .before .before .before .before .before
+
 -- K|N|H, K and N|H
 abbrev rest : tie.After-field-end2 → List ℕ
-rest c = c .before .before .before .before .before .before .before .before .before .before .args .rest .now
+rest c = one c .before .before .before .before .before .args .rest .now
 
 abbrev kind : tie.After-field-end2 → List ℕ
-kind c = take (c .before .before .before .before .before .field-end .result) (rest c)
+kind c = take (one c .field-end .result) (rest c)
 
 abbrev more : tie.After-field-end2 → List ℕ
-more c = after (c .before .before .before .before .before .field-end .result) (rest c)
+more c = afterField (one c .field-end .result) (rest c)
 
-by-more : (c : tie.After-field-end2) → two (writeText (kind c)) (fieldsOf (more c)) ≡ three writeText (fieldsOf (rest c))
+by-more : (c : tie.After-field-end2) → exactly 2 (writeReply (kind c)) (fieldsOf (more c)) ≡ exactly 3 writeReply (fieldsOf (rest c))
 by-more c =
-    let f = c .before .before .before .before .before .field-end in
-    three-fields writeText (rest c) _ (f .ensures .0) (lt-of-le-ne (f .ensures .1) (c .before .before .before .before .if1 .left))
+    let f = one c .field-end in
+    fields-first 2 writeReply (rest c) _ (f .ensures .0) (lt-of-le-ne (f .ensures .1) (c .before .before .before .before .if1 .left))
 
 returns-2 : tie.Need-returns-2
 returns-2 c =
-    let here = c .before .before .before .before .before in
-    let all : indexOf tab (more here) ≡ length (more here) = sym (here .field-end2 .ensures .0) ∙ c .before .before .before .before .if2 .taken in
-    same-text _ _ _ _ _ (sym (two-short (writeText (kind here)) (more here) all) ∙ by-more here) (c .before .before .put-malformed2 .ensures)
+    let test = c .before .before .before .before in
+    let two = test .before in
+    let all : indexOf tab (more two) ≡ length (more two) = sym (two .field-end2 .ensures .0) ∙ test .if2 .taken in
+    puts-same (sym (fields-few 0 (writeReply (kind two)) (more two) all) ∙ by-more two) (c .before .before .put-malformed2 .ensures)
 
 slice-aggregate-numeral : tie.Need-slice-aggregate-numeral
 slice-aggregate-numeral c = sym (length-take-le _ _ (omega arith))
 
 returns-3 : tie.Need-returns-3
-unfolding writeText
+unfolding writeReply
 returns-3 c =
-    let n = c .before .before .before .before .before .before .before .before .before .before .before in
-    let here = n .before .before .before in
-    let k = here .before .before in
-    let stop = here .field-end2 .result in
-    let field = after stop (more here) in
-    let found : writtenBy (k .kind-of .result) (n .numeral .result) field ≡ writeText (kind here) (take stop (more here)) field = ap₂ (λ (x : Kind) (y : Found). writtenBy x y field) (k .kind-of .ensures) (n .numeral .ensures) in
-    let fields = write-fields (kind here) (more here) stop (here .field-end2 .ensures .0) (lt-of-le-ne (here .field-end2 .ensures .1) (n .before .before .if2 .left)) in
-    same-text _ _ _ _ _ (found ∙ fields ∙ by-more here) (c .before .before .before .before .before .before .write-found .ensures)
+    let put = c .before .before .before .before .before .before in
+    let n = put .before .before .before .before .before in
+    let two = n .before .before .before in
+    let f = two .field-end2 in
+    let field = afterField (f .result) (more two) in
+    let found : writeFoundReply (two .before .before .kind-of .result) (n .numeral .result) field ≡ writeReply (kind two) (take (f .result) (more two)) field = ap₂ (λ (x : Kind) (y : Found). writeFoundReply x y field) (two .before .before .kind-of .ensures) (n .numeral .ensures) in
+    let fields = write-fields (kind two) (more two) (f .result) (f .ensures .0) (lt-of-le-ne (f .ensures .1) (n .before .before .if2 .left)) in
+    puts-same (found ∙ fields ∙ by-more two) (put .write-found .ensures)
 
 pub write-line-spec : {M : Type 1} → statement M
 write-line-spec =

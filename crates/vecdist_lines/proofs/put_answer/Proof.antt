@@ -22,7 +22,7 @@ refused e f = rw (e, f)
 returns-2 : tie.Need-returns-2
 returns-2 c =
     let arm = c .before .before .before .before .before in
-    puts-same (refused (arm .before .before .before .answer2 .given .1) (arm .enum-arm .given .1)) (c .before .before .put-named-refusal .ensures)
+    puts-same (refused (arm .before .before .before .answer2 .given .1) (arm .enum-told .given .1)) (c .before .before .put-named-refusal .ensures)
 
 returns-3 : tie.Need-returns-3
 returns-3 c =
