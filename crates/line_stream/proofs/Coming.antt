@@ -1,14 +1,14 @@
 -- Laws of a program's own loop: what is held is what the pieces of the input so far leave.
 use mathlib.Core.Path.{_≡_, refl, ap, ap₂, _∙_, sym}
 use mathlib.Core.List.{List, [], _∷_, _++_, append-nil, flatten}
-use Prim.Native.Nat.{ℕ, _+_, _-_, _≤_}
+use Prim.Native.Nat.{ℕ, _+_, _-_, _<_, _≤_, _^_}
 use native.Mathlib.Omega.{arith}
 use lib.ListN.{length, take, drop, length-append, length-take, length-drop, take-append-drop}
 use lib.Seq.{take-nil, take-take, length-take-le}
 use Rattle.promises.specs.Puts.{Puts}
 use Rattle.promises.proofs.Puts.{puts-prefix, puts-within}
 use Rattle.line_stream.specs.Stream.{endedIn, unfinished, Progress, begun, next, after}
-use Rattle.line_stream.specs.inner.Serving.{Passes}
+use Rattle.line_stream.specs.inner.Serving.{Ready, Passes, Ending}
 use Rattle.line_stream.specs.declared.Held.{Held}
 use Rattle.line_stream.specs.declared.Done.{Done}
 use Rattle.line_stream.proofs.Cutting.{bare-take, bare-unfinished, ended-line, unfinished-line, count-le}
@@ -16,7 +16,7 @@ use Rattle.line_stream.proofs.Cutting.{bare-take, bare-unfinished, ende
 flatten-more : (pieces : List (List ℕ)) (s : List ℕ) → length (flatten (pieces ++ (s ∷ []))) ≡ length (flatten pieces) + length s
 unfolding flatten
 flatten-more [] s = rw append-nil (omega arith)
-flatten-more (t ∷ pieces) s = rw (length-append, length-append) (omega (arith, flatten-more pieces s))
+flatten-more (t ∷ pieces) s = simp length-append (omega (arith, flatten-more pieces s))
 
 module _ (reply : List ℕ → List ℕ) (most : ℕ) where
   after-more : (p : Progress) (pieces : List (List ℕ)) (s : List ℕ) → after reply most p (pieces ++ (s ∷ [])) ≡ next reply most (after reply most p pieces) s
@@ -56,11 +56,11 @@ module _ (reply : List ℕ → List ℕ) (most : ℕ) where
   came-numbered c = omega (arith, before-le begun (c .pieces), c .before, c .room)
 
   -- a piece is read in behind the line, all lines are passed, and the unfinished one is kept
-  pub came-more : {buffer b₁ b₂ : List ℕ} {held : Held} {left left′ top end n : ℕ} {r : Done} → Came buffer held left top → take (held .count) b₁ ≡ take (held .count) buffer
+  pub came-more : {buffer b₁ b₂ : List ℕ} {held : Held} {left left′ top n : ℕ} {r : Done} (end : ℕ) → Came buffer held left top → take (held .count) b₁ ≡ take (held .count) buffer
       → held .count ≤ end → end ≤ length b₁ → length b₂ ≡ length b₁ → left′ + (end - held .count) ≤ left
       → Passes (take end b₁) (held .before) r → Puts (take most (drop (r .at) (take end b₁))) b₁ n b₂
       → Came b₂ (record { count = n; before = r .before }) left′ top
-  came-more {buffer} {b₁} {b₂} {held} {left} {left′} {top} {end} {n} {r} c same le fits long fewer p put =
+  came-more {buffer} {b₁} {b₂} {held} {left} {left′} {top} {n} {r} end c same le fits long fewer p put =
       let text = take end b₁ in
       let q = after reply most begun (c .pieces) in
       let s = drop (held .count) text in
@@ -77,4 +77,20 @@ module _ (reply : List ℕ → List ℕ) (most : ℕ) where
         count = omega (arith, put .size, length-take most (drop (r .at) text));
         before = p .numbered ∙ ap₂ (λ (m : ℕ) (ls : List (List ℕ)). m + length ls) (c .before) ends ∙ ap (λ (z : Progress). z .before) (sym step);
         room = omega (arith, flatten-more (c .pieces) s, length-drop (held .count) text, length-take-le end b₁ fits, c .room);
+      }
+
+  -- the end of the input: the buffer's first bytes are still the line
+  pub came-ending : {buffer input : List ℕ} {held : Held} {left top : ℕ} → Came buffer held left top → take (held .count) input ≡ take (held .count) buffer
+      → held .count < length input → top + held .count + 1 < 2 ^ 64 → Ending input held
+  came-ending c same less fits = record { inside = less; line = rw same (came-line c); numbers = omega (arith, came-numbered c) }
+
+  -- a piece is read in behind the line: the text of both is ready to be served
+  pub came-ready : {buffer : List ℕ} {held : Held} {left top : ℕ} (b₁ : List ℕ) (end : ℕ) → Came buffer held left top → take (held .count) b₁ ≡ take (held .count) buffer
+      → held .count ≤ end → end ≤ length b₁ → top + end < 2 ^ 64 → Ready (take end b₁) held
+  came-ready {held = held} b₁ end c same le fits few =
+      let size = length-take-le end b₁ fits in
+      record {
+        inside = omega (arith, size);
+        line = rw (take-take (held .count) end b₁ le, same) (came-line c);
+        numbers = omega (arith, size, came-numbered c);
       }

@@ -7,3 +7,4 @@ pub mod InPieces
 pub mod Coming
 pub mod Replying
 pub mod Determined
+pub mod Ending

@@ -1,14 +1,14 @@
 -- Laws of a text that is served part after part: once no line is left, all of it is passed but the unfinished line.
 use mathlib.Core.Path.{_≡_, refl, ap, _∙_, sym}
-use mathlib.Core.Bool.{Bool, true, false, cond}
+use mathlib.Core.Bool.{Bool, true, false, cond, false≢true}
 use mathlib.Core.List.{List, [], _++_, append-nil}
-use Prim.Native.Nat.{ℕ, _+_, _-_, _<_, _≤_}
+use Prim.Native.Nat.{ℕ, _+_, _-_, _<_, _≤_, _^_}
 use native.Mathlib.Omega.{arith}
 use lib.ListN.{length, take, drop, length-append, length-drop, take-append-drop}
 use lib.Seq.{take-add, drop-drop, length-take-le}
 use Rattle.promises.proofs.Onto.{tail-lent}
 use Rattle.line_stream.specs.Stream.{endedIn, unfinished}
-use Rattle.line_stream.specs.inner.Serving.{Serves, Stops, Passes}
+use Rattle.line_stream.specs.inner.Serving.{Ready, Serves, Stops, Passes}
 use Rattle.line_stream.specs.declared.Held.{Held}
 use Rattle.line_stream.specs.declared.Served.{Served}
 use Rattle.line_stream.proofs.Cutting.{ended-append, unfinished-append, bare, count-le}
@@ -30,7 +30,7 @@ passing-none text held le line = record {
   numbered = omega arith;
   inside = le;
   line = line;
-  all = λ e. absurd (mathlib.Core.Bool.false≢true (sym e));
+  all = λ e. absurd (false≢true (sym e));
 }
 
 -- what is left of the text, as it is lent
@@ -56,10 +56,11 @@ passing-next {reply} {text} {out} {out′} {before} {at} {said} {held} {more} {r
       all = λ e. rw (← drop-drop (r .at) at text, ← lent) (stops .all e);
     }
 
-pub passing-all : {text : List ℕ} {before at : ℕ} {held : Held} → Passing text before at held false → Passes text before (record { at = at; before = held .before; fine = true })
-passing-all {text} {before} {at} {held} p =
+pub passing-all : {text : List ℕ} {before at : ℕ} {held : Held} {more : Bool} → Passing text before at held more → more ≡ false
+    → Passes text before (record { at = at; before = held .before; fine = true })
+passing-all {text} {before} {at} {held} p e =
     let t = drop at text in
-    let none : endedIn [] t ≡ [] = p .all refl in
+    let none : endedIn [] t ≡ [] = p .all e in
     let rest : unfinished [] (take at text ++ t) ≡ t = unfinished-append [] (take at text) t ∙ rw (p .start) (bare [] t none) in
     let ends : endedIn [] (take at text ++ t) ≡ endedIn [] (take at text) = ended-append [] (take at text) t ∙ rw (p .start, none) (append-nil (endedIn [] (take at text))) in
     record {
@@ -68,6 +69,19 @@ passing-all {text} {before} {at} {held} p =
       numbered = p .numbered ∙ ap (λ (n : ℕ). before + n) (sym (ap length (ap (endedIn []) (sym (take-append-drop at text)) ∙ ends)));
     }
 
--- what the loop's arithmetic needs
-pub passing-numbered : {text : List ℕ} {before at : ℕ} {held : Held} {more : Bool} → Passing text before at held more → held .before ≤ before + at
-passing-numbered {text} {before} {at} p = omega (arith, p .numbered, count-le [] (take at text), length-take-le at text (p .within))
+-- the rest of the text is ready to be served
+pub passing-ready : {text : List ℕ} {before at : ℕ} {held : Held} {more : Bool} → Passing text before at held more → before + length text < 2 ^ 64
+    → Ready (take (length text - at) (drop at text)) held
+passing-ready {text} {before} {at} {held} p fits = record {
+  inside = rw (tail-lent at text) (p .inside);
+  line = rw (tail-lent at text) (p .line);
+  numbers = omega (arith, p .numbered, count-le [] (take at text), length-take-le at text (p .within), rest-lent at text, p .within, fits);
+}
+
+-- the loop ends: bytes are passed, or no line is left
+pub passing-less : (text : List ℕ) (at : ℕ) {t : List ℕ} {r : Served} → Stops t r → at + r .at ≤ length text → length text - (at + r .at) + cond (r .more) 1 0 < length text - at + 1
+passing-less text at {t} {r} stops le = go (r .more) refl
+  where
+    go : (m : Bool) → r .more ≡ m → length text - (at + r .at) + cond m 1 0 < length text - at + 1
+    go true e = omega (arith, stops .some e)
+    go false e = omega arith

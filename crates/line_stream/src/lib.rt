@@ -5,6 +5,7 @@ ghost use Prim.Native.Nat.{_+_, _≤_, min};
 ghost use lib.ListN.{length, take, drop};
 ghost use Rattle.promises.specs.Onto.{onto};
 ghost use Rattle.promises.specs.Puts.{Puts};
+ghost use Rattle.line_stream.specs.inner.Reading.{Reads};
 
 // The unfinished line: how many of its bytes stand in the buffer, and how many lines came before it.
 pub struct Held {
@@ -28,6 +29,25 @@ pub struct Done {
     pub at: usize,
     pub before: u64,
     pub fine: bool,
+}
+
+// What a read answers: how many bytes came, 0 at the end of the input, or that it failed.
+pub enum Piece {
+    Bytes(usize),
+    Failed,
+}
+
+// Reads a piece of standard input in behind the first `count` bytes of the buffer.
+pub fn read_behind(buffer: &mut [u8], count: usize) -> Piece
+    requires { ⌜ count ≤ length (now buffer) ⌝ }
+    ensures { λ r. ⌜ Reads count (now (buffer .entry)) (now (buffer .exit)) r ⌝ }
+{
+    let got = libc::read(libc::STDIN_FILENO, &mut buffer[count..]);
+    if got < 0 {
+        return Piece::Failed;
+    }
+    let n = io::count(got, &buffer[count..]);
+    Piece::Bytes(n)
 }
 
 fn least(a: usize, b: usize) -> usize

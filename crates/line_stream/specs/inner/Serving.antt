@@ -35,3 +35,9 @@ pub record Passes (text : List ℕ) (before : ℕ) (r : Done) : Type 0 where
   pub within : r .at ≤ length text
   pub rest : drop (r .at) text ≡ unfinished [] text
   pub numbered : r .before ≡ before + length (endedIn [] text)
+
+-- at the end of the input there is room for a newline behind the line that is held
+pub record Ending (input : List ℕ) (held : Held) : Type 0 where
+  pub inside : held .count < length input
+  pub line : endedIn [] (take (held .count) input) ≡ []
+  pub numbers : held .before + held .count + 1 < 2 ^ 64
