@@ -11,7 +11,7 @@ use lib.ListN.{length, take, drop, take-append-drop}
 use lib.Seq.{take-all, take-take, take-append-le, take-length, length-take-le}
 use Rattle.bytes.specs.Bytes.{indexOf, indexAfter}
 use Rattle.lines.specs.Text.{newline}
-use Rattle.lines.specs.Printed.{limited, repliesFrom}
+use Rattle.lines.specs.Printed.{limited, numberedReplies}
 use Rattle.line_stream.specs.Stream.{endedIn, unfinished}
 
 -- a text cut in two
@@ -172,20 +172,20 @@ limited-short limit reply l = elim (decLt limit (length l)) [ yes over ↦ long 
     all under = ap (limited limit reply) (take-all (limit + 1) l (omega arith))
 
 module _ (reply : List ℕ → List ℕ) where
-  pub replies-append : (n : ℕ) (a b : List (List ℕ)) → repliesFrom reply n (a ++ b) ≡ repliesFrom reply n a ++ repliesFrom reply (n + length a) b
-  unfolding repliesFrom
+  pub replies-append : (n : ℕ) (a b : List (List ℕ)) → numberedReplies reply n (a ++ b) ≡ numberedReplies reply n a ++ numberedReplies reply (n + length a) b
+  unfolding numberedReplies
   replies-append n [] b = let k : n + 0 ≡ n = omega arith in rw k
   replies-append n (l ∷ a) b =
       let k : n + 1 + length a ≡ n + suc (length a) = omega arith in
       rw (replies-append (n + 1) a b, append-assoc, k)
 
-  pub cut-replies : (k : ℕ) → Short reply k → (n : ℕ) (l s : List ℕ) → repliesFrom reply n (endedIn (take k l) s) ≡ repliesFrom reply n (endedIn l s)
-  unfolding endedIn repliesFrom
+  pub cut-replies : (k : ℕ) → Short reply k → (n : ℕ) (l s : List ℕ) → numberedReplies reply n (endedIn (take k l) s) ≡ numberedReplies reply n (endedIn l s)
+  unfolding endedIn numberedReplies
   cut-replies k short n l [] = refl
   cut-replies k short n l (b ∷ s) = go (eqb b newline) (cut-replies k short n (take k l ++ (b ∷ [])) s) (cut-replies k short n (l ++ (b ∷ [])) s)
     where
-      go : (e : Bool) → repliesFrom reply n (endedIn (take k (take k l ++ (b ∷ []))) s) ≡ repliesFrom reply n (endedIn (take k l ++ (b ∷ [])) s)
-          → repliesFrom reply n (endedIn (take k (l ++ (b ∷ []))) s) ≡ repliesFrom reply n (endedIn (l ++ (b ∷ [])) s)
-          → repliesFrom reply n (cond e (take k l ∷ endedIn [] s) (endedIn (take k l ++ (b ∷ [])) s)) ≡ repliesFrom reply n (cond e (l ∷ endedIn [] s) (endedIn (l ++ (b ∷ [])) s))
+      go : (e : Bool) → numberedReplies reply n (endedIn (take k (take k l ++ (b ∷ []))) s) ≡ numberedReplies reply n (endedIn (take k l ++ (b ∷ [])) s)
+          → numberedReplies reply n (endedIn (take k (l ++ (b ∷ []))) s) ≡ numberedReplies reply n (endedIn (l ++ (b ∷ [])) s)
+          → numberedReplies reply n (cond e (take k l ∷ endedIn [] s) (endedIn (take k l ++ (b ∷ [])) s)) ≡ numberedReplies reply n (cond e (l ∷ endedIn [] s) (endedIn (l ++ (b ∷ [])) s))
       go true p q = rw (short l)
-      go false p q = sym p ∙ ap (λ (m : List ℕ). repliesFrom reply n (endedIn m s)) (cut-more k l (b ∷ [])) ∙ q
+      go false p q = sym p ∙ ap (λ (m : List ℕ). numberedReplies reply n (endedIn m s)) (cut-more k l (b ∷ [])) ∙ q

@@ -10,7 +10,7 @@ use lib.ListN.{length, take, length-append, length-take}
 use lib.Seq.{take-nil}
 use Rattle.lines.specs.Text.{newline}
 use Rattle.lines.specs.Parts.{partsOf, inFront, lastUnlessEmpty, linesOf}
-use Rattle.lines.specs.Printed.{repliesFrom, printedOf}
+use Rattle.lines.specs.Printed.{numberedReplies, printedOf}
 use Rattle.lines.proofs.Parting.{parts-some}
 use Rattle.line_stream.specs.Stream.{endedIn, unfinished, Progress, begun, next, after, finished}
 use Rattle.line_stream.proofs.Cutting.{ended-append, unfinished-append, cut-unfinished, count-same, Short, replies-append, cut-replies}
@@ -62,7 +62,7 @@ module _ (reply : List ℕ → List ℕ) (most : ℕ) (short : Short reply most)
   record Stands (input : List ℕ) (p : Progress) : Type 0 where
     before : p .before ≡ length (endedIn [] input)
     line : p .line ≡ take most (unfinished [] input)
-    written : p .written ≡ repliesFrom reply 1 (endedIn [] input)
+    written : p .written ≡ numberedReplies reply 1 (endedIn [] input)
 
   stands-next : (input s : List ℕ) (p : Progress) → Stands input p → Stands (input ++ s) (next reply most p s)
   stands-next input s p h =
@@ -70,12 +70,12 @@ module _ (reply : List ℕ → List ℕ) (most : ℕ) (short : Short reply most)
       let ends : endedIn [] (input ++ s) ≡ endedIn [] input ++ endedIn l s = ended-append [] input s in
       let cut : endedIn (p .line) s ≡ endedIn (take most l) s = rw (h .line) in
       let number : p .before + 1 ≡ 1 + length (endedIn [] input) = omega (arith, h .before) in
-      let said : repliesFrom reply (p .before + 1) (endedIn (p .line) s) ≡ repliesFrom reply (1 + length (endedIn [] input)) (endedIn l s)
-      = ap₂ (repliesFrom reply) number cut ∙ cut-replies reply most short (1 + length (endedIn [] input)) l s in
+      let said : numberedReplies reply (p .before + 1) (endedIn (p .line) s) ≡ numberedReplies reply (1 + length (endedIn [] input)) (endedIn l s)
+      = ap₂ (numberedReplies reply) number cut ∙ cut-replies reply most short (1 + length (endedIn [] input)) l s in
       record {
         before = omega (arith, h .before, ap length ends, length-append (endedIn [] input) (endedIn l s), count-same (p .line) l s);
         line = ap (λ (m : List ℕ). take most (unfinished m s)) (h .line) ∙ cut-unfinished most l s ∙ ap (take most) (sym (unfinished-append [] input s));
-        written = ap₂ (λ (a b : List ℕ). a ++ b) (h .written) said ∙ sym (ap (repliesFrom reply 1) ends ∙ replies-append reply 1 (endedIn [] input) (endedIn l s));
+        written = ap₂ (λ (a b : List ℕ). a ++ b) (h .written) said ∙ sym (ap (numberedReplies reply 1) ends ∙ replies-append reply 1 (endedIn [] input) (endedIn l s));
       }
 
   stands-after : (input : List ℕ) (pieces : List (List ℕ)) (p : Progress) → Stands input p → Stands (input ++ flatten pieces) (after reply most p pieces)
@@ -84,12 +84,12 @@ module _ (reply : List ℕ → List ℕ) (most : ℕ) (short : Short reply most)
   stands-after input (s ∷ pieces) p h = rw (← append-assoc input s (flatten pieces)) (stands-after (input ++ s) pieces (next reply most p s) (stands-next input s p h))
 
   stands-begun : Stands [] begun
-  unfolding endedIn unfinished repliesFrom
+  unfolding endedIn unfinished numberedReplies
   stands-begun = record { before = refl; line = sym (take-nil most); written = refl }
 
   finished-line : (n : ℕ) (written line l : List ℕ) → 0 < most → line ≡ take most l
-      → cond (eqb (length line) 0) written (written ++ repliesFrom reply n (endedIn line (newline ∷ []))) ≡ written ++ repliesFrom reply n (lastUnlessEmpty (l ∷ []))
-  unfolding endedIn lastUnlessEmpty repliesFrom
+      → cond (eqb (length line) 0) written (written ++ numberedReplies reply n (endedIn line (newline ∷ []))) ≡ written ++ numberedReplies reply n (lastUnlessEmpty (l ∷ []))
+  unfolding endedIn lastUnlessEmpty numberedReplies
   finished-line n written line [] pos e =
       let zero : length line ≡ 0 = ap length (e ∙ take-nil most) in
       rw (eq-eqb (length line) 0 zero, append-nil)
@@ -103,8 +103,8 @@ module _ (reply : List ℕ → List ℕ) (most : ℕ) (short : Short reply most)
       let l = lastUnlessEmpty (unfinished [] input ∷ []) in
       let number : p .before + 1 ≡ 1 + length (endedIn [] input) = omega (arith, h .before) in
       finished-line (p .before + 1) (p .written) (p .line) (unfinished [] input) pos (h .line)
-      ∙ ap₂ (λ (w : List ℕ) (n : ℕ). w ++ repliesFrom reply n l) (h .written) number
-      ∙ sym (replies-append reply 1 (endedIn [] input) l) ∙ ap (repliesFrom reply 1) (sym (lines-are input))
+      ∙ ap₂ (λ (w : List ℕ) (n : ℕ). w ++ numberedReplies reply n l) (h .written) number
+      ∙ sym (replies-append reply 1 (endedIn [] input) l) ∙ ap (numberedReplies reply 1) (sym (lines-are input))
 
   pub written-whole : 0 < most → (pieces : List (List ℕ)) → finished reply most (after reply most begun pieces) ≡ printedOf reply (flatten pieces)
   written-whole pos pieces = stands-finished (flatten pieces) (after reply most begun pieces) pos (stands-after [] pieces begun stands-begun)

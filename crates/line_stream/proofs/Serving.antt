@@ -13,7 +13,7 @@ use Rattle.promises.specs.Puts.{Puts}
 use Rattle.promises.proofs.Onto.{tail-lent}
 use Rattle.promises.proofs.Puts.{puts-same, puts-none, puts-then, puts-within}
 use Rattle.lines.specs.Text.{newline}
-use Rattle.lines.specs.Printed.{replyOf, repliesFrom}
+use Rattle.lines.specs.Printed.{numberedReply, numberedReplies}
 use Rattle.lines.proofs.Parting.{slice-from, index-le, index-at}
 use Rattle.line_stream.specs.Stream.{endedIn, unfinished}
 use Rattle.line_stream.specs.inner.Serving.{Serves, Stops, Passes}
@@ -34,14 +34,14 @@ next-found text at end found = record { place = found ∙ ap (λ (t : List ℕ).
 
 module _ (reply : List ℕ → List ℕ) where
   pub serves-none : (text : List ℕ) (before : ℕ) (out : List ℕ) → Serves reply text before out out 0 before 0
-  unfolding endedIn unfinished repliesFrom
+  unfolding endedIn unfinished numberedReplies
   serves-none text before out = record { within = omega arith; start = refl; numbered = omega arith; replies = puts-none out }
 
   -- the reply to the next line, for which the part of out after the other replies was lent
   pub serves-next : {text out o ys : List ℕ} {before at b said end n : ℕ} → Serves reply text before out o at b said → Next text at end → end < length text
-      → Puts (replyOf (b + 1) (reply (take (end - at) (drop at text)))) (take (length o - said) (drop said o)) n ys
+      → Puts (numberedReply (b + 1) (reply (take (end - at) (drop at text)))) (take (length o - said) (drop said o)) n ys
       → Serves reply text before out (putMid said (length o - said) o ys) (end + 1) (b + 1) (said + n)
-  unfolding repliesFrom
+  unfolding numberedReplies
   serves-next {text} {out} {o} {ys} {before} {at} {b} {said} {end} {n} s next less put =
       let t = drop at text in
       let k = indexOf newline t in
@@ -56,7 +56,7 @@ module _ (reply : List ℕ → List ℕ) where
       let ends : endedIn [] (take (end + 1) text) ≡ endedIn [] (take at text) ++ (line ∷ [])
       = rw bytes (ended-append [] (take at text) (line ++ (newline ∷ [])) ∙ rw (s .start, w .0)) in
       let number : before + 1 + length (endedIn [] (take at text)) ≡ b + 1 = omega (arith, s .numbered) in
-      let said : repliesFrom reply (before + 1) (endedIn [] (take at text)) ++ replyOf (b + 1) (reply (take (end - at) t)) ≡ repliesFrom reply (before + 1) (endedIn [] (take (end + 1) text))
+      let said : numberedReplies reply (before + 1) (endedIn [] (take at text)) ++ numberedReply (b + 1) (reply (take (end - at) t)) ≡ numberedReplies reply (before + 1) (endedIn [] (take (end + 1) text))
       = rw (ends, replies-append reply (before + 1) (endedIn [] (take at text)) (line ∷ []), number, append-nil, len) refl in
       record {
         within = omega arith;
@@ -72,11 +72,11 @@ module _ (reply : List ℕ → List ℕ) where
     pub started : at ≡ 0 → said ≡ 0
 
   pub serves-bounded : {text out o : List ℕ} {before at b said : ℕ} → Serves reply text before out o at b said → length o ≡ length out → Bounded before out at b said
-  unfolding endedIn repliesFrom
+  unfolding endedIn numberedReplies
   serves-bounded {text} {out} {o} {before} {at} {b} {said} s same = record {
     fits = puts-within (s .replies) same;
     numbered = omega (arith, s .numbered, count-le [] (take at text), length-take-le at text (s .within));
-    started = λ e. s .replies .size ∙ ap (λ (k : ℕ). length (repliesFrom reply (before + 1) (endedIn [] (take k text)))) e;
+    started = λ e. s .replies .size ∙ ap (λ (k : ℕ). length (numberedReplies reply (before + 1) (endedIn [] (take k text)))) e;
   }
 
 -- no newline is found: no line is left

@@ -5,7 +5,7 @@ use mathlib.Core.List.{List, [], _∷_, _++_}
 use lib.Dec.{eqb}
 use lib.ListN.{length, take}
 use Rattle.lines.specs.Text.{newline}
-use Rattle.lines.specs.Printed.{repliesFrom}
+use Rattle.lines.specs.Printed.{numberedReplies}
 
 -- the lines that end in s, and the line that s leaves unfinished, where `line` is what came of the first before s
 unfoldable pub endedIn : List ℕ → List ℕ → List (List ℕ)
@@ -32,7 +32,7 @@ module _ (reply : List ℕ → List ℕ) (most : ℕ) where
   next p s = record {
     before = p .before + length (endedIn (p .line) s);
     line = take most (unfinished (p .line) s);
-    written = p .written ++ repliesFrom reply (p .before + 1) (endedIn (p .line) s);
+    written = p .written ++ numberedReplies reply (p .before + 1) (endedIn (p .line) s);
   }
 
   unfoldable pub after : Progress → List (List ℕ) → Progress

@@ -99,11 +99,6 @@ module _ (reply : List ℕ → List ℕ) (field : List ℕ) where
       sym (from-hex-part (length (hexBytes field)) refl (λ all. omega (arith, few, all)))
 
 -- ---- a field that is one of several words
--- what the first word that is w stands for
-abbrev pub firstNamed : {A : Type 0} → List (List ℕ × A) → A → List ℕ → A
-firstNamed [] none w = none
-firstNamed (p ∷ ps) none w = cond (same w (p .0)) (p .1) (firstNamed ps none w)
-
--- a test of the code whether two texts are equal, as a case of such a choice
+-- a test of the code whether two texts are equal, as a row of a table of words
 pub word-tested : {A : Type 0} {r : Bool} {a b : List ℕ} (t : Bool) → (r ≡ true → a ≡ b) × (a ≡ b → r ≡ true) → r ≡ t → (x y : A) → cond (same a b) x y ≡ cond t x y
 word-tested {r = r} {a = a} {b = b} t h e x y = rw (same-tested r a b h, e)

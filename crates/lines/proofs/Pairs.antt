@@ -1,4 +1,4 @@
--- Laws of bytes in hexadecimal, `hexBytes` and `hexOf`: a turn of the loop of each, their lengths, what is no blob, and that one reads back what the other puts.
+-- Laws of bytes in hexadecimal, `hexBytes` and `hexOf`: a turn of the loop of each, their lengths, a text with a byte that is no digit, and that one reads back what the other puts.
 use mathlib.Core.Path.{_≡_, refl, ap}
 use mathlib.Core.Bool.{Bool, true, false, cond, _&&_}
 use mathlib.Core.List.{List, [], _∷_}

@@ -1,4 +1,4 @@
--- Laws of `partsOf` by the first place of the byte that parts: what stands before it is the first part.
+-- Laws of `partsOf` by the first place of the byte at which a text is split: what stands before it is the first part.
 use mathlib.Core.Path.{_≡_, refl, ap, _∙_}
 use mathlib.Core.Bool.{Bool, true, false, cond}
 use mathlib.Core.List.{List, [], _∷_, _++_}

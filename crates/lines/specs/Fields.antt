@@ -1,10 +1,10 @@
--- The reply to a line by its fields: to exactly so many of them, and to a field that is bytes in hexadecimal. X is the reply to a malformed line.
+-- The reply to a line by its fields: to exactly so many of them, by words, and by bytes in hexadecimal. X is the reply to a malformed line.
 use Prim.Native.Nat.{ℕ, zero, suc, _*_}
 use mathlib.Core.Bool.{cond}
 use mathlib.Core.List.{List, [], _∷_}
 use lib.Dec.{eqb}
 use lib.ListN.{length}
-use Rattle.lines.specs.Text.{word}
+use Rattle.lines.specs.Text.{word, same}
 use Rattle.lines.specs.Hex.{hexBytes}
 
 abbrev pub malformed : List ℕ
@@ -21,6 +21,11 @@ exactly zero reply [] = reply
 exactly zero reply (f ∷ fs) = malformed
 exactly (suc n) reply [] = malformed
 exactly (suc n) reply (f ∷ fs) = exactly n (reply f) fs
+
+-- what a field stands for by a table of words: the first row that has it, or else none
+abbrev pub firstNamed : {A : Type 0} → List (List ℕ × A) → A → List ℕ → A
+firstNamed [] none field = none
+firstNamed (row ∷ rows) none field = cond (same field (row .0)) (row .1) (firstNamed rows none field)
 
 -- the reply to the bytes that a field is in hexadecimal; X unless it is whole bytes of two digits each
 unfoldable pub fromHex : (List ℕ → List ℕ) → List ℕ → List ℕ

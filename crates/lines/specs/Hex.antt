@@ -33,8 +33,8 @@ patternOf width s = cond (eqb (length s) width) (numberFrom 16 0 s) Nothing
 unfoldable pub hexPair : ℕ → ℕ → ℕ
 hexPair a b = cond (ltb (digitOf a) 16 && ltb (digitOf b) 16) (digitOf a * 16 + digitOf b) 256
 
--- the bytes that s spells in two digits each, up to the first two that are not both digits, or a lone last one;
--- s is a blob in hexadecimal exactly if 2 * length (hexBytes s) ≡ length s
+-- the bytes that s is decoded to, two digits each, up to the first two that are not both digits, or a lone last one;
+-- s is bytes in hexadecimal exactly if 2 * length (hexBytes s) ≡ length s
 unfoldable pub hexBytes : List ℕ → List ℕ
 hexBytes [] = []
 hexBytes (a ∷ []) = []

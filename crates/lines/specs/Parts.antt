@@ -1,4 +1,4 @@
--- A text parted by a byte: a line into its fields, an input into its lines.
+-- A text split at a byte: a line into its fields, an input into its lines.
 use Prim.Native.Nat.{ℕ}
 use mathlib.Core.Bool.{cond}
 use mathlib.Core.List.{List, [], _∷_}

@@ -44,7 +44,7 @@ pub fn put_decimal(n: u64, out: &mut [u8]) -> usize
     bytes::copy(&digits[..k], out)
 }
 
-// Puts what stands before the answer to line number n at the start of out: n and a tab.
+// Puts what stands before the reply to line number n at the start of out: n and a tab.
 pub fn put_head(n: u64, out: &mut [u8]) -> usize
     requires { ⌜ 21 ≤ length (now out) ⌝ }
     ensures { λ r. ⌜ Puts (headOf n) (now (out .entry)) r (now (out .exit)) ⌝ }
@@ -55,7 +55,7 @@ pub fn put_head(n: u64, out: &mut [u8]) -> usize
     digits + 1
 }
 
-// Puts X, the answer to a line that asks for nothing, at the start of out, and answers its length.
+// Puts X, the reply to a malformed line, at the start of out, and answers its length.
 pub fn put_malformed(out: &mut [u8]) -> usize
     requires { ⌜ 1 ≤ length (now out) ⌝ }
     ensures { λ r. ⌜ Puts malformed (now (out .entry)) r (now (out .exit)) ⌝ }

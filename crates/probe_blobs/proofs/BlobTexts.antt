@@ -1,4 +1,4 @@
--- Laws of the replies about blobs: what a view, a written blob and a converted one measure, and the fields of a line.
+-- Laws of the replies that show a vector: what a view and a converted body measure, and the fields of a line.
 use mathlib.Core.Path.{_≡_, refl, ap}
 use mathlib.Core.Bool.{Bool, true, false, cond, _&&_}
 use mathlib.Core.List.{List}
@@ -10,48 +10,35 @@ use lib.Seq.{take-at}
 use borrow.Author.Tests.{ltb-false}
 use Rattle.bytes.specs.Bytes.{indexOf}
 use Rattle.lines.specs.Text.{tab}
-use Rattle.lines.specs.Decimal.{numeralOf}
 use Rattle.lines.specs.Parts.{fieldsOf}
-use Rattle.lines.specs.declared.hex.Found.{Found}
-use Rattle.lines.specs.declared.hex.Found.the-variants.{Number, Nothing}
 use Rattle.vector_types.specs.Layout.{maxBlobLength}
 use Rattle.vector_types.specs.Read.{readOf}
 use Rattle.vector_types.specs.Parts.{bodyOf}
-use Rattle.vector_types.specs.Write.{blobOf, writeOf, writeOutcome}
 use Rattle.vector_types.specs.declared.VectorType.{VectorType}
 use Rattle.vector_types.specs.declared.View.{View}
 use Rattle.vector_types.specs.declared.ReadAnswer.{ReadAnswer}
 use Rattle.vector_types.specs.declared.ReadAnswer.the-variants.{Accepted, Refused as Unread}
-use Rattle.vector_types.specs.declared.WriteAnswer.the-variants.{Written}
 use Rattle.convert.specs.Result.{resultOf}
 use Rattle.convert.specs.Convert.{shortScratch, shortOut, convertedTo, scratched, answerOf, bodyOutcome, convertIn, convertOf, outcomeIn, convertOutcome}
 use Rattle.convert.specs.declared.ConvertAnswer.{ConvertAnswer}
 use Rattle.convert.specs.declared.ConvertAnswer.the-variants.{Converted, Refused}
 use Rattle.vector_types.proofs.Views.{view-facts}
 use Rattle.vector_types.proofs.Strict.{strict-plain}
-use Rattle.vector_types.proofs.Written.{writable, written-blob}
 use Rattle.lines.specs.Fields.{exactly, malformed}
 use Rattle.lines.proofs.Fields.{afterField, from-hex-tab, fields-last, fields-last-two}
-use Rattle.probe_blobs.specs.Blobs.{readerOf, readBlobText, readReply, kindOf, writeBodyText, writeFoundReply, writeReply, convertedBody, convertBlobText, convertFoundReply, convertReply}
+use Rattle.probe_blobs.specs.Blobs.{readerOf, readBlobText, readReply, kindOf, convertedBody, convertBlobText, convertFoundReply, convertReply}
 use Rattle.probe_blobs.specs.declared.Reader.{Reader}
 use Rattle.probe_blobs.specs.declared.Reader.the-variants.{Plain, Strict}
 use Rattle.probe_blobs.specs.declared.Kind.{Kind}
 use Rattle.probe_blobs.specs.declared.Kind.the-variants.{Known, Unknown}
 
--- ---- what is shown and what is written
+-- ---- what is shown
 plain-within : (s : List ℕ) (v : View) → readOf s ≡ Accepted v → (v .length ≤ length s) × (v .length ≤ maxBlobLength)
 plain-within s v e = let t = view-facts s v e in (t .within, omega (arith, t .within, t .short))
 
 pub seen-within : (reader : Reader) (s : List ℕ) (v : View) → readerOf reader s ≡ Accepted v → (v .length ≤ length s) × (v .length ≤ maxBlobLength)
 seen-within Plain s v e = plain-within s v e
 seen-within Strict s v e = plain-within s v (strict-plain s v e)
-
--- the first n bytes of the room are the blob
-pub written-room : (k : VectorType) (d : ℕ) (body made : List ℕ) (n : ℕ) → writeOf k d body (length made) ≡ Written n
-    → (n ≤ maxBlobLength) × (take n (writeOutcome k d body made .out) ≡ blobOf k d body)
-written-room k d body made n e =
-    let (clear, size, left) = written-blob k d body made n e in
-    (omega (arith, writable k d body clear .short, size), left)
 
 -- one more than the length of what was made
 abbrev reach : ConvertAnswer → ℕ
@@ -88,16 +75,6 @@ module _ (t : VectorType) (scratch made : List ℕ) (v : View) where
 pub read-last : (reader : Reader) (s : List ℕ) → exactly 1 (readReply reader) (fieldsOf s) ≡ readReply reader s
 unfolding readReply
 read-last reader s = fields-last (readReply reader) s (from-hex-tab (readBlobText reader) s)
-
-write-tab : (kind : Kind) (number : Found) (s : List ℕ) → indexOf tab s < length s → writeFoundReply kind number s ≡ malformed
-write-tab (Known k) (Number d) s less = from-hex-tab (writeBodyText k d) s less
-write-tab (Known k) Nothing s less = refl
-write-tab Unknown number s less = refl
-
-pub write-fields : (kind s : List ℕ) (stop : ℕ) → stop ≡ indexOf tab s → stop < length s
-    → writeReply kind (take stop s) (afterField stop s) ≡ exactly 2 (writeReply kind) (fieldsOf s)
-unfolding writeReply
-write-fields kind s stop e less = fields-last-two (writeReply kind) s stop e less (write-tab (kindOf kind) (numeralOf 10 (take stop s)))
 
 convert-tab : (kind : Kind) (s : List ℕ) → indexOf tab s < length s → convertFoundReply kind s ≡ malformed
 convert-tab (Known t) s less = from-hex-tab (convertBlobText t) s less

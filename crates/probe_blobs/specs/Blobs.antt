@@ -1,9 +1,8 @@
--- The replies to lines about one blob. With | for a tab the lines are
---     read|H    strict|H    write|K|N|H    conv|K|H
--- where H is a blob, or for write a body, in lower-case hexadecimal, K a type byte 1, 2, 3, 4 or 9, and N dims in 1 to 10
--- decimal digits. The replies are
---     V|K|N|H    W|H    C|K|N|H    R|number
--- where H is a body, or after W a blob; or X where a field is none of these.
+-- The replies to lines that show a vector. With | for a tab the lines are
+--     read|H    strict|H    conv|K|H
+-- where H is a blob in lower-case hexadecimal and K a type byte 1, 2, 3, 4 or 9. The replies are
+--     V|K|N|H    C|K|N|H    R|number
+-- where K is the kind, N the dims and H the body; or X where a field is none of these.
 use Prim.Native.Nat.{ℕ}
 use mathlib.Core.List.{List, [], _++_}
 use lib.ListN.{take}
@@ -16,16 +15,13 @@ use Rattle.lines.specs.declared.hex.Found.{Found}
 use Rattle.lines.specs.declared.hex.Found.the-variants.{Number, Nothing}
 use Rattle.vector_types.specs.Layout.{maxBlobLength, byteOf, Named, byByte}
 use Rattle.vector_types.specs.Layout.Named.{a, unsupported, unknown}
-use Rattle.vector_types.specs.Answers.{readNumber, writeNumber}
+use Rattle.vector_types.specs.Answers.{readNumber}
 use Rattle.vector_types.specs.Read.{readOf, strictOf}
-use Rattle.vector_types.specs.Write.{blobOf, writeOf}
 use Rattle.vector_types.specs.Parts.{bodyOf}
 use Rattle.vector_types.specs.declared.VectorType.{VectorType}
 use Rattle.vector_types.specs.declared.View.{View}
 use Rattle.vector_types.specs.declared.ReadAnswer.{ReadAnswer}
 use Rattle.vector_types.specs.declared.ReadAnswer.the-variants.{Accepted, Refused}
-use Rattle.vector_types.specs.declared.WriteAnswer.{WriteAnswer}
-use Rattle.vector_types.specs.declared.WriteAnswer.the-variants.{Written, Refused as Unwritten}
 use Rattle.convert.specs.Result.{resultOf}
 use Rattle.convert.specs.Convert.{convertNumber, convertOf}
 use Rattle.convert.specs.declared.ConvertAnswer.{ConvertAnswer}
@@ -75,25 +71,6 @@ kindFound Nothing = Unknown
 unfoldable pub kindOf : List ℕ → Kind
 unfolding byByte numeralOf
 kindOf field = kindFound (numeralOf 1 field)
-
--- ---- write: the answer about the blob that is written
-unfoldable pub writeText : WriteAnswer → List ℕ → List ℕ
-writeText (Written n) blob = word "W\t" ++ hexOf blob
-writeText (Unwritten r) blob = refusalText (writeNumber (Unwritten r))
-
--- of a kind, dims and body, in room for the longest blob
-abbrev pub writeBodyText : VectorType → ℕ → List ℕ → List ℕ
-writeBodyText k d body = writeText (writeOf k d body maxBlobLength) (blobOf k d body)
-
--- where K is a kind and N a number
-abbrev pub writeFoundReply : Kind → Found → List ℕ → List ℕ
-writeFoundReply (Known k) (Number d) field = fromHex (writeBodyText k d) field
-writeFoundReply (Known k) Nothing field = malformed
-writeFoundReply Unknown n field = malformed
-
-unfoldable pub writeReply : List ℕ → List ℕ → List ℕ → List ℕ
-unfolding writeText fromHex kindOf
-writeReply kind number field = writeFoundReply (kindOf kind) (numeralOf 10 number) field
 
 -- ---- conv: the answer about the body that the conversion makes
 unfoldable pub convertText : ConvertAnswer → List ℕ → List ℕ

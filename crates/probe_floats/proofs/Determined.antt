@@ -1,6 +1,5 @@
 -- Each public contract determines its outcome, the answer and the lent bytes: stated over the contract's own reading, so it changes with the contract.
 use Prim.Native.Nat.{ℕ}
-use mathlib.Core.Path.{_∙_, sym}
 use mathlib.Core.List.{List}
 use denote.Ref.{now}
 use Rattle.promises.specs.Determined.{Determined}

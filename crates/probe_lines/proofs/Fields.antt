@@ -1,4 +1,4 @@
--- Laws of a line's answer by its fields.
+-- Laws of the reply to a line by its fields.
 use mathlib.Core.Path.{_≡_, refl}
 use mathlib.Core.List.{List, []}
 use Prim.Native.Nat.{ℕ, _<_}
@@ -7,19 +7,19 @@ use Rattle.bytes.specs.Bytes.{indexOf}
 use Rattle.promises.proofs.Onto.{tail-lent}
 use Rattle.lines.specs.Text.{tab}
 use Rattle.lines.specs.Parts.{fieldsOf}
-use Rattle.lines.specs.Fields.{one, two, three, four, other}
-use Rattle.lines.proofs.Fields.{after}
+use Rattle.lines.specs.Fields.{malformed, exactly}
+use Rattle.lines.proofs.Fields.{afterField}
 use Rattle.lines.proofs.Parting.{parts-at, parts-last}
-use Rattle.probe_lines.specs.Line.{verbOf, answerTo, answerBy, vecprobeReply}
+use Rattle.probe_lines.specs.Line.{verbOf, verbReply, fieldsReply, vecprobeReply}
 use Rattle.probe_lines.specs.declared.Verb.{Verb}
 use Rattle.probe_lines.specs.declared.Verb.the-variants.{Root, Float, Read, Write, Convert, Near, Other}
 
 -- a line that is its first field alone, and one that has more
-pub answer-short : (line : List ℕ) → indexOf tab line ≡ length line → vecprobeReply line ≡ other
-unfolding vecprobeReply answerBy answerTo four three two one
-answer-short line all = rw (parts-last tab line all) (go (verbOf line))
+pub reply-few : (line : List ℕ) → indexOf tab line ≡ length line → vecprobeReply line ≡ malformed
+unfolding vecprobeReply fieldsReply verbReply exactly
+reply-few line all = rw (parts-last tab line all) (go (verbOf line))
   where
-    go : (v : Verb) → answerTo v [] ≡ other
+    go : (v : Verb) → verbReply v [] ≡ malformed
     go Root = refl
     go (Float w) = refl
     go (Read r) = refl
@@ -28,7 +28,7 @@ answer-short line all = rw (parts-last tab line all) (go (verbOf line))
     go Near = refl
     go Other = refl
 
-pub answer-fields : (line : List ℕ) (end : ℕ) → end ≡ indexOf tab line → end < length line
-    → answerTo (verbOf (take end line)) (fieldsOf (after end line)) ≡ vecprobeReply line
-unfolding vecprobeReply answerBy
-answer-fields line end e less = rw (tail-lent, parts-at tab line end e less)
+pub reply-fields : (line : List ℕ) (end : ℕ) → end ≡ indexOf tab line → end < length line
+    → verbReply (verbOf (take end line)) (fieldsOf (afterField end line)) ≡ vecprobeReply line
+unfolding vecprobeReply fieldsReply
+reply-fields line end e less = rw (tail-lent, parts-at tab line end e less)

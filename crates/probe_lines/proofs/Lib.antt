@@ -1,3 +1,3 @@
--- Laws of the answers
+-- Laws of the replies
 pub mod Fields
 pub mod Determined

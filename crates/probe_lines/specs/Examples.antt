@@ -1,7 +1,6 @@
--- Worked examples: lines about floats, about blobs and about candidates with their answers, and one statement about all of them, which antt computes.
-use mathlib.Core.Path.{_≡_, refl}
+-- Examples: lines about floats, about blobs and about candidates with their replies, and one statement about all of them, which antt computes.
+use mathlib.Core.Path.{refl}
 use mathlib.Core.List.{List, [], _∷_}
-use Prim.Native.String.{String}
 use lib.Ieee.{toBits, ofBits, ofInt, add, sub, mul, div, neg, eq, lt, le, isNan}
 use Rattle.float_laws.specs.Running.{running, total}
 use Rattle.rounding.specs.Root.{root}
@@ -16,18 +15,12 @@ use Rattle.convert.specs.Dense.{spread}
 use Rattle.convert.specs.Convert.{convertOf}
 use Rattle.distance_sums.specs.Merged.{merged}
 use Rattle.nearer.specs.Nearer.{nearerOf}
-use Rattle.lines.specs.Text.{word, same}
+use Rattle.lines.specs.Text.{same}
 use Rattle.lines.specs.Hex.{digitOf, numberFrom, patternOf, hexPair, hexBytes, hexOf}
 use Rattle.lines.specs.Decimal.{decimalOf, numeralOf}
 use Rattle.lines.specs.Parts.{partsOf}
+use Rattle.lines.specs.Example.{Example, example, RepliesAs}
 use Rattle.probe_lines.specs.Line.{vecprobeReply}
-
-pub record Example : Type 0 where
-  pub line : String
-  pub answer : String
-
-abbrev pub example : String → String → Example
-example l a = record { line = l; answer = a }
 
 abbrev pub floats : List Example
 floats =
@@ -95,17 +88,8 @@ nearest =
     ∷ example "near\tcos\t\t\t\t" "X"
     ∷ []
 
-abbrev pub Holds : List Example → Type 0
-Holds [] = Unit
-Holds (e ∷ es) = (vecprobeReply (word (e .line)) ≡ word (e .answer)) × Holds es
-
-pub examples-hold : Holds floats × Holds blobs × Holds conversions × Holds nearest
+pub examples-hold : RepliesAs vecprobeReply floats × RepliesAs vecprobeReply blobs × RepliesAs vecprobeReply conversions × RepliesAs vecprobeReply nearest
 unfolding partsOf same vecprobeReply decimalOf numeralOf patternOf numberFrom digitOf hexPair hexBytes hexOf
     root narrowed truncated toBits readOf strictOf writeOf firstFrom bodyOf
     convertOf spread bytesOf numberAt put nearerOf running total merged ofBits ofInt add sub mul div neg eq lt le isNan
-examples-hold = (
-  (refl, (refl, (refl, (refl, (refl, (refl, (refl, (refl, (refl, (refl, (refl, (refl, (refl, tt))))))))))))),
-  (refl, (refl, (refl, (refl, (refl, (refl, (refl, (refl, (refl, (refl, (refl, (refl, (refl, (refl, (refl, (refl, tt)))))))))))))))),
-  (refl, (refl, (refl, (refl, (refl, (refl, (refl, (refl, tt)))))))),
-  (refl, (refl, (refl, (refl, (refl, (refl, (refl, (refl, (refl, (refl, tt)))))))))),
-)
+examples-hold = (refl, refl, refl, refl)

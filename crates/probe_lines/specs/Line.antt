@@ -1,52 +1,47 @@
--- What vecprobe answers to a line. With | for a tab, the lines are
+-- What vecprobe replies to a line. With | for a tab, the lines are
 --     root|W|F    narrow|F    widen|F    trunc|F
 --     read|H    strict|H    write|K|N|H    conv|K|H    near|D|P|A|B
--- The crates of each subject have the answers: `Floats` those about one float, `Blobs` those about one blob, and `Near` those
--- about a probe and two candidates. The answer to any other line is X.
+-- The crates of each subject have the replies: `Floats` those about one float, `Blobs` those that show a vector, `Write` those
+-- that write a blob, and `Near` those about a probe and two candidates. The reply to any other line is X.
 use Prim.Native.Nat.{ℕ}
-use mathlib.Core.Bool.{cond}
 use mathlib.Core.List.{List, [], _∷_}
-use Rattle.lines.specs.Text.{word, same}
+use Rattle.lines.specs.Text.{word}
 use Rattle.lines.specs.Parts.{fieldsOf}
-use Rattle.lines.specs.Fields.{other, one, two, three, four}
-use Rattle.probe_floats.specs.Floats.{computedOf, ofWidth}
+use Rattle.lines.specs.Fields.{malformed, exactly, firstNamed}
+use Rattle.probe_floats.specs.Floats.{floatReply, rootReply}
 use Rattle.probe_floats.specs.declared.Work.the-variants.{Narrow, Widen, Trunc}
-use Rattle.probe_blobs.specs.Blobs.{readText, writeText, convText}
+use Rattle.probe_blobs.specs.Blobs.{readReply, convertReply}
 use Rattle.probe_blobs.specs.declared.Reader.the-variants.{Plain, Strict}
-use Rattle.probe_near.specs.Near.{nearText}
+use Rattle.probe_write.specs.Write.{writeReply}
+use Rattle.probe_near.specs.Near.{nearReply}
 use Rattle.probe_lines.specs.declared.Verb.{Verb}
 use Rattle.probe_lines.specs.declared.Verb.the-variants.{Root, Float, Read, Write, Convert, Near, Other}
 
 -- what a line asks for, by its first field
+abbrev pub verbWords : List (List ℕ × Verb)
+verbWords =
+    (word "root", Root) ∷ (word "narrow", Float Narrow) ∷ (word "widen", Float Widen) ∷ (word "trunc", Float Trunc)
+    ∷ (word "read", Read Plain) ∷ (word "strict", Read Strict) ∷ (word "write", Write) ∷ (word "conv", Convert) ∷ (word "near", Near) ∷ []
+
 unfoldable pub verbOf : List ℕ → Verb
-verbOf first =
-    cond (same first (word "root")) Root
-    (cond (same first (word "narrow")) (Float Narrow)
-    (cond (same first (word "widen")) (Float Widen)
-    (cond (same first (word "trunc")) (Float Trunc)
-    (cond (same first (word "read")) (Read Plain)
-    (cond (same first (word "strict")) (Read Strict)
-    (cond (same first (word "write")) Write
-    (cond (same first (word "conv")) Convert
-    (cond (same first (word "near")) Near
-    Other))))))))
+verbOf first = firstNamed verbWords Other first
 
--- the answer to the other fields
-unfoldable pub answerTo : Verb → List (List ℕ) → List ℕ
-unfolding computedOf one two three four ofWidth readText writeText convText nearText
-answerTo Root fields = two ofWidth fields
-answerTo (Float work) fields = one (computedOf work) fields
-answerTo (Read reader) fields = one (readText reader) fields
-answerTo Write fields = three writeText fields
-answerTo Convert fields = two convText fields
-answerTo Near fields = four nearText fields
-answerTo Other fields = other
+-- the reply to the other fields
+unfoldable pub verbReply : Verb → List (List ℕ) → List ℕ
+unfolding exactly floatReply rootReply readReply writeReply convertReply nearReply
+verbReply Root fields = exactly 2 rootReply fields
+verbReply (Float work) fields = exactly 1 (floatReply work) fields
+verbReply (Read reader) fields = exactly 1 (readReply reader) fields
+verbReply Write fields = exactly 3 writeReply fields
+verbReply Convert fields = exactly 2 convertReply fields
+verbReply Near fields = exactly 4 nearReply fields
+verbReply Other fields = malformed
 
-unfoldable pub answerBy : List (List ℕ) → List ℕ
-unfolding verbOf answerTo
-answerBy [] = other
-answerBy (first ∷ fields) = answerTo (verbOf first) fields
+unfoldable pub fieldsReply : List (List ℕ) → List ℕ
+unfolding verbOf verbReply
+fieldsReply [] = malformed
+fieldsReply (first ∷ fields) = verbReply (verbOf first) fields
 
 unfoldable pub vecprobeReply : List ℕ → List ℕ
-unfolding answerBy
-vecprobeReply line = answerBy (fieldsOf line)
+unfolding fieldsReply
+vecprobeReply line = fieldsReply (fieldsOf line)

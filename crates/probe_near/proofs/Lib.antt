@@ -1,2 +1,2 @@
--- Laws of the answers about candidates
+-- Laws of the replies about candidates
 pub mod Determined

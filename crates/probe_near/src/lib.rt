@@ -1,11 +1,11 @@
 // The lines about a probe and two candidates: near.
-ghost use mathlib.Core.Path.{_≡_};
 ghost use Prim.Native.Nat.{_+_, _*_, _≤_};
 ghost use lib.ListN.{length, take};
 ghost use Rattle.promises.specs.Puts.{Puts};
 ghost use Rattle.lines.specs.Parts.{fieldsOf};
-ghost use Rattle.lines.specs.Fields.{four};
-ghost use Rattle.probe_near.specs.Near.{nearerText, partsText, candidatesText, nearBy, nearText};
+ghost use Rattle.lines.specs.Fields.{exactly};
+ghost use Rattle.probe_near.specs.Near.{nearerText, candidatesText, nearFoundReply, nearReply};
+ghost use Rattle.probe_near.specs.inner.Parts.{partsText};
 use distance::Distance;
 use lines::text::put_malformed;
 use nearer::Among;
@@ -13,7 +13,7 @@ use nearer::Candidate;
 use nearer::NearerAnswer;
 use vecdist_lines::Asked;
 use vecdist_lines::asked_of;
-use vecdist_lines::put_refusal;
+use vecdist_lines::put_named_refusal;
 use vecdist_lines::put_value;
 
 // Puts which candidate is nearer and its distance, or a refusal, at the start of out.
@@ -30,10 +30,10 @@ fn put_nearer(answer: NearerAnswer, out: &mut [u8]) -> usize
             }
         }
         NearerAnswer::Refused(refusal, among) => match among {
-            Among::Probe => put_refusal(refusal.number, b"p", out),
-            Among::First => put_refusal(refusal.number, b"a", out),
-            Among::Second => put_refusal(refusal.number, b"b", out),
-            Among::Neither => put_refusal(refusal.number, b"-", out),
+            Among::Probe => put_named_refusal(refusal.number, b"p", out),
+            Among::First => put_named_refusal(refusal.number, b"a", out),
+            Among::Second => put_named_refusal(refusal.number, b"b", out),
+            Among::Neither => put_named_refusal(refusal.number, b"-", out),
         },
     }
 }
@@ -53,8 +53,8 @@ fn put_blobs(distance: Distance, probe: usize, pair: usize, blobs: &[u8], out: &
     )
 }
 
-// The answer to near|D|P|A|B, of which D is found, the first `probe` bytes of `decoded` are those that P
-// spells, and these are A and B. The bytes that they spell are put after those, one after the other.
+// The reply to near|D|P|A|B, of which D is found, P is the first `probe` bytes of `decoded`, and these
+// are A and B: they are decoded after those bytes, one after the other.
 fn near_candidates(
     distance: Distance,
     probe: usize,
@@ -79,9 +79,9 @@ fn near_candidates(
     put_blobs(distance, probe, pair, &decoded[..pair + n], out)
 }
 
-// The answer to near|D|P|A|B, of which D is found and these are P, A and B. The bytes that they spell
-// are put into `decoded`.
-fn near_fields(
+// The reply to near|D|P|A|B, of which D is found and these are P, A and B: they are decoded into
+// `decoded`.
+fn near_found(
     asked: Asked,
     probe: &[u8],
     first: &[u8],
@@ -91,7 +91,7 @@ fn near_fields(
 ) -> usize
     requires { ⌜ length (now probe) + (length (now first) + length (now second)) ≤ 2 * length (now decoded) ⌝ }
     requires { ⌜ 32 ≤ length (now out) ⌝ }
-    ensures { λ r. ⌜ Puts (nearBy asked (now (probe .entry)) (now (first .entry)) (now (second .entry))) (now (out .entry)) r (now (out .exit)) ⌝ }
+    ensures { λ r. ⌜ Puts (nearFoundReply asked (now (probe .entry)) (now (first .entry)) (now (second .entry))) (now (out .entry)) r (now (out .exit)) ⌝ }
 {
     let Asked::Known(distance) = asked else {
         return put_malformed(out);
@@ -103,11 +103,11 @@ fn near_fields(
     near_candidates(distance, count, first, second, decoded, out)
 }
 
-// The answer to near|D|P|A|B, of which this is D|P|A|B.
+// The reply to near|D|P|A|B, of which this is D|P|A|B.
 pub fn near_line(rest: &[u8], decoded: &mut [u8], out: &mut [u8]) -> usize
     requires { ⌜ length (now rest) ≤ 2 * length (now decoded) ⌝ }
     requires { ⌜ 32 ≤ length (now out) ⌝ }
-    ensures { λ r. ⌜ Puts (four nearText (fieldsOf (now (rest .entry)))) (now (out .entry)) r (now (out .exit)) ⌝ }
+    ensures { λ r. ⌜ Puts (exactly 4 nearReply (fieldsOf (now (rest .entry)))) (now (out .entry)) r (now (out .exit)) ⌝ }
 {
     let end = lines::text::field_end(rest);
     if end == rest.len() {
@@ -124,7 +124,7 @@ pub fn near_line(rest: &[u8], decoded: &mut [u8], out: &mut [u8]) -> usize
     if middle == candidates.len() {
         return put_malformed(out);
     }
-    near_fields(
+    near_found(
         asked,
         &blobs[..stop],
         &candidates[..middle],

@@ -15,7 +15,7 @@ use Rattle.lines.specs.Text.{same}
 use Rattle.lines.specs.Hex.{digitOf, hexPair, hexBytes}
 use Rattle.lines.specs.Decimal.{decimalOf}
 use Rattle.lines.specs.Parts.{partsOf, lastUnlessEmpty}
-use Rattle.lines.specs.Printed.{replyOf, repliesFrom}
+use Rattle.lines.specs.Printed.{numberedReply, numberedReplies}
 use Rattle.lines.specs.Example.{Example, example, RepliesAs}
 use Rattle.vecdist_lines.specs.Line.{vecdistReply}
 use Rattle.vecdist.specs.Printed.{printed}
@@ -31,6 +31,6 @@ table =
     ∷ []
 
 pub table-holds : RepliesAs printed table
-unfolding repliesFrom replyOf lastUnlessEmpty vecdistReply partsOf same digitOf hexPair hexBytes decimalOf toBits
+unfolding numberedReplies numberedReply lastUnlessEmpty vecdistReply partsOf same digitOf hexPair hexBytes decimalOf toBits
     distanceOf readOf bodyOf namedKind byByte lengthBeforeType bodyFits refusals shown firstFrom numberAt layoutRow running total root merged add sub mul div neg eq lt ofInt ofBits
 table-holds = refl

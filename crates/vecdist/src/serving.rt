@@ -3,7 +3,7 @@ ghost use mathlib.Core.Path.{_≡_};
 ghost use Prim.Native.Nat.{_*_, _≤_};
 ghost use lib.ListN.{length};
 ghost use Rattle.promises.specs.Puts.{Puts};
-ghost use Rattle.lines.specs.Printed.{replyOf};
+ghost use Rattle.lines.specs.Printed.{numberedReply};
 ghost use Rattle.line_stream.specs.inner.Serving.{Ready, Serves, Stops};
 ghost use Rattle.vecdist_lines.specs.Limits.{vecdistLimit};
 ghost use Rattle.vecdist.specs.Printed.{replyTo};
@@ -34,7 +34,7 @@ fn answer(line: &[u8], decoded: &mut [u8], out: &mut [u8]) -> usize
 fn reply(number: u64, line: &[u8], decoded: &mut [u8], out: &mut [u8]) -> usize
     requires { ⌜ vecdistLimit ≤ 2 * length (now decoded) ⌝ }
     requires { ⌜ longestReply ≤ length (now out) ⌝ }
-    ensures { λ r. ⌜ Puts (replyOf number (replyTo (now (line .entry)))) (now (out .entry)) r (now (out .exit)) ⌝ }
+    ensures { λ r. ⌜ Puts (numberedReply number (replyTo (now (line .entry)))) (now (out .entry)) r (now (out .exit)) ⌝ }
 {
     let head = put_head(number, out);
     let last = out.len() - 1;

@@ -1,2 +1,2 @@
--- Laws of the answers
+-- Laws of the replies
 pub mod Determined

@@ -3,14 +3,13 @@
 -- where D is cos, l2, dot or jac, and A and B are blobs in lower-case hexadecimal. The reply is D| and the pattern of the distance
 -- in sixteen digits, or R|, the number of a refusal, and a, b or - for the blob that it is about. The reply to any other line is X.
 use Prim.Native.Nat.{ℕ}
-use mathlib.Core.Bool.{cond}
-use mathlib.Core.List.{List, _++_}
+use mathlib.Core.List.{List, [], _∷_, _++_}
 use lib.Ieee.{Float, binary64, toBits}
 use Rattle.io.specs.Digits.{digits}
-use Rattle.lines.specs.Text.{word, same}
+use Rattle.lines.specs.Text.{word}
 use Rattle.lines.specs.Printed.{headOf}
 use Rattle.lines.specs.Parts.{fieldsOf}
-use Rattle.lines.specs.Fields.{malformed, exactly, fromHex}
+use Rattle.lines.specs.Fields.{malformed, exactly, firstNamed, fromHex}
 use Rattle.distance.specs.Answer.{distanceNumber, distanceOf}
 use Rattle.distance.specs.declared.Distance.the-variants.{Cos, L2, Dot, Jaccard}
 use Rattle.distance.specs.declared.Which.{Which}
@@ -21,13 +20,11 @@ use Rattle.vecdist_lines.specs.declared.Asked.{Asked}
 use Rattle.vecdist_lines.specs.declared.Asked.the-variants.{Known, Unknown}
 
 -- the distance that D names
+abbrev pub distanceWords : List (List ℕ × Asked)
+distanceWords = (word "cos", Known Cos) ∷ (word "l2", Known L2) ∷ (word "dot", Known Dot) ∷ (word "jac", Known Jaccard) ∷ []
+
 unfoldable pub askedOf : List ℕ → Asked
-askedOf field =
-    cond (same field (word "cos")) (Known Cos)
-    (cond (same field (word "l2")) (Known L2)
-    (cond (same field (word "dot")) (Known Dot)
-    (cond (same field (word "jac")) (Known Jaccard)
-    Unknown)))
+askedOf field = firstNamed distanceWords Unknown field
 
 -- a distance after a mark, and a refusal with the name of the blob that it is about
 abbrev pub valueText : List ℕ → Float → List ℕ

@@ -5,7 +5,7 @@ use mathlib.Core.Path.{_≡_}
 use mathlib.Core.List.{List, []}
 use lib.ListN.{length, take, drop}
 use Rattle.promises.specs.Puts.{Puts}
-use Rattle.lines.specs.Printed.{repliesFrom}
+use Rattle.lines.specs.Printed.{numberedReplies}
 use Rattle.line_stream.specs.Stream.{endedIn, unfinished}
 use Rattle.line_stream.specs.declared.Held.{Held}
 use Rattle.line_stream.specs.declared.Served.{Served}
@@ -23,7 +23,7 @@ module _ (reply : List ℕ → List ℕ) where
     pub within : at ≤ length text
     pub start : unfinished [] (take at text) ≡ []
     pub numbered : before′ ≡ before + length (endedIn [] (take at text))
-    pub replies : Puts (repliesFrom reply (before + 1) (endedIn [] (take at text))) out said out′
+    pub replies : Puts (numberedReplies reply (before + 1) (endedIn [] (take at text))) out said out′
 
 -- no line is left where there is no more, and else some are served
 pub record Stops (text : List ℕ) (r : Served) : Type 0 where

@@ -1,5 +1,5 @@
 -- `kind_of` meets its contract: the number that the field is, if any, names a kind, if any.
-use mathlib.Core.Path.{_≡_, sym, ap, _∙_}
+use mathlib.Core.Path.{sym, ap, _∙_}
 use Rattle.probe_blobs.specs.Blobs.{kindFound, kindOf}
 use borrow.Author.Needs.{needs}
 use Rattle.probe_blobs.proofs.kind_of.Statement.{statement}

@@ -1,4 +1,4 @@
--- `read_line` meets its contract: X, or what the reader shows of the bytes that the field spells.
+-- `read_line` meets its contract: X, or what the reader shows of the bytes that the field is in hexadecimal.
 use mathlib.Core.Path.{sym}
 use lib.Seq.{length-take-le}
 use Rattle.promises.proofs.Puts.{puts-same}

@@ -1,28 +1,21 @@
--- `verb_of` meets its contract: each test that fails leaves the words after it, and one that passes names the verb.
+-- `verb_of` meets its contract: each test that fails leaves the rows after it, and one that passes names the verb.
 use mathlib.Core.Path.{_≡_, sym, _∙_}
 use mathlib.Core.Bool.{true, false}
-use mathlib.Core.List.{List, [], _∷_}
+use mathlib.Core.List.{List}
 use Prim.Native.Nat.{ℕ}
 use lib.ListN.{drop}
-use Rattle.lines.specs.Text.{word}
-use Rattle.lines.proofs.Fields.{firstNamed, word-tested}
-use Rattle.probe_lines.specs.Line.{verbOf}
+use Rattle.lines.specs.Fields.{firstNamed}
+use Rattle.lines.proofs.Fields.{word-tested}
+use Rattle.probe_lines.specs.Line.{verbWords, verbOf}
 use Rattle.probe_lines.specs.declared.Verb.{Verb}
-use Rattle.probe_lines.specs.declared.Verb.the-variants.{Root, Float, Read, Write, Convert, Near, Other}
-use Rattle.probe_blobs.specs.declared.Reader.the-variants.{Plain, Strict}
-use Rattle.probe_floats.specs.declared.Work.the-variants.{Narrow, Widen, Trunc}
+use Rattle.probe_lines.specs.declared.Verb.the-variants.{Other}
 use borrow.Author.Needs.{needs}
 use Rattle.probe_lines.proofs.verb_of.Statement.{statement}
 use Rattle.probe_lines.proofs.verb_of.Tie as tie
 
--- the words in turn, and what those from the n-th on say of a word
-abbrev words : List (List ℕ × Verb)
-words =
-    (word "root", Root) ∷ (word "narrow", Float Narrow) ∷ (word "widen", Float Widen) ∷ (word "trunc", Float Trunc)
-    ∷ (word "read", Read Plain) ∷ (word "strict", Read Strict) ∷ (word "write", Write) ∷ (word "conv", Convert) ∷ (word "near", Near) ∷ []
-
+-- what the rows of the table from the n-th on say of a word
 abbrev from : ℕ → List ℕ → Verb
-from n w = firstNamed (drop n words) Other w
+from n w = firstNamed (drop n verbWords) Other w
 
 -- the word that is asked for, after each test that failed
 abbrev asked1 : tie.Else1 → List ℕ

@@ -7,10 +7,11 @@ use lib.ListN.{length, take, drop}
 use lib.Seq.{length-take-le}
 use Rattle.promises.proofs.Onto.{tail-lent}
 use Rattle.distance.specs.declared.Distance.{Distance}
-use Rattle.lines.proofs.Fields.{same-text}
+use Rattle.promises.proofs.Puts.{puts-same}
 use Rattle.nearer.specs.Nearer.{nearerOf}
 use Rattle.nearer.specs.declared.NearerAnswer.{NearerAnswer}
-use Rattle.probe_near.specs.Near.{nearerText, partsText}
+use Rattle.probe_near.specs.Near.{nearerText}
+use Rattle.probe_near.specs.inner.Parts.{partsText}
 use borrow.Author.Needs.{needs}
 use Rattle.probe_near.proofs.put_blobs.Statement.{statement}
 use Rattle.probe_near.proofs.put_blobs.Tie as tie
@@ -32,9 +33,9 @@ sub-nearer c = omega (arith, size (c .before .before .before .before))
 
 returns : tie.Need-returns
 returns c =
-    let a = c .before .before .before .before .before .before .before .before .before .before .before .args in
-    let found = c .before .before .before .before .nearer in
-    same-text _ _ _ _ _ (lent (a .distance) (a .probe) (a .pair) (a .blobs .now) (found .result) (found .ensures)) (c .before .before .put-nearer .ensures)
+    let found = c .before .before .before .before in
+    let a = found .before .before .before .before .before .before .before .args in
+    puts-same (lent (a .distance) (a .probe) (a .pair) (a .blobs .now) (found .nearer .result) (found .nearer .ensures)) (c .before .before .put-nearer .ensures)
 
 pub put-blobs-spec : {M : Type 1} → statement M
 put-blobs-spec =

@@ -1,25 +1,21 @@
--- `asked_of` meets its contract: each test that fails leaves the words after it, and one that passes names the distance.
+-- `asked_of` meets its contract: each test that fails leaves the rows after it, and one that passes names the distance.
 use mathlib.Core.Path.{_≡_, sym, _∙_}
 use mathlib.Core.Bool.{true, false}
-use mathlib.Core.List.{List, [], _∷_}
+use mathlib.Core.List.{List}
 use Prim.Native.Nat.{ℕ}
 use lib.ListN.{drop}
-use Rattle.lines.specs.Text.{word}
-use Rattle.lines.proofs.Fields.{firstNamed, word-tested}
-use Rattle.distance.specs.declared.Distance.the-variants.{Cos, L2, Dot, Jaccard}
-use Rattle.vecdist_lines.specs.Line.{askedOf}
+use Rattle.lines.specs.Fields.{firstNamed}
+use Rattle.lines.proofs.Fields.{word-tested}
+use Rattle.vecdist_lines.specs.Line.{distanceWords, askedOf}
 use Rattle.vecdist_lines.specs.declared.Asked.{Asked}
-use Rattle.vecdist_lines.specs.declared.Asked.the-variants.{Known, Unknown}
+use Rattle.vecdist_lines.specs.declared.Asked.the-variants.{Unknown}
 use borrow.Author.Needs.{needs}
 use Rattle.vecdist_lines.proofs.asked_of.Statement.{statement}
 use Rattle.vecdist_lines.proofs.asked_of.Tie as tie
 
--- the words in turn, and what those from the n-th on say of a field
-abbrev words : List (List ℕ × Asked)
-words = (word "cos", Known Cos) ∷ (word "l2", Known L2) ∷ (word "dot", Known Dot) ∷ (word "jac", Known Jaccard) ∷ []
-
+-- what the rows of the table from the n-th on say of a field
 abbrev from : ℕ → List ℕ → Asked
-from n field = firstNamed (drop n words) Unknown field
+from n field = firstNamed (drop n distanceWords) Unknown field
 
 -- the field that is asked about, after each test that failed
 abbrev field1 : tie.Else1 → List ℕ

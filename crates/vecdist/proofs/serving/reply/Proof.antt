@@ -3,7 +3,7 @@ use Prim.Native.Nat.{_-_}
 use native.Mathlib.Omega.{arith}
 use lib.ListN.{length, length-set}
 use Rattle.lines.specs.Text.{newline}
-use Rattle.lines.specs.Printed.{headOf, replyOf}
+use Rattle.lines.specs.Printed.{headOf, numberedReply}
 use Rattle.line_stream.proofs.Replying.{Replied, replied}
 use Rattle.vecdist.specs.Printed.{replyTo}
 use borrow.Author.Needs.{needs}
@@ -40,7 +40,7 @@ same-length-2 : tie.Need-same-length-2
 same-length-2 c = simp length-set (whole c .long)
 
 returns : tie.Need-returns
-unfolding replyOf
+unfolding numberedReply
 returns c = whole c .puts
 
 pub reply-spec : {M : Type 1} → statement M

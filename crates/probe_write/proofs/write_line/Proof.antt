@@ -12,13 +12,13 @@ use Rattle.lines.specs.declared.hex.Found.{Found}
 use Rattle.promises.proofs.Puts.{puts-same}
 use Rattle.lines.specs.Fields.{exactly}
 use Rattle.lines.proofs.Fields.{afterField, fields-few, fields-first}
 use Rattle.probe_blobs.specs.declared.Kind.{Kind}
-use Rattle.probe_blobs.specs.Blobs.{writeReply, writeFoundReply}
-use Rattle.probe_blobs.proofs.BlobTexts.{write-fields}
+use Rattle.probe_write.specs.Write.{writeReply, writeFoundReply}
+use Rattle.probe_write.proofs.WriteTexts.{write-fields}
 use borrow.Author.Needs.{needs}
 use native.Mathlib.Omega.{arith}
-use Rattle.probe_blobs.proofs.write_line.Statement.{statement}
-use Rattle.probe_blobs.proofs.write_line.Tie as tie
+use Rattle.probe_write.proofs.write_line.Statement.{statement}
+use Rattle.probe_write.proofs.write_line.Tie as tie
 
 returns : tie.Need-returns
 returns c =

@@ -11,12 +11,12 @@ use Rattle.vector_types.specs.Write.{blobOf, writeOf, writeOutcome}
 use Rattle.vector_types.specs.declared.WriteAnswer.{WriteAnswer}
 use Rattle.vector_types.proofs.Written.{outcome-parts}
 use Rattle.promises.proofs.Puts.{puts-same, puts-copy, puts-then}
-use Rattle.probe_blobs.specs.Blobs.{writeText, writeBodyText}
-use Rattle.probe_blobs.proofs.BlobTexts.{written-room}
+use Rattle.probe_write.specs.Write.{writeText, writeBodyText}
+use Rattle.probe_write.proofs.WriteTexts.{written-room}
 use borrow.Author.Needs.{needs}
 use native.Mathlib.Omega.{arith}
-use Rattle.probe_blobs.proofs.put_written.Statement.{statement}
-use Rattle.probe_blobs.proofs.put_written.Tie as tie
+use Rattle.probe_write.proofs.put_written.Statement.{statement}
+use Rattle.probe_write.proofs.put_written.Tie as tie
 
 -- the start, from where the writer has answered
 abbrev start : tie.After-write → tie.Start

@@ -4,11 +4,11 @@ use lib.Seq.{length-take-le}
 use Rattle.lines.specs.Fields.{fromHex}
 use Rattle.promises.proofs.Puts.{puts-same}
 use Rattle.lines.proofs.Fields.{from-hex-part, from-hex-put}
-use Rattle.probe_blobs.specs.Blobs.{writeBodyText, writeFoundReply}
+use Rattle.probe_write.specs.Write.{writeBodyText, writeFoundReply}
 use borrow.Author.Needs.{needs}
 use native.Mathlib.Omega.{arith}
-use Rattle.probe_blobs.proofs.write_found.Statement.{statement}
-use Rattle.probe_blobs.proofs.write_found.Tie as tie
+use Rattle.probe_write.proofs.write_found.Statement.{statement}
+use Rattle.probe_write.proofs.write_found.Tie as tie
 
 returns : tie.Need-returns
 returns c = rw (c .before .before .before .before .enum-told .given .1) (c .before .before .put-malformed .ensures)

@@ -1,0 +1,3 @@
+-- Laws of the replies
+pub mod WriteTexts
+pub mod Determined
