@@ -1,5 +1,5 @@
 -- Laws of a program's own loop: what is held is what the pieces of the input so far leave.
-use mathlib.Core.Path.{_≡_, refl, ap, ap₂, _∙_, sym}
+use mathlib.Core.Path.{_≡_, refl, ap, ap₂, _∙_, sym, subst}
 use mathlib.Core.List.{List, [], _∷_, _++_, append-nil, flatten}
 use Prim.Native.Nat.{ℕ, _+_, _-_, _<_, _≤_, _^_}
 use native.Mathlib.Omega.{arith}
@@ -8,15 +8,22 @@ use lib.Seq.{take-nil, take-take, length-take-le}
 use Rattle.promises.specs.Puts.{Puts}
 use Rattle.promises.proofs.Puts.{puts-prefix, puts-within}
 use Rattle.line_stream.specs.Stream.{endedIn, unfinished, Progress, begun, next, after}
+use Rattle.line_stream.specs.inner.Reading.{Fits}
 use Rattle.line_stream.specs.inner.Serving.{Ready, Passes, Ending}
 use Rattle.line_stream.specs.declared.Held.{Held}
 use Rattle.line_stream.specs.declared.Done.{Done}
+use Rattle.line_stream.specs.declared.Piece.{Piece}
+use Rattle.line_stream.specs.declared.Piece.the-variants.{Bytes}
 use Rattle.line_stream.proofs.Cutting.{bare-take, bare-unfinished, ended-line, unfinished-line, count-le}
 
 flatten-more : (pieces : List (List ℕ)) (s : List ℕ) → length (flatten (pieces ++ (s ∷ []))) ≡ length (flatten pieces) + length s
 unfolding flatten
 flatten-more [] s = rw append-nil (omega arith)
 flatten-more (t ∷ pieces) s = simp length-append (omega (arith, flatten-more pieces s))
+
+-- the bytes that came have room
+pub bytes-fit : (count room : ℕ) {n : ℕ} {r : Piece} → r ≡ Bytes n → Fits count room r → count + n ≤ room
+bytes-fit count room e f = subst (λ (x : Piece). Fits count room x) e f
 
 module _ (reply : List ℕ → List ℕ) (most : ℕ) where
   after-more : (p : Progress) (pieces : List (List ℕ)) (s : List ℕ) → after reply most p (pieces ++ (s ∷ [])) ≡ next reply most (after reply most p pieces) s

@@ -39,6 +39,20 @@ fn decoded_room() -> [u8; DECODED]
     [0; DECODED]
 }
 
+fn cannot_read() {
+    io::write_all(
+        libc::STDERR_FILENO,
+        b"vecdist: standard input cannot be read\n",
+    );
+}
+
+fn cannot_write() {
+    io::write_all(
+        libc::STDERR_FILENO,
+        b"vecdist: standard output cannot be written\n",
+    );
+}
+
 // Serves all lines of a text that starts with the line held, and writes the replies.
 fn serve_all(text: &[u8], held: Held, decoded: &mut [u8], out: &mut [u8]) -> Done
     requires { ⌜ Ready (now text) held ⌝ }
@@ -53,6 +67,7 @@ fn serve_all(text: &[u8], held: Held, decoded: &mut [u8], out: &mut [u8]) -> Don
         let served = serve(&text[at..], line, decoded, out);
         let said = served.said;
         if !io::write_all(libc::STDOUT_FILENO, &out[..said]) {
+            cannot_write();
             return Done {
                 at,
                 before: line.before,
@@ -92,24 +107,12 @@ fn serve_end(input: &mut [u8], held: Held, decoded: &mut [u8], out: &mut [u8]) -
     serve_all(&input[..count + 1], held, decoded, out)
 }
 
-fn cannot_read() {
-    io::write_all(
-        libc::STDERR_FILENO,
-        b"vecdist: standard input cannot be read\n",
-    );
-}
-
-fn cannot_write() {
-    io::write_all(
-        libc::STDERR_FILENO,
-        b"vecdist: standard output cannot be written\n",
-    );
-}
-
-fn main() {
-    let mut input = input_room();
-    let mut decoded = decoded_room();
-    let mut out = io::large_buffer();
+// Reads standard input piece by piece to its end, and serves its lines.
+fn run(input: &mut [u8], decoded: &mut [u8], out: &mut [u8])
+    requires { ⌜ length (now input) ≡ inputRoom ⌝ }
+    requires { ⌜ vecdistLimit ≤ 2 * length (now decoded) ⌝ }
+    requires { ⌜ longestReply ≤ length (now out) ⌝ }
+{
     let mut held = Held {
         count: 0,
         before: 0,
@@ -118,7 +121,7 @@ fn main() {
     let mut left: u64 = 0x8000_0000_0000_0000;
     while INPUT as u64 <= left {
         let count = held.count;
-        let piece = read_behind(&mut input, count);
+        let piece = read_behind(input, count);
         let Piece::Bytes(n) = piece else {
             cannot_read();
             return;
@@ -128,18 +131,21 @@ fn main() {
         }
         left -= n as u64;
         let end = count + n;
-        let done = serve_all(&input[..end], held, &mut decoded, &mut out);
+        let done = serve_all(&input[..end], held, decoded, out);
         if !done.fine {
-            cannot_write();
             return;
         }
         held = Held {
-            count: keep(&mut input, done.at, end, MOST),
+            count: keep(input, done.at, end, MOST),
             before: done.before,
         };
     }
-    let done = serve_end(&mut input, held, &mut decoded, &mut out);
-    if !done.fine {
-        cannot_write();
-    }
+    serve_end(input, held, decoded, out);
+}
+
+fn main() {
+    let mut input = input_room();
+    let mut decoded = decoded_room();
+    let mut out = io::large_buffer();
+    run(&mut input, &mut decoded, &mut out);
 }

@@ -86,6 +86,7 @@ serve-all-spec =
     slice-reshare-prefix-write-all
     slice-aggregate-write-all
     (λ c κs. search needs)
+    (λ c κs. search needs)
     (λ c. search needs)
     (λ c. search needs)
     returns
