@@ -7,7 +7,7 @@ use lib.ListN.{length, take, drop, length-append, length-take, length-drop, take
 use lib.Seq.{take-nil, take-take, length-take-le}
 use Rattle.promises.specs.Puts.{Puts}
 use Rattle.promises.proofs.Puts.{puts-prefix, puts-within}
-use Rattle.line_stream.specs.Stream.{endedIn, unfinished, Progress, begun, next, after}
+use Rattle.line_stream.specs.Stream.{endedIn, unfinished, keptOf, Progress, begun, next, after}
 use Rattle.line_stream.specs.inner.Reading.{Fits}
 use Rattle.line_stream.specs.inner.Serving.{Ready, Passes, Ending}
 use Rattle.line_stream.specs.declared.Held.{Held}
@@ -32,7 +32,7 @@ module _ (reply : List ℕ → List ℕ) (most : ℕ) where
   after-more p (t ∷ pieces) s = after-more (next reply most p t) pieces s
 
   line-bare : (p : Progress) (pieces : List (List ℕ)) → endedIn [] (p .line) ≡ [] → endedIn [] (after reply most p pieces .line) ≡ []
-  unfolding after
+  unfolding after keptOf
   line-bare p [] e = e
   line-bare p (s ∷ pieces) e = line-bare (next reply most p s) pieces (bare-take [] (unfinished (p .line) s) most (bare-unfinished (p .line) s e))
 
@@ -65,8 +65,9 @@ module _ (reply : List ℕ → List ℕ) (most : ℕ) where
   -- a piece is read in behind the line, all lines are passed, and the unfinished one is kept
   pub came-more : {buffer b₁ b₂ : List ℕ} {held : Held} {left left′ top n : ℕ} {r : Done} (end : ℕ) → Came buffer held left top → take (held .count) b₁ ≡ take (held .count) buffer
       → held .count ≤ end → end ≤ length b₁ → length b₂ ≡ length b₁ → left′ + (end - held .count) ≤ left
-      → Passes (take end b₁) (held .before) r → Puts (take most (drop (r .at) (take end b₁))) b₁ n b₂
+      → Passes (take end b₁) (held .before) r → Puts (keptOf most (drop (r .at) (take end b₁))) b₁ n b₂
       → Came b₂ (record { count = n; before = r .before }) left′ top
+  unfolding keptOf
   came-more {buffer} {b₁} {b₂} {held} {left} {left′} {top} {n} {r} end c same le fits long fewer p put =
       let text = take end b₁ in
       let q = after reply most begun (c .pieces) in
@@ -79,7 +80,7 @@ module _ (reply : List ℕ → List ℕ) (most : ℕ) where
       let step = after-more begun (c .pieces) s in
       record {
         pieces = c .pieces ++ (s ∷ []);
-        line = puts-prefix put ∙ ap (take most) rest ∙ ap (λ (z : Progress). z .line) (sym step);
+        line = puts-prefix put ∙ ap (keptOf most) rest ∙ ap (λ (z : Progress). z .line) (sym step);
         inside = omega (arith, puts-within put long, long);
         count = omega (arith, put .size, length-take most (drop (r .at) text));
         before = p .numbered ∙ ap₂ (λ (m : ℕ) (ls : List (List ℕ)). m + length ls) (c .before) ends ∙ ap (λ (z : Progress). z .before) (sym step);

@@ -12,7 +12,7 @@ use Rattle.lines.specs.Text.{newline}
 use Rattle.lines.specs.Parts.{partsOf, inFront, lastUnlessEmpty, linesOf}
 use Rattle.lines.specs.Printed.{numberedReplies, printedOf}
 use Rattle.lines.proofs.Parting.{parts-some}
-use Rattle.line_stream.specs.Stream.{endedIn, unfinished, Progress, begun, next, after, finished}
+use Rattle.line_stream.specs.Stream.{endedIn, unfinished, keptOf, Progress, begun, next, after, finished}
 use Rattle.line_stream.proofs.Cutting.{ended-append, unfinished-append, cut-unfinished, count-same, Short, replies-append, cut-replies}
 
 -- l in front of the first part
@@ -65,6 +65,7 @@ module _ (reply : List ℕ → List ℕ) (most : ℕ) (short : Short reply most)
     written : p .written ≡ numberedReplies reply 1 (endedIn [] input)
 
   stands-next : (input s : List ℕ) (p : Progress) → Stands input p → Stands (input ++ s) (next reply most p s)
+  unfolding keptOf
   stands-next input s p h =
       let l = unfinished [] input in
       let ends : endedIn [] (input ++ s) ≡ endedIn [] input ++ endedIn l s = ended-append [] input s in

@@ -11,6 +11,7 @@ use Rattle.promises.specs.Onto.{onto}
 use Rattle.promises.specs.Puts.{Puts}
 use Rattle.promises.proofs.Onto.{onto-put}
 use Rattle.promises.proofs.Puts.{puts-same, prefix-puts}
+use Rattle.line_stream.specs.Stream.{keptOf}
 
 -- i of the bytes of l from `from` on are moved; o is l then
 pub record Shifted (from n : ℕ) (l o : List ℕ) (i : ℕ) : Type 0 where
@@ -60,10 +61,12 @@ module _ (l : List ℕ) (from end most n : ℕ) (size : n ≡ min most (end - fr
   text : take most (drop from (take end l)) ≡ take n (drop from l)
   text = cut-part l from end most le fits ∙ rw size
 
-  pub kept-moved : (o : List ℕ) → o ≡ onto (take n (drop from l)) l → Puts (take most (drop from (take end l))) l n o
+  pub kept-moved : (o : List ℕ) → o ≡ onto (take n (drop from l)) l → Puts (keptOf most (drop from (take end l))) l n o
+  unfolding keptOf
   kept-moved o left = puts-same (sym text) (record { size = sym (length-take-le n (drop from l) (omega (arith, length-drop from l))); left = left })
 
-  pub kept-there : from ≡ 0 → Puts (take most (drop from (take end l))) l n l
+  pub kept-there : from ≡ 0 → Puts (keptOf most (drop from (take end l))) l n l
+  unfolding keptOf
   kept-there e =
       let same : take n (drop from l) ≡ take n l = rw e in
       puts-same (sym (text ∙ same)) (prefix-puts n l (omega arith))

@@ -16,6 +16,10 @@ unfoldable pub unfinished : List ℕ → List ℕ → List ℕ
 unfinished line [] = line
 unfinished line (b ∷ s) = cond (eqb b newline) (unfinished [] s) (unfinished (line ++ (b ∷ [])) s)
 
+-- as much of a line as a program keeps
+unfoldable pub keptOf : ℕ → List ℕ → List ℕ
+keptOf most line = take most line
+
 -- how many lines ended, what is kept of the unfinished one, and what is written
 pub record Progress : Type 0 where
   pub before : ℕ
@@ -31,7 +35,7 @@ module _ (reply : List ℕ → List ℕ) (most : ℕ) where
   abbrev pub next : Progress → List ℕ → Progress
   next p s = record {
     before = p .before + length (endedIn (p .line) s);
-    line = take most (unfinished (p .line) s);
+    line = keptOf most (unfinished (p .line) s);
     written = p .written ++ numberedReplies reply (p .before + 1) (endedIn (p .line) s);
   }
 

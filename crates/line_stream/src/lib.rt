@@ -5,6 +5,7 @@ ghost use Prim.Native.Nat.{_+_, _≤_, min};
 ghost use lib.ListN.{length, take, drop};
 ghost use Rattle.promises.specs.Onto.{onto};
 ghost use Rattle.promises.specs.Puts.{Puts};
+ghost use Rattle.line_stream.specs.Stream.{keptOf};
 ghost use Rattle.line_stream.specs.inner.Reading.{Reads};
 
 // The unfinished line: how many of its bytes stand in the buffer, and how many lines came before it.
@@ -74,7 +75,7 @@ fn shift(buffer: &mut [u8], from: usize, n: usize)
 pub fn keep(buffer: &mut [u8], from: usize, end: usize, most: usize) -> usize
     requires { ⌜ from ≤ end ⌝ }
     requires { ⌜ end ≤ length (now buffer) ⌝ }
-    ensures { λ r. ⌜ Puts (take most (drop from (take end (now (buffer .entry))))) (now (buffer .entry)) r (now (buffer .exit)) ⌝ }
+    ensures { λ r. ⌜ Puts (keptOf most (drop from (take end (now (buffer .entry))))) (now (buffer .entry)) r (now (buffer .exit)) ⌝ }
 {
     let n = least(most, end - from);
     if from == 0 {

@@ -120,8 +120,7 @@ fn run(input: &mut [u8], decoded: &mut [u8], out: &mut [u8])
     // as many bytes of input as the numbers of lines can count
     let mut left: u64 = 0x8000_0000_0000_0000;
     while INPUT as u64 <= left {
-        let count = held.count;
-        let piece = read_behind(input, count);
+        let piece = read_behind(input, held.count);
         let Piece::Bytes(n) = piece else {
             cannot_read();
             return;
@@ -130,7 +129,7 @@ fn run(input: &mut [u8], decoded: &mut [u8], out: &mut [u8])
             break;
         }
         left -= n as u64;
-        let end = count + n;
+        let end = held.count + n;
         let done = serve_all(&input[..end], held, decoded, out);
         if !done.fine {
             return;

@@ -45,7 +45,7 @@ read c =
     (omega (arith, fits, turn c .loop .inv .1), omega (arith, fits, r .kept .0))
 
 -- all lines are passed
-passed : (c : tie.Else2 Inv-loop μ-loop) → let p = c .before .before .before .before .before .before .before .before .before .before .before .before in
+passed : (c : tie.Else2 Inv-loop μ-loop) → let p = c .before .before .before .before .before .before .before .before .before .before .before .before .before in
     Passes (take (end p) (got p .read-behind .last .0)) (turn p .loop .held .before) (c .before .before .before .before .before .before .serve-all .result)
 passed c = c .before .before .before .before .before .before .serve-all .ensures (not-false _ (c .if2 .left))
 
@@ -59,17 +59,17 @@ sub-left : tie.Need-sub-left Inv-loop μ-loop
 sub-left c = let p = c .before .before in omega (arith, read p .0, got p .before .before .loop-test .taken)
 
 add-end : tie.Need-add-end Inv-loop μ-loop
-add-end c = omega (arith, read (c .before .before) .0)
+add-end c = omega (arith, read (c .before .before .before) .0)
 
 slice-reshare-prefix-serve-all : tie.Need-slice-reshare-prefix-serve-all Inv-loop μ-loop
-slice-reshare-prefix-serve-all c = read (c .before .before) .1
+slice-reshare-prefix-serve-all c = read (c .before .before .before) .1
 
 slice-aggregate-serve-all : tie.Need-slice-aggregate-serve-all Inv-loop μ-loop
-slice-aggregate-serve-all c = sym (length-take-le _ _ (read (c .before .before .before) .1))
+slice-aggregate-serve-all c = sym (length-take-le _ _ (read (c .before .before .before .before) .1))
 
 serve-all-requires : tie.Need-serve-all-requires Inv-loop μ-loop
 serve-all-requires c κs =
-    let p = c .before .before .before .before .before in
+    let p = c .before .before .before .before .before .before in
     let inv = turn p .loop .inv in
     let pre = start (turn p) .pre in
     let r = got p .read-behind in
@@ -77,15 +77,15 @@ serve-all-requires c κs =
 
 keep-requires : tie.Need-keep-requires Inv-loop μ-loop
 keep-requires c κs =
-    let p = c .before .before .before .before .before .before .before .before .before .before .before .before .before in
+    let p = c .before .before .before .before .before .before .before .before .before .before .before .before .before .before in
     (omega (arith, passed (c .before) .within, length-take-le (end p) (got p .read-behind .last .0) (read p .1)), read p .1)
 
 loop-less : tie.Need-loop-less Inv-loop μ-loop
-loop-less c = let p = c .before .before .before .before .before .before .before .before .before .before .before .before .before .before .before .before in omega (arith, read p .0, got p .before .before .loop-test .taken, c .before .before .before .before .before .before .before .before .before .before .before .before .before .before .if1 .left)
+loop-less c = let p = c .before .before .before .before .before .before .before .before .before .before .before .before .before .before .before .before .before in omega (arith, read p .0, got p .before .before .loop-test .taken, c .before .before .before .before .before .before .before .before .before .before .before .before .before .before .before .if1 .left)
 
 loop-again : tie.Need-loop-again Inv-loop μ-loop
 loop-again c =
-    let p = c .before .before .before .before .before .before .before .before .before .before .before .before .before .before .before .before in
+    let p = c .before .before .before .before .before .before .before .before .before .before .before .before .before .before .before .before .before in
     let r = got p .read-behind in
     let s = c .before .before .before .before .before .before .before .before .before .before .serve-all in
     let k = c .before .before .keep in
