@@ -15,10 +15,6 @@ use Rattle.lines.proofs.text.numeral.Reads as numeral
 use Rattle.lines.proofs.text.put_decimal.Reads as put-decimal
 use Rattle.lines.proofs.text.put_head.Reads as put-head
 use Rattle.lines.proofs.text.put_malformed.Reads as put-malformed
-use Rattle.lines.proofs.stream.start.Reads as start
-use Rattle.lines.proofs.stream.next.Reads as next
-use Rattle.lines.proofs.stream.keep.Reads as keep
-use Rattle.lines.proofs.stream.take.Reads as take
 
 pub digit-determined : (κs : _) (a : _) → Determined (digit.Post κs a) (λ r x. r)
 digit-determined κs a r r′ x x′ p q = p ∙ sym q
@@ -49,15 +45,3 @@ put-head-determined κs a r r′ x x′ p q = puts-determined (p .0) (q .0)
 
 pub put-malformed-determined : (κs : _) (a : _) → Determined {Y = ℕ × List ℕ} (put-malformed.Post κs a) (λ r x. (r, now (x .0)))
 put-malformed-determined κs a r r′ x x′ p q = puts-determined p q
-
-pub start-determined : (κs : _) (a : _) → Determined (start.Post κs a) (λ r x. r)
-start-determined κs a r r′ x x′ p q = p ∙ sym q
-
-pub next-determined : (κs : _) (a : _) → Determined (next.Post κs a) (λ r x. r)
-next-determined κs a r r′ x x′ p q = p ∙ sym q
-
-pub keep-determined : (κs : _) (a : _) → Determined (keep.Post κs a) (λ r x. r) × Determined (keep.Post κs a) (λ r x. now (x .1 .0))
-keep-determined κs a = (λ r r′ x x′ p q. p .0 ∙ sym (q .0), λ r r′ x x′ p q. p .1 ∙ sym (q .1))
-
-pub take-determined : (κs : _) (a : _) → Determined (take.Post κs a) (λ r x. r) × Determined (take.Post κs a) (λ r x. now (x .1 .1 .0))
-take-determined κs a = (λ r r′ x x′ p q. p .0 ∙ sym (q .0), λ r r′ x x′ p q. p .1 ∙ sym (q .1))

@@ -6,8 +6,4 @@ pub mod Writing
 pub mod Pairs
 pub mod Parting
 pub mod Fields
-pub mod Pieces
-pub mod Whole
-pub mod Standing
-pub mod Serving
 pub mod Determined

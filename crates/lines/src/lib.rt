@@ -1,6 +1,3 @@
-// What the programs over lines share: the fields of a line, numbers in hexadecimal and decimal, a
-// stream split into lines, and replies on their way out.
+// What the programs over lines share: the fields of a line, and numbers in hexadecimal and decimal.
 pub mod hex;
-pub mod output;
-pub mod stream;
 pub mod text;

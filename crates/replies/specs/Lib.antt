@@ -1,4 +1,0 @@
-pub mod Program
-pub mod inner
-pub mod Printed
-pub mod Examples

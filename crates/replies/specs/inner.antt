@@ -1,2 +1,0 @@
--- Words of contracts inside the crate: no public contract names them.
-pub mod Rooms

@@ -1,0 +1,2 @@
+-- What is written is what is printed
+pub mod Written
