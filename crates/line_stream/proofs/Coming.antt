@@ -7,7 +7,7 @@ use lib.ListN.{length, take, drop, length-append, length-take, length-drop, take
 use lib.Seq.{take-nil, take-take, length-take-le}
 use Rattle.promises.specs.Puts.{Puts}
 use Rattle.promises.proofs.Puts.{puts-prefix, puts-within}
-use Rattle.line_stream.specs.Stream.{endedIn, unfinished, keptOf, Progress, begun, next, after}
+use Rattle.line_stream.specs.inner.Stream.{endedIn, unfinished, keptOf, Progress, begun, next, after}
 use Rattle.line_stream.specs.inner.Reading.{Fits}
 use Rattle.line_stream.specs.inner.Serving.{Ready, Passes, Ending}
 use Rattle.line_stream.specs.declared.Held.{Held}

@@ -12,7 +12,7 @@ use lib.Seq.{take-all, take-take, take-append-le, take-length, length-take-le}
 use Rattle.bytes.specs.Bytes.{indexOf, indexAfter}
 use Rattle.lines.specs.Text.{newline}
 use Rattle.lines.specs.Printed.{limited, numberedReplies}
-use Rattle.line_stream.specs.Stream.{endedIn, unfinished}
+use Rattle.line_stream.specs.inner.Stream.{endedIn, unfinished}
 
 -- a text cut in two
 pub ended-append : (l s t : List ℕ) → endedIn l (s ++ t) ≡ endedIn l s ++ endedIn (unfinished l s) t

@@ -8,7 +8,7 @@ use lib.ListN.{length, take, set, length-set, length-append}
 use lib.Seq.{take-suc-set, take-at, length-take-le}
 use Rattle.lines.specs.Text.{newline}
 use Rattle.lines.specs.Parts.{lastUnlessEmpty}
-use Rattle.line_stream.specs.Stream.{endedIn, unfinished}
+use Rattle.line_stream.specs.inner.Stream.{endedIn, unfinished}
 use Rattle.line_stream.specs.inner.Serving.{Ready, Passes, Ending}
 use Rattle.line_stream.specs.declared.Held.{Held}
 use Rattle.line_stream.specs.declared.Done.{Done}

@@ -12,7 +12,7 @@ use Rattle.lines.specs.Text.{newline}
 use Rattle.lines.specs.Parts.{partsOf, inFront, lastUnlessEmpty, linesOf}
 use Rattle.lines.specs.Printed.{numberedReplies, printedOf}
 use Rattle.lines.proofs.Parting.{parts-some}
-use Rattle.line_stream.specs.Stream.{endedIn, unfinished, keptOf, Progress, begun, next, after, finished}
+use Rattle.line_stream.specs.inner.Stream.{endedIn, unfinished, keptOf, Progress, begun, next, after, finished}
 use Rattle.line_stream.proofs.Cutting.{ended-append, unfinished-append, cut-unfinished, count-same, Short, replies-append, cut-replies}
 
 -- l in front of the first part

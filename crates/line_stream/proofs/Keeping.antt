@@ -11,7 +11,7 @@ use Rattle.promises.specs.Onto.{onto}
 use Rattle.promises.specs.Puts.{Puts}
 use Rattle.promises.proofs.Onto.{onto-put}
 use Rattle.promises.proofs.Puts.{puts-same, prefix-puts}
-use Rattle.line_stream.specs.Stream.{keptOf}
+use Rattle.line_stream.specs.inner.Stream.{keptOf}
 
 -- i of the bytes of l from `from` on are moved; o is l then
 pub record Shifted (from n : ℕ) (l o : List ℕ) (i : ℕ) : Type 0 where

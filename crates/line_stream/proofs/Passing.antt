@@ -7,7 +7,7 @@ use native.Mathlib.Omega.{arith}
 use lib.ListN.{length, take, drop, length-append, length-drop, take-append-drop}
 use lib.Seq.{take-add, drop-drop, length-take-le}
 use Rattle.promises.proofs.Onto.{tail-lent}
-use Rattle.line_stream.specs.Stream.{endedIn, unfinished}
+use Rattle.line_stream.specs.inner.Stream.{endedIn, unfinished}
 use Rattle.line_stream.specs.inner.Serving.{Ready, Serves, Stops, Passes}
 use Rattle.line_stream.specs.declared.Held.{Held}
 use Rattle.line_stream.specs.declared.Served.{Served}

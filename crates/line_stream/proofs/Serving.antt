@@ -15,7 +15,7 @@ use Rattle.promises.proofs.Puts.{puts-same, puts-none, puts-then, puts-within}
 use Rattle.lines.specs.Text.{newline}
 use Rattle.lines.specs.Printed.{numberedReply, numberedReplies}
 use Rattle.lines.proofs.Parting.{slice-from, index-le, index-at}
-use Rattle.line_stream.specs.Stream.{endedIn, unfinished}
+use Rattle.line_stream.specs.inner.Stream.{endedIn, unfinished}
 use Rattle.line_stream.specs.inner.Serving.{Serves, Stops, Passes}
 use Rattle.line_stream.specs.declared.Served.{Served}
 use Rattle.line_stream.specs.declared.Done.{Done}

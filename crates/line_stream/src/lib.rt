@@ -5,7 +5,7 @@ ghost use Prim.Native.Nat.{_+_, _≤_, min};
 ghost use lib.ListN.{length, take, drop};
 ghost use Rattle.promises.specs.Onto.{onto};
 ghost use Rattle.promises.specs.Puts.{Puts};
-ghost use Rattle.line_stream.specs.Stream.{keptOf};
+ghost use Rattle.line_stream.specs.inner.Stream.{keptOf};
 ghost use Rattle.line_stream.specs.inner.Reading.{Reads};
 
 // The unfinished line: how many of its bytes stand in the buffer, and how many lines came before it.

@@ -3,7 +3,7 @@ use mathlib.Core.Path.{_≡_}
 use mathlib.Core.List.{List, flatten}
 use Prim.Native.Nat.{ℕ}
 use lib.Dec.{lit<}
-use Rattle.line_stream.specs.Stream.{begun, after, finished}
+use Rattle.line_stream.specs.inner.Stream.{begun, after, finished}
 use Rattle.line_stream.proofs.Cutting.{limited-short}
 use Rattle.line_stream.proofs.InPieces.{written-whole}
 use Rattle.vecdist_lines.specs.Line.{vecdistReply}

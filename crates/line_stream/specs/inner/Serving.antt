@@ -6,7 +6,7 @@ use mathlib.Core.List.{List, []}
 use lib.ListN.{length, take, drop}
 use Rattle.promises.specs.Puts.{Puts}
 use Rattle.lines.specs.Printed.{numberedReplies}
-use Rattle.line_stream.specs.Stream.{endedIn, unfinished}
+use Rattle.line_stream.specs.inner.Stream.{endedIn, unfinished}
 use Rattle.line_stream.specs.declared.Held.{Held}
 use Rattle.line_stream.specs.declared.Served.{Served}
 use Rattle.line_stream.specs.declared.Done.{Done}
