@@ -1,1 +1,2 @@
+-- Words of contracts inside the crate: no public contract names them.
 pub mod Rooms
