@@ -1,3 +1,3 @@
--- Words of contracts inside the crate, and of a step of the laws above it: no public contract names them.
+-- Words of the contracts of helpers, and the walk that a law compares the merge with: no contract of an entry point names them.
 pub mod Turns
 pub mod Walk

@@ -1,3 +1,3 @@
--- Words of contracts inside the crate: no public contract names them.
+-- Words of the contracts of helpers: no contract of an entry point names them.
 pub mod Fitting
 pub mod Ranges

@@ -1,3 +1,3 @@
--- Words of contracts inside the crate, and a function to compute with: no public contract names them.
+-- Words of the contracts of helpers, and a function to compute with: no contract of an entry point names them.
 pub mod Pick
 pub mod Parts
