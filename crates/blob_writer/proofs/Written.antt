@@ -15,7 +15,7 @@ use Rattle.vector_types.specs.Layout.{maxBlobLength, maxDims, ceil, hasTrailing
 use Rattle.vector_types.specs.Read.{readOf}
 use Rattle.vector_types.specs.Parts.{bodyOf}
 use Rattle.blob_writer.specs.Answers.{written, writeRefused}
-use Rattle.blob_writer.specs.Write.{filler, trailingBits, trailingBytes, tailOf, blobOf, writeRefusals, writeOf, WriteOutcome, outcome, writeOutcome}
+use Rattle.blob_writer.specs.Write.{filler, trailingBits, trailingBytes, tailOf, blobOf, writeRefusals, writeOf, WriteOutcome, writeLeaving, writeOutcome}
 use Rattle.vector_types.specs.declared.Refusal.{Refusal}
 use Rattle.vector_types.specs.declared.VectorType.{VectorType}
 use Rattle.vector_types.specs.declared.VectorType.the-variants.{Float32Dense, Float64Dense, Float32Sparse, Float1Bit, Float8}
@@ -173,7 +173,7 @@ pub written-reads-back : (k : VectorType) (d : ℕ) (body out : List ℕ) (n : �
 written-reads-back k d body out n e = let (clear, _, left) = written-blob k d body out n e in rw left (reads-back k d body clear)
 
 -- an outcome, part by part
-pub outcome-parts : (k : VectorType) (d : ℕ) (body out : List ℕ) (r : WriteAnswer) (o : List ℕ) → outcome r o ≡ writeOutcome k d body out
+pub write-outcome-parts : (k : VectorType) (d : ℕ) (body out : List ℕ) (r : WriteAnswer) (o : List ℕ) → writeLeaving r o ≡ writeOutcome k d body out
     → (r ≡ writeOf k d body (length out)) × (o ≡ writeOutcome k d body out .out)
 unfolding writeOutcome
-outcome-parts k d body out r o e = (ap (λ (x : WriteOutcome). x .answer) e, ap (λ (x : WriteOutcome). x .out) e)
+write-outcome-parts k d body out r o e = (ap (λ (x : WriteOutcome). x .answer) e, ap (λ (x : WriteOutcome). x .out) e)

@@ -70,9 +70,9 @@ pub record WriteOutcome : Type 0 where
   pub answer : WriteAnswer
   pub out : List ℕ
 
-abbrev pub outcome : WriteAnswer → List ℕ → WriteOutcome
-outcome r out = record { answer = r; out = out }
+abbrev pub writeLeaving : WriteAnswer → List ℕ → WriteOutcome
+writeLeaving r out = record { answer = r; out = out }
 
 unfoldable pub writeOutcome : VectorType → ℕ → List ℕ → List ℕ → WriteOutcome
 unfolding writeOf blobOf
-writeOutcome k d body out = let r = writeOf k d body (length out) in outcome r (bufferAfter r (blobOf k d body) out)
+writeOutcome k d body out = let r = writeOf k d body (length out) in writeLeaving r (bufferAfter r (blobOf k d body) out)

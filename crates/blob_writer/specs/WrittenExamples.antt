@@ -11,7 +11,7 @@ use Rattle.vector_types.specs.Layout.{namedKind, byByte, lengthBeforeType, body
 use Rattle.vector_types.specs.Read.{readOf, refusals, shown}
 use Rattle.vector_types.specs.Parts.{bodyOf}
 use Rattle.blob_writer.specs.Answers.{written, writeRefused}
-use Rattle.blob_writer.specs.Write.{tailOf, blobOf, writeRefusals, writeOf, outcome, writeOutcome}
+use Rattle.blob_writer.specs.Write.{tailOf, blobOf, writeRefusals, writeOf, writeLeaving, writeOutcome}
 use Rattle.blob_writer.specs.Rewritten.{rewritten}
 use Rattle.vector_types.specs.declared.VectorType.{VectorType}
 use Rattle.vector_types.specs.declared.VectorType.the-variants.{Float32Dense, Float64Dense, Float32Sparse, Float1Bit, Float8}
@@ -81,7 +81,7 @@ abbrev pub room : List ℕ
 room = replicate 20 0xee
 
 pub writing-holds :
-    map (λ (e : Example). writeOutcome (e .kind) (e .dims) (e .body) room) writing ≡ map (λ (e : Example). outcome (e .answer) (onto (e .blob) room)) writing
+    map (λ (e : Example). writeOutcome (e .kind) (e .dims) (e .body) room) writing ≡ map (λ (e : Example). writeLeaving (e .answer) (onto (e .blob) room)) writing
 unfolding writeOf writeOutcome writeRefusals bodyFits tailOf blobOf bytesOf numberAt firstFrom
 writing-holds = refl
 

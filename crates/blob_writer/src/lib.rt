@@ -7,7 +7,7 @@ ghost use Prim.Native.Nat.{_≤_};
 ghost use lib.ListN.{length};
 ghost use Rattle.promises.specs.Onto.{onto};
 ghost use Rattle.vector_types.specs.Layout.{maxDims};
-ghost use Rattle.blob_writer.specs.Write.{blobOf, outcome, writeOutcome};
+ghost use Rattle.blob_writer.specs.Write.{blobOf, writeLeaving, writeOutcome};
 use checks::check_write;
 use tail::put_tail;
 use vector_types::Dims;
@@ -33,7 +33,7 @@ fn put_blob(kind: VectorType, dims: Dims, body: &[u8], out: &mut [u8])
 // Puts the blob of a kind, dims and body at the start of out and answers its length; a refusal
 // changes nothing.
 pub fn write(kind: VectorType, dims: Dims, body: &[u8], out: &mut [u8]) -> WriteAnswer
-    ensures { λ r. ⌜ outcome r (now (out .exit)) ≡ writeOutcome kind (dims .0) (now (body .entry)) (now (out .entry)) ⌝ }
+    ensures { λ r. ⌜ writeLeaving r (now (out .exit)) ≡ writeOutcome kind (dims .0) (now (body .entry)) (now (out .entry)) ⌝ }
 {
     match check_write(kind, dims, body, out.len()) {
         WriteAnswer::Written(size) => {

@@ -17,7 +17,7 @@ use Rattle.vector_types.specs.declared.ReadAnswer.{ReadAnswer}
 use Rattle.vector_types.specs.declared.ReadAnswer.the-variants.{Accepted, Refused as Unread}
 use Rattle.vector_types.specs.declared.VectorType.{VectorType}
 use Rattle.convert_parts.specs.Result.{resultOf, scratchBody}
-use Rattle.convert.specs.Convert.{convertedTo, Conversion, conversion, refusing, bodyConversion, readConversion, conversionOf, ConvertOutcome, outcome, outcomeOf, convertOutcome}
+use Rattle.convert.specs.Convert.{convertedTo, Conversion, conversion, refusing, bodyConversion, readConversion, conversionOf, ConvertOutcome, convertLeaving, outcomeOf, convertOutcome}
 use Rattle.convert.specs.declared.ConvertAnswer.{ConvertAnswer}
 use Rattle.convert.specs.declared.ConvertAnswer.the-variants.{Converted, Refused}
 
@@ -30,7 +30,7 @@ module _ (k t : VectorType) (d : ℕ) (body scratch out : List ℕ) where
   new = resultOf k t d body
 
   abbrev Leaves : ConvertAnswer → (s o : List ℕ) → Type 0
-  Leaves r s o = outcome r s o ≡ outcomeOf (bodyConversion k t d body (length scratch) (length out)) scratch out
+  Leaves r s o = convertLeaving r s o ≡ outcomeOf (bodyConversion k t d body (length scratch) (length out)) scratch out
 
   module _ (whole : ℕ) (long : whole ≡ length dense) where
     pub scratch-short : length scratch < whole → (r : ConvertAnswer) → r ≡ Refused (needing 17 whole) → Leaves r scratch out
@@ -57,10 +57,10 @@ conversion-put s t v e scratch room h l =
     rw (e, le-ltb scratch (length dense) h, le-ltb room (length new) l)
 
 -- ---- an outcome, part by part: the answer, and the output
-pub outcome-parts : (s : List ℕ) (t : VectorType) (scratch out : List ℕ) (r : ConvertAnswer) (left o : List ℕ) → outcome r left o ≡ convertOutcome s t scratch out
+pub convert-outcome-parts : (s : List ℕ) (t : VectorType) (scratch out : List ℕ) (r : ConvertAnswer) (left o : List ℕ) → convertLeaving r left o ≡ convertOutcome s t scratch out
     → let c = conversionOf s t (length scratch) (length out) in (r ≡ c .answer) × (o ≡ onto (c .out) out)
 unfolding convertOutcome
-outcome-parts s t scratch out r left o e = (ap (λ (x : ConvertOutcome). x .answer) e, ap (λ (x : ConvertOutcome). x .out) e)
+convert-outcome-parts s t scratch out r left o e = (ap (λ (x : ConvertOutcome). x .answer) e, ap (λ (x : ConvertOutcome). x .out) e)
 
 -- ---- where a body was made, it has the length that is told, and there was room for it
 abbrev reach : ConvertAnswer → ℕ

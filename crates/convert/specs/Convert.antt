@@ -60,11 +60,11 @@ pub record ConvertOutcome : Type 0 where
   pub scratch : List ℕ
   pub out : List ℕ
 
-abbrev pub outcome : ConvertAnswer → List ℕ → List ℕ → ConvertOutcome
-outcome r scratch out = record { answer = r; scratch = scratch; out = out }
+abbrev pub convertLeaving : ConvertAnswer → List ℕ → List ℕ → ConvertOutcome
+convertLeaving r scratch out = record { answer = r; scratch = scratch; out = out }
 
 abbrev pub outcomeOf : Conversion → List ℕ → List ℕ → ConvertOutcome
-outcomeOf c scratch out = outcome (c .answer) (onto (c .scratch) scratch) (onto (c .out) out)
+outcomeOf c scratch out = convertLeaving (c .answer) (onto (c .scratch) scratch) (onto (c .out) out)
 
 unfoldable pub convertOutcome : List ℕ → VectorType → List ℕ → List ℕ → ConvertOutcome
 unfolding conversionOf

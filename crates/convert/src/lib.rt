@@ -8,7 +8,7 @@ ghost use Rattle.vector_types.specs.Read.{readOf};
 ghost use Rattle.vector_types.specs.Parts.{bodyOf};
 ghost use Rattle.vector_types.specs.declared.ReadAnswer.the-variants.{Accepted};
 ghost use Rattle.convert_parts.specs.inner.Fitting.{Fitting};
-ghost use Rattle.convert.specs.Convert.{convertedTo, bodyConversion, outcome, outcomeOf, convertOutcome};
+ghost use Rattle.convert.specs.Convert.{convertedTo, bodyConversion, convertLeaving, outcomeOf, convertOutcome};
 ghost use Rattle.convert.specs.declared.ConvertAnswer.the-variants.{Refused};
 use dispatch::put_result;
 use dispatch::result_length;
@@ -52,7 +52,7 @@ fn convert_body(
     out: &mut [u8],
 ) -> ConvertAnswer
     requires { ⌜ Fitting kind dims (now body) ⌝ }
-    ensures { λ r. ⌜ outcome r (now (scratch .exit)) (now (out .exit))
+    ensures { λ r. ⌜ convertLeaving r (now (scratch .exit)) (now (out .exit))
         ≡ outcomeOf (bodyConversion kind target dims (now (body .entry)) (length (now (scratch .entry))) (length (now (out .entry)))) (now (scratch .entry)) (now (out .entry)) ⌝ }
 {
     let whole = scratch_length(kind, target, dims);
@@ -76,7 +76,7 @@ fn convert_view(
     out: &mut [u8],
 ) -> ConvertAnswer
     requires { ⌜ readOf (now blob) ≡ Accepted view ⌝ }
-    ensures { λ r. ⌜ outcome r (now (scratch .exit)) (now (out .exit))
+    ensures { λ r. ⌜ convertLeaving r (now (scratch .exit)) (now (out .exit))
         ≡ outcomeOf (bodyConversion (view .kind) target (view .dims .0) (bodyOf (now (blob .entry))) (length (now (scratch .entry))) (length (now (out .entry)))) (now (scratch .entry)) (now (out .entry)) ⌝ }
 {
     let kind = view.kind;
@@ -88,7 +88,7 @@ fn convert_view(
 // Converts a blob to a kind: puts the new body at the start of out. Where a sparse blob becomes 1-bit
 // or Float8, its dense body is left at the start of scratch. A refusal changes nothing.
 pub fn convert(blob: &[u8], target: VectorType, scratch: &mut [u8], out: &mut [u8]) -> ConvertAnswer
-    ensures { λ r. ⌜ outcome r (now (scratch .exit)) (now (out .exit)) ≡ convertOutcome (now (blob .entry)) target (now (scratch .entry)) (now (out .entry)) ⌝ }
+    ensures { λ r. ⌜ convertLeaving r (now (scratch .exit)) (now (out .exit)) ≡ convertOutcome (now (blob .entry)) target (now (scratch .entry)) (now (out .entry)) ⌝ }
 {
     match vector_types::read(blob) {
         ReadAnswer::Accepted(view) => convert_view(blob, view, target, scratch, out),

@@ -6,14 +6,14 @@ use lib.Ieee.{toBits, binary64}
 use Rattle.vector_types.specs.Answers.{readNumber}
 use Rattle.blob_writer.specs.Answers.{writeNumber}
 use Rattle.vector_types.specs.Layout.{byteOf, byByte}
-use Rattle.blob_writer.specs.Write.{WriteOutcome, outcome, writeOutcome}
+use Rattle.blob_writer.specs.Write.{WriteOutcome, writeLeaving, writeOutcome}
 use Rattle.vector_types.specs.declared.Detail.{Detail}
 use Rattle.vector_types.specs.declared.Detail.the-variants.{Nothing, Needs}
 use Rattle.vector_types.specs.declared.ReadAnswer.{ReadAnswer}
 use Rattle.vector_types.specs.declared.ReadAnswer.the-variants.{Accepted, Refused as ReadRefused}
 use Rattle.blob_writer.specs.declared.WriteAnswer.{WriteAnswer}
 use Rattle.blob_writer.specs.declared.WriteAnswer.the-variants.{Written, Refused as WriteRefused}
-use Rattle.convert.specs.Convert.{convertNumber, ConvertOutcome, outcome as leaving, convertOutcome}
+use Rattle.convert.specs.Convert.{convertNumber, ConvertOutcome, convertLeaving, convertOutcome}
 use Rattle.convert.specs.declared.ConvertAnswer.{ConvertAnswer}
 use Rattle.convert.specs.declared.ConvertAnswer.the-variants.{Converted, Refused as ConvertRefused}
 use Rattle.distance.specs.Answer.{distanceNumber}
@@ -49,7 +49,7 @@ readExport r before = leaves (readNumber r) (readFields r) before []
 -- of writing: the outcome for a type byte, dims and body, and a buffer; the length of a blob that is written
 abbrev pub writeAs : Chosen → ℕ → List ℕ → List ℕ → WriteOutcome
 writeAs (Kind k) d body out = writeOutcome k d body out
-writeAs (Refused r) d body out = outcome (WriteRefused r) out
+writeAs (Refused r) d body out = writeLeaving (WriteRefused r) out
 
 unfoldable pub writtenBy : ℕ → ℕ → List ℕ → List ℕ → WriteOutcome
 writtenBy byte d body out = writeAs (chosenOf (byByte byte)) d body out
@@ -64,7 +64,7 @@ writeExport o before = leaves (writeNumber (o .answer)) (writeFields (o .answer)
 -- of converting: the outcome for a blob and a type byte, and two buffers; the dims and the length of a new body
 abbrev pub convertAs : Chosen → List ℕ → List ℕ → List ℕ → ConvertOutcome
 convertAs (Kind t) blob scratch out = convertOutcome blob t scratch out
-convertAs (Refused r) blob scratch out = leaving (ConvertRefused r) scratch out
+convertAs (Refused r) blob scratch out = convertLeaving (ConvertRefused r) scratch out
 
 unfoldable pub convertedBy : List ℕ → ℕ → List ℕ → List ℕ → ConvertOutcome
 convertedBy blob byte scratch out = convertAs (chosenOf (byByte byte)) blob scratch out

@@ -1,7 +1,7 @@
 // Converting a blob to another kind.
 ghost use mathlib.Core.Path.{_≡_};
 ghost use mathlib.Core.List.{[], _∷_};
-ghost use Rattle.convert.specs.Convert.{convertNumber, outcome};
+ghost use Rattle.convert.specs.Convert.{convertNumber, convertLeaving};
 ghost use Rattle.fulandewu.specs.Fields.{exportOutcome, leaves};
 ghost use Rattle.fulandewu.specs.Exported.{convertedBy, convertFields, convertExport};
 use crate::fields::Answer;
@@ -14,7 +14,7 @@ use convert::ConvertAnswer;
 
 // Converts a blob to the kind that a byte names.
 fn convert_as(blob: &[u8], kind: u8, scratch: &mut [u8], out: &mut [u8]) -> ConvertAnswer
-    ensures { λ r. ⌜ outcome r (now (scratch .exit)) (now (out .exit)) ≡ convertedBy (now (blob .entry)) kind (now (scratch .entry)) (now (out .entry)) ⌝ }
+    ensures { λ r. ⌜ convertLeaving r (now (scratch .exit)) (now (out .exit)) ≡ convertedBy (now (blob .entry)) kind (now (scratch .entry)) (now (out .entry)) ⌝ }
 {
     match kind_of(kind) {
         Chosen::Kind(target) => convert::convert(blob, target, scratch, out),

@@ -2,7 +2,7 @@
 ghost use mathlib.Core.Path.{_≡_};
 ghost use mathlib.Core.List.{[], _∷_};
 ghost use Rattle.blob_writer.specs.Answers.{writeNumber};
-ghost use Rattle.blob_writer.specs.Write.{outcome};
+ghost use Rattle.blob_writer.specs.Write.{writeLeaving};
 ghost use Rattle.fulandewu.specs.Fields.{exportOutcome, leaves};
 ghost use Rattle.fulandewu.specs.Exported.{writtenBy, writeFields, writeExport};
 use crate::fields::Answer;
@@ -15,7 +15,7 @@ use vector_types::Dims;
 
 // Writes a blob of the kind that a byte names.
 fn write_as(kind: u8, dims: usize, body: &[u8], out: &mut [u8]) -> WriteAnswer
-    ensures { λ r. ⌜ outcome r (now (out .exit)) ≡ writtenBy kind dims (now (body .entry)) (now (out .entry)) ⌝ }
+    ensures { λ r. ⌜ writeLeaving r (now (out .exit)) ≡ writtenBy kind dims (now (body .entry)) (now (out .entry)) ⌝ }
 {
     match kind_of(kind) {
         Chosen::Kind(named) => blob_writer::write(named, Dims(dims), body, out),

@@ -2,7 +2,7 @@
 use mathlib.Core.Path.{_≡_, sym, ap, _∙_}
 use lib.ListN.{length}
 use Rattle.blob_writer.specs.Answers.{written}
-use Rattle.blob_writer.specs.Write.{writeOf, outcome, writeOutcome}
+use Rattle.blob_writer.specs.Write.{writeOf, writeLeaving, writeOutcome}
 use Rattle.blob_writer.proofs.Written.{writable, written-clear}
 use borrow.Author.Needs.{needs}
 use Rattle.blob_writer.proofs.write.Statement.{statement}
@@ -25,7 +25,7 @@ unfolding writeOutcome
 returns c =
     let put = c .before .before in
     let arm = put .before .before .before in
-    rw (length-answered arm) (ap (outcome (written _)) (put .put-blob .ensures))
+    rw (length-answered arm) (ap (writeLeaving (written _)) (put .put-blob .ensures))
 
 returns-2 : tie.Need-returns-2
 unfolding writeOutcome

@@ -7,7 +7,7 @@ use Rattle.lines.specs.Text.{word}
 use Rattle.promises.specs.Onto.{onto}
 use Rattle.convert.specs.Convert.{Conversion, conversionOf}
 use Rattle.convert.specs.declared.ConvertAnswer.{ConvertAnswer}
-use Rattle.convert.proofs.Answered.{outcome-parts}
+use Rattle.convert.proofs.Answered.{convert-outcome-parts}
 use Rattle.promises.proofs.Puts.{puts-same}
 use Rattle.probe_blobs.specs.Blobs.{vectorText, convertText, convertBlobText}
 use Rattle.probe_blobs.proofs.BlobTexts.{converted-room}
@@ -24,7 +24,7 @@ abbrev conversion : tie.After-convert → Conversion
 conversion c = let a = start c .args in conversionOf (a .blob .now) (a .target) (length (a .scratch .now)) (length (a .made .now))
 
 answer : (c : tie.After-convert) → (c .convert .result ≡ conversion c .answer) × (c .convert .last .1 .1 .1 .0 ≡ onto (conversion c .out) (start c .args .made .now))
-answer c = let a = start c .args in outcome-parts (a .blob .now) (a .target) (a .scratch .now) (a .made .now) _ _ _ (c .convert .ensures)
+answer c = let a = start c .args in convert-outcome-parts (a .blob .now) (a .target) (a .scratch .now) (a .made .now) _ _ _ (c .convert .ensures)
 
 text : (c : tie.After-convert) (r : ConvertAnswer) → c .convert .result ≡ r → let a = start c .args in convertText r (conversion c .out) ≡ convertBlobText (a .target) (a .blob .now)
 text c r e =

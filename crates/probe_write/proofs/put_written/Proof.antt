@@ -9,7 +9,7 @@ use Rattle.lines.specs.Hex.{hexOf}
 use Rattle.vector_types.specs.Layout.{maxBlobLength}
 use Rattle.blob_writer.specs.Write.{blobOf, writeOf, writeOutcome}
 use Rattle.blob_writer.specs.declared.WriteAnswer.{WriteAnswer}
-use Rattle.blob_writer.proofs.Written.{outcome-parts}
+use Rattle.blob_writer.proofs.Written.{write-outcome-parts}
 use Rattle.promises.proofs.Puts.{puts-same, puts-copy, puts-then}
 use Rattle.probe_write.specs.Write.{writeText, writeBodyText}
 use Rattle.probe_write.proofs.WriteTexts.{written-room}
@@ -29,7 +29,7 @@ blob c = let a = start c .args in blobOf (a .kind) (a .dims) (a .body .now)
 answer : (c : tie.After-write) → let a = start c .args in
     (c .write .result ≡ writeOf (a .kind) (a .dims) (a .body .now) (length (a .made .now)))
     × (c .write .last .1 .1 .1 .0 ≡ writeOutcome (a .kind) (a .dims) (a .body .now) (a .made .now) .out)
-answer c = let a = start c .args in outcome-parts (a .kind) (a .dims) (a .body .now) (a .made .now) _ _ (c .write .ensures)
+answer c = let a = start c .args in write-outcome-parts (a .kind) (a .dims) (a .body .now) (a .made .now) _ _ (c .write .ensures)
 
 text : (c : tie.After-write) (w : WriteAnswer) → c .write .result ≡ w → let a = start c .args in writeText w (blob c) ≡ writeBodyText (a .kind) (a .dims) (a .body .now)
 text c w e = ap (λ (x : WriteAnswer). writeText x (blob c)) (sym e ∙ rw (← start c .pre .0) (answer c .0))
