@@ -24,7 +24,7 @@ use Rattle.convert_parts.specs.declared.quantized.Range.{Range}
 use Rattle.convert_parts.proofs.Places.{places-all, length-stored}
 use Rattle.convert_parts.proofs.Ranged.{Among, least-of, greatest-of, least-stays, greatest-stays}
 use Rattle.convert_parts.proofs.Same.{pieces-same}
-use Rattle.convert_parts.proofs.Searched.{Searched}
+use Rattle.convert_parts.proofs.RangeSoFar.{RangeSoFar}
 use Rattle.convert_parts.proofs.Through.{sparse-through}
 
 module _ (body : List ℕ) where
@@ -81,7 +81,7 @@ module _ (body : List ℕ) where
       go true = refl
       go false = refl
 
-  pub both-met : {n i : ℕ} {r : Range} → Searched e n i r → lt (r .low) (r .high) ≡ true → r ≡ rangeOf e n
+  pub both-met : {n i : ℕ} {r : Range} → RangeSoFar e n i r → lt (r .low) (r .high) ≡ true → r ≡ rangeOf e n
   both-met {n} {i} s both =
       let (low, high) = ends i (least e i) (greatest e i) (least-of e i) (greatest-of e i) (rw (s .found) at both) in
       let down = least-stays e (unit true) none-lower i n (s .within) low in

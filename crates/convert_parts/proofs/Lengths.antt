@@ -20,7 +20,7 @@ use Rattle.convert_parts.specs.Result.{resultOf, scratchBody}
 use Rattle.convert_parts.specs.inner.Fitting.{Fitting}
 use Rattle.convert_parts.proofs.Pieces.{length-floats}
 use Rattle.convert_parts.proofs.Packed.{length-packed}
-use Rattle.convert_parts.proofs.Searched.{length-quantized}
+use Rattle.convert_parts.proofs.RangeSoFar.{length-quantized}
 use Rattle.convert_parts.proofs.Spread.{length-spread}
 
 quantized-length : (d : ℕ) (body : List ℕ) → length (quantizedBody d body) ≡ 4 * ceil d 4 + 8

@@ -6,7 +6,7 @@ pub mod Spread
 pub mod Packed
 pub mod Patterns
 pub mod Ranged
-pub mod Searched
+pub mod RangeSoFar
 pub mod Same
 pub mod Through
 pub mod Lengths

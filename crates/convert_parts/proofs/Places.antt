@@ -9,7 +9,7 @@ use native.Mathlib.Omega.{arith}
 use lib.ListN.{length, length-append}
 use Rattle.little_endian.specs.Bytes.{bytesOf}
 use Rattle.little_endian.proofs.Numbers.{length-bytesOf}
-use Rattle.convert_parts.specs.Pieces.{placesOf, each}
+use Rattle.convert_parts.specs.Pieces.{placesOf, piecesAt}
 use Rattle.convert_parts.specs.Sparse.{storedBody}
 
 -- ---- places: one more or none for each step
@@ -70,35 +70,35 @@ module _ (p : ℕ → Bool) where
   places-all h (suc n) = rw (length-append, ← (h n), places-all h n) (omega arith)
 
 -- ---- the pieces of places, which have w bytes each
-pub each-append : (g : ℕ → List ℕ) (is js : List ℕ) → each g (is ++ js) ≡ each g is ++ each g js
-unfolding each
-each-append g [] js = refl
-each-append g (i ∷ is) js = rw (append-assoc, ← each-append g is js)
+pub piecesAt-append : (g : ℕ → List ℕ) (is js : List ℕ) → piecesAt g (is ++ js) ≡ piecesAt g is ++ piecesAt g js
+unfolding piecesAt
+piecesAt-append g [] js = refl
+piecesAt-append g (i ∷ is) js = rw (append-assoc, ← piecesAt-append g is js)
 
-pub each-snoc : (g : ℕ → List ℕ) (is : List ℕ) (i : ℕ) → each g (is ++ (i ∷ [])) ≡ each g is ++ g i
-unfolding each
-each-snoc g is i = rw (each-append g is (i ∷ []), append-nil)
+pub piecesAt-snoc : (g : ℕ → List ℕ) (is : List ℕ) (i : ℕ) → piecesAt g (is ++ (i ∷ [])) ≡ piecesAt g is ++ g i
+unfolding piecesAt
+piecesAt-snoc g is i = rw (piecesAt-append g is (i ∷ []), append-nil)
 
-length-each : (g : ℕ → List ℕ) (w : ℕ) (p : ℕ → Bool) (n : ℕ) → ((i : ℕ) → i < n → length (g i) ≡ w)
-    → length (each g (placesOf p n)) ≡ w * length (placesOf p n)
-unfolding placesOf each
-length-each g w p zero h = omega arith
-length-each g w p (suc n) h =
-    let lower = length-each g w p n (λ i l. h i (omega arith)) in
-    simp (each-append, length-append, lower) (omega (arith, last (p n)))
+length-piecesAt : (g : ℕ → List ℕ) (w : ℕ) (p : ℕ → Bool) (n : ℕ) → ((i : ℕ) → i < n → length (g i) ≡ w)
+    → length (piecesAt g (placesOf p n)) ≡ w * length (placesOf p n)
+unfolding placesOf piecesAt
+length-piecesAt g w p zero h = omega arith
+length-piecesAt g w p (suc n) h =
+    let lower = length-piecesAt g w p n (λ i l. h i (omega arith)) in
+    simp (piecesAt-append, length-append, lower) (omega (arith, last (p n)))
   where
-    last : (b : Bool) → length (each g (cond b (n ∷ []) [])) ≡ w * length (cond b (n ∷ []) [])
+    last : (b : Bool) → length (piecesAt g (cond b (n ∷ []) [])) ≡ w * length (cond b (n ∷ []) [])
     last true = rw length-append (omega (arith, h n (omega arith)))
     last false = omega arith
 
 -- ---- the values and the indices that a sparse body is made of
-pub length-indices : (p : ℕ → Bool) (n : ℕ) → length (each (bytesOf 4) (placesOf p n)) ≡ 4 * length (placesOf p n)
-length-indices p n = length-each (bytesOf 4) 4 p n (λ i _. length-bytesOf 4 i)
+pub length-indices : (p : ℕ → Bool) (n : ℕ) → length (piecesAt (bytesOf 4) (placesOf p n)) ≡ 4 * length (placesOf p n)
+length-indices p n = length-piecesAt (bytesOf 4) 4 p n (λ i _. length-bytesOf 4 i)
 
 -- values of four bytes
 module _ (value : ℕ → List ℕ) (d : ℕ) (wide : (i : ℕ) → i < d → length (value i) ≡ 4) where
-  pub length-values : (p : ℕ → Bool) (n : ℕ) → n ≤ d → length (each value (placesOf p n)) ≡ 4 * length (placesOf p n)
-  length-values p n h = length-each value 4 p n (λ i l. wide i (omega arith))
+  pub length-values : (p : ℕ → Bool) (n : ℕ) → n ≤ d → length (piecesAt value (placesOf p n)) ≡ 4 * length (placesOf p n)
+  length-values p n h = length-piecesAt value 4 p n (λ i l. wide i (omega arith))
 
   pub length-stored : (p : ℕ → Bool) → length (storedBody p value d) ≡ 8 * length (placesOf p d)
   unfolding storedBody

@@ -11,9 +11,9 @@ use Rattle.promises.specs.Onto.{onto}
 use Rattle.little_endian.specs.Bytes.{put, bytesOf}
 use Rattle.little_endian.proofs.Put.{length-put, put-nothing, put-put}
 use Rattle.little_endian.proofs.Numbers.{length-bytesOf}
-use Rattle.convert_parts.specs.Pieces.{placesOf, each}
+use Rattle.convert_parts.specs.Pieces.{placesOf, piecesAt}
 use Rattle.convert_parts.specs.Sparse.{storedBody}
-use Rattle.convert_parts.proofs.Places.{places-next, length-next, places-room, each-snoc, length-values, length-indices}
+use Rattle.convert_parts.proofs.Places.{places-next, length-next, places-room, piecesAt-snoc, length-values, length-indices}
 
 -- ---- bytes put at the front, and at two places that are m bytes apart, in either order
 put-front : (l vs : List ℕ) → put l 0 vs ≡ onto vs l
@@ -59,10 +59,10 @@ module _ (l : List ℕ) (at : ℕ) (us vs : List ℕ) where
 -- ---- the values and the indices of the places below i that pass p, laid out for count of these
 module _ (p : ℕ → Bool) (value : ℕ → List ℕ) (d count : ℕ) (l : List ℕ) where
   abbrev laid : ℕ → List ℕ
-  laid i = put (put l 0 (each value (placesOf p i))) (4 * count) (each (bytesOf 4) (placesOf p i))
+  laid i = put (put l 0 (piecesAt value (placesOf p i))) (4 * count) (piecesAt (bytesOf 4) (placesOf p i))
 
   laid-none : laid 0 ≡ l
-  unfolding placesOf each
+  unfolding placesOf piecesAt
   laid-none = rw (put-nothing (put l 0 []) (4 * count), put-nothing l 0)
 
   -- a loop that lays them out: before place i there are n entries, and out holds them
@@ -87,13 +87,13 @@ module _ (p : ℕ → Bool) (value : ℕ → List ℕ) (d count : ℕ) (l : List
 
         by : (b : Bool) → length places + length (cond b (i ∷ []) []) ≤ count
             → cond b (put (put (laid i) (4 * n) (value i)) (4 * count + 4 * n) (bytesOf 4 i)) (laid i)
-            ≡ put (put l 0 (each value (places ++ cond b (i ∷ []) []))) (4 * count) (each (bytesOf 4) (places ++ cond b (i ∷ []) []))
+            ≡ put (put l 0 (piecesAt value (places ++ cond b (i ∷ []) []))) (4 * count) (piecesAt (bytesOf 4) (places ++ cond b (i ∷ []) []))
         by true fits =
-            let values : length (each value places) ≡ 4 * n = rw e (length-values value d wide p i (omega arith)) in
-            let indices : length (each (bytesOf 4) places) ≡ 4 * n = rw e (length-indices p i) in
-            rw (each-snoc value places i, each-snoc (bytesOf 4) places i, ← values)
+            let values : length (piecesAt value places) ≡ 4 * n = rw e (length-values value d wide p i (omega arith)) in
+            let indices : length (piecesAt (bytesOf 4) places) ≡ 4 * n = rw e (length-indices p i) in
+            rw (piecesAt-snoc value places i, piecesAt-snoc (bytesOf 4) places i, ← values)
             (rw (indices, ← values) at
-            (regions-grown l (4 * count) (each value places) (each (bytesOf 4) places) (value i) (bytesOf 4 i) (omega (arith, wide i h)) (omega (arith, length-bytesOf 4 i))))
+            (regions-grown l (4 * count) (piecesAt value places) (piecesAt (bytesOf 4) places) (value i) (bytesOf 4 i) (omega (arith, wide i h)) (omega (arith, length-bytesOf 4 i))))
         by false fits = rw append-nil
 
     laid-all : laid d ≡ onto (storedBody p value d) l
@@ -101,7 +101,7 @@ module _ (p : ℕ → Bool) (value : ℕ → List ℕ) (d count : ℕ) (l : List
     laid-all =
         let values = length-values value d wide p d (omega arith) in
         let indices = length-indices p d in
-        regions-joined l (4 * count) (each value (placesOf p d)) (each (bytesOf 4) (placesOf p d)) (omega arith) (omega arith)
+        regions-joined l (4 * count) (piecesAt value (placesOf p d)) (piecesAt (bytesOf 4) (placesOf p d)) (omega arith) (omega arith)
 
     module _ {out : List ℕ} {n i : ℕ} (h : Laying out n i) where
       -- place i, which is stored or not, and its value's bytes

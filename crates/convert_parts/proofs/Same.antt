@@ -8,10 +8,10 @@ use lib.Dec.{ltb}
 use lib.Ieee.{Float}
 use borrow.Author.Tests.{ltb-true}
 use Rattle.vector_types.specs.Layout.{ceil}
-use Rattle.convert_parts.specs.Pieces.{pieces, placesOf, each}
+use Rattle.convert_parts.specs.Pieces.{pieces, placesOf, piecesAt}
 use Rattle.convert_parts.specs.Bits.{packedByte, packedBits}
 use Rattle.convert_parts.specs.Quantized.{least, greatest, quantum, fittedScale, quantizedWith}
-use Rattle.convert_parts.proofs.Places.{each-append}
+use Rattle.convert_parts.proofs.Places.{piecesAt-append}
 
 abbrev pub Same : {A : Type 0} → (ℕ → A) → (ℕ → A) → ℕ → Type 0
 Same e e′ n = (i : ℕ) → i < n → e i ≡ e′ i
@@ -26,13 +26,13 @@ unfolding placesOf
 places-same p q zero s = refl
 places-same p q (suc n) s = rw (places-same p q n (λ i l. s i (omega arith)), s n (omega arith))
 
-pub each-same : (g h : ℕ → List ℕ) (p : ℕ → Bool) (n : ℕ) → Same g h n → each g (placesOf p n) ≡ each h (placesOf p n)
-unfolding placesOf each
-each-same g h p zero s = refl
-each-same g h p (suc n) s =
-    rw (each-append, each-append, each-same g h p n (λ i l. s i (omega arith))) (ap (λ (l : List ℕ). each h (placesOf p n) ++ l) (last (p n)))
+pub piecesAt-same : (g h : ℕ → List ℕ) (p : ℕ → Bool) (n : ℕ) → Same g h n → piecesAt g (placesOf p n) ≡ piecesAt h (placesOf p n)
+unfolding placesOf piecesAt
+piecesAt-same g h p zero s = refl
+piecesAt-same g h p (suc n) s =
+    rw (piecesAt-append, piecesAt-append, piecesAt-same g h p n (λ i l. s i (omega arith))) (ap (λ (l : List ℕ). piecesAt h (placesOf p n) ++ l) (last (p n)))
   where
-    last : (b : Bool) → each g (cond b (n ∷ []) []) ≡ each h (cond b (n ∷ []) [])
+    last : (b : Bool) → piecesAt g (cond b (n ∷ []) []) ≡ piecesAt h (cond b (n ∷ []) [])
     last true = rw (s n (omega arith))
     last false = refl
 

@@ -20,7 +20,7 @@ use Rattle.convert_parts.specs.Sparse.{isNonzero, storedBody, valueBytes
 use Rattle.convert_parts.specs.Bits.{isPositive, packedBits, bitBody}
 use Rattle.convert_parts.specs.Quantized.{fittedScale, quantizedWith, quantizedBody}
 use Rattle.convert_parts.proofs.Pieces.{length-pieces}
-use Rattle.convert_parts.proofs.Same.{Same, places-same, each-same, packed-same, quantized-same}
+use Rattle.convert_parts.proofs.Same.{Same, places-same, piecesAt-same, packed-same, quantized-same}
 
 -- ---- piece i of pieces of w bytes each, and float i of floats
 module _ (g : ℕ → List ℕ) (w : ℕ) (wide : (i : ℕ) → length (g i) ≡ w) where
@@ -73,7 +73,7 @@ module _ (e : ℕ → Float) (d : ℕ) (fit : (i : ℕ) → T (fits binary32 (e 
   sparse-through =
       let p : ℕ → Bool = λ i. isNonzero (e i) in
       let places = places-same (λ i. isNonzero (denseElement binary32 dense i)) p d (λ i l. ap isNonzero (read-back i l)) in
-      rw (places, each-same (valueBytes binary32 dense) (λ i. floatBytes binary32 (e i)) p d (float-bytes-at binary32 e d))
+      rw (places, piecesAt-same (valueBytes binary32 dense) (λ i. floatBytes binary32 (e i)) p d (float-bytes-at binary32 e d))
 
   pub bits-through : bitBody binary32 d dense ≡ packedBits (λ i. isPositive (e i)) d
   bits-through = packed-same (λ i. isPositive (denseElement binary32 dense i)) (λ i. isPositive (e i)) d (λ i l. ap isPositive (read-back i l))

@@ -9,7 +9,7 @@ use Rattle.rounding.specs.Truncate.{truncated}
 use Rattle.little_endian.specs.Bytes.{numberAt, bytesOf, put}
 use Rattle.vector_types.specs.declared.VectorType.{VectorType}
 use Rattle.vector_types.specs.declared.VectorType.the-variants.{Float32Dense, Float64Dense, Float32Sparse, Float1Bit, Float8}
-use Rattle.convert_parts.specs.Pieces.{each}
+use Rattle.convert_parts.specs.Pieces.{piecesAt}
 use Rattle.convert_parts.specs.Spread.{spread}
 use Rattle.convert_parts.specs.Result.{resultOf}
 
@@ -26,10 +26,10 @@ becomes k d body t result = record { kind = k; dims = d; body = body; target = t
 
 -- the bytes of patterns of f32, or of indices, and of patterns of f64
 abbrev pub words : List ℕ → List ℕ
-words ns = each (bytesOf 4) ns
+words ns = piecesAt (bytesOf 4) ns
 
 abbrev pub longWords : List ℕ → List ℕ
-longWords ns = each (bytesOf 8) ns
+longWords ns = piecesAt (bytesOf 8) ns
 
 -- patterns of f32: 1.0, -1.0, 2.0, -0.0, a NaN, and one with a payload
 abbrev pub one : ℕ
@@ -99,5 +99,5 @@ table =
     ∷ []
 
 pub table-holds : map (λ (e : Example). resultOf (e .kind) (e .target) (e .dims) (e .body)) table ≡ map (λ (e : Example). e .result) table
-unfolding resultOf spread each narrowed truncated numberAt bytesOf put add sub mul div lt eq ofInt ofBits toBits
+unfolding resultOf spread piecesAt narrowed truncated numberAt bytesOf put add sub mul div lt eq ofInt ofBits toBits
 table-holds = refl

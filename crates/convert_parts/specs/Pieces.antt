@@ -13,7 +13,7 @@ unfoldable pub placesOf : (ℕ → Bool) → ℕ → List ℕ
 placesOf p zero = []
 placesOf p (suc n) = placesOf p n ++ cond (p n) (n ∷ []) []
 
--- the pieces of the places of a list
-unfoldable pub each : (ℕ → List ℕ) → List ℕ → List ℕ
-each g [] = []
-each g (i ∷ is) = g i ++ each g is
+-- the pieces at the places of a list, one after another
+unfoldable pub piecesAt : (ℕ → List ℕ) → List ℕ → List ℕ
+piecesAt g [] = []
+piecesAt g (i ∷ is) = g i ++ piecesAt g is

@@ -8,15 +8,15 @@ use Rattle.float_laws.specs.Zero.{plusZero}
 use Rattle.rounding.specs.Narrow.{narrowed}
 use Rattle.little_endian.specs.Bytes.{bytesOf, floatBytes}
 use Rattle.bodies.specs.Elements.{denseElement}
-use Rattle.convert_parts.specs.Pieces.{placesOf, each}
+use Rattle.convert_parts.specs.Pieces.{placesOf, piecesAt}
 
 abbrev pub isNonzero : Float → Bool
 isNonzero x = not (eq x plusZero)
 
 -- the places below d that pass a test: their values, then their indices
 unfoldable pub storedBody : (ℕ → Bool) → (ℕ → List ℕ) → ℕ → List ℕ
-unfolding placesOf each
-storedBody p value d = let places = placesOf p d in each value places ++ each (bytesOf 4) places
+unfolding placesOf piecesAt
+storedBody p value d = let places = placesOf p d in piecesAt value places ++ piecesAt (bytesOf 4) places
 
 -- the value of element i: an f32 is copied, an f64 rounded
 abbrev pub valueBytes : Format → List ℕ → ℕ → List ℕ

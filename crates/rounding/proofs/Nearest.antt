@@ -66,23 +66,23 @@ pub record Between (f : Format) (v : ℕ) (mid : ℕ → ℕ) (b : ℕ) : Type 0
   pub previous : (c : ℕ) → suc c ≡ b → LessOrTie (mid (count f b + count f c)) v (b % 2 ≡ 0)
   pub next : b < ones f * hid f → LessOrTie v (mid (count f b + count f (suc b))) (b % 2 ≡ 0)
 
-abbrev pub Rising : (ℕ → ℕ) → Type 0
-Rising mid = (a b : ℕ) → a < b → mid a < mid b
+abbrev pub Increasing : (ℕ → ℕ) → Type 0
+Increasing mid = (a b : ℕ) → a < b → mid a < mid b
 
-rising-le : (mid : ℕ → ℕ) → Rising mid → (a b : ℕ) → a ≤ b → mid a ≤ mid b
-rising-le mid r a b h = go (eq-or-lt-of-le h)
+increasing-le : (mid : ℕ → ℕ) → Increasing mid → (a b : ℕ) → a ≤ b → mid a ≤ mid b
+increasing-le mid r a b h = go (eq-or-lt-of-le h)
   where
     go : (a ≡ b) ⊎ (a < b) → mid a ≤ mid b
     go (inl e) = le-of-eq (ap mid e)
     go (inr l) = le-of-lt (r a b l)
 
-module _ (f : Format) (s : Bool) (v : ℕ) (mid : ℕ → ℕ) (rising : Rising mid) where
+module _ (f : Format) (s : Bool) (v : ℕ) (mid : ℕ → ℕ) (rising : Increasing mid) where
   -- the point midway between two patterns' values
   abbrev midway : ℕ → ℕ → ℕ
   midway a b = mid (count f a + count f b)
 
   midway-le : (a b c : ℕ) → b ≤ c → midway a b ≤ midway a c
-  midway-le a b c h = rising-le mid rising (count f a + count f b) (count f a + count f c) (add-le-add (le-refl (count f a)) (count-le f b c h))
+  midway-le a b c h = increasing-le mid rising (count f a + count f b) (count f a + count f c) (add-le-add (le-refl (count f a)) (count-le f b c h))
 
   midway-lt : (a b c : ℕ) → b < c → midway a b < midway a c
   midway-lt a b c h = rising (count f a + count f b) (count f a + count f c) (add-lt (count f a) (count f b) (count f c) (count-lt f b c h))

@@ -18,11 +18,11 @@ use Rattle.rounding.specs.Root.{IsRoot, root, radicand, RootExactly}
 use Rattle.rounding.specs.inner.Parts.{IsWholeRoot, IsNormalized, IsRootPattern}
 use Rattle.rounding.proofs.Compare.{compare-lt, compare-gt, compare-scale}
 use Rattle.rounding.proofs.Patterns.{signed, signed-value, hid-pos, twice-hid, digits-pos, count-is, count-at, count-lt}
-use Rattle.rounding.proofs.Nearest.{Rising, nearest-unique, pick-nearest, floor-nearest, nearest-scale}
+use Rattle.rounding.proofs.Nearest.{Increasing, nearest-unique, pick-nearest, floor-nearest, nearest-scale}
 use Rattle.rounding.proofs.WholeRootLaw.{square-le, lt-next-square, root-ge, root-lt}
 
 -- ---- one value, and only one
-squares-rise : (D : ℕ) → 0 < D → Rising (λ M. M * M * D)
+squares-rise : (D : ℕ) → 0 < D → Increasing (λ M. M * M * D)
 squares-rise D p a b l = mul-lt-mul-of-pos-right (lt-of-le-of-lt (mul-le-mul-left a (le-of-lt l)) (mul-lt-mul-of-pos-right l (lt-of-le-of-lt zero-le l))) p
 
 pub root-is : (f : Format) (x : Float) → IsRoot f x (root f x)

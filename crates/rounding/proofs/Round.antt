@@ -21,7 +21,7 @@ use Rattle.rounding.specs.inner.Pick.{count}
 use Rattle.rounding.proofs.Compare.{Compared, compared, compare-lt, compare-eq, compare-gt, compare-scale}
 use Rattle.rounding.proofs.Closest.{nearest-add-even}
 use Rattle.rounding.proofs.Patterns.{Full, full-suc, signed, signed-infinity, signed-value, hid-even, twice-hid, count-at, count-top, count-lt, count-le}
-use Rattle.rounding.proofs.Nearest.{Rising, floor-nearest, top-nearest}
+use Rattle.rounding.proofs.Nearest.{Increasing, floor-nearest, top-nearest}
 
 -- ---- q * 2 ^ k smallest values are the pattern k * hid + q; from an infinity's pattern on, the infinity
 module _ (f : Format) (s : Bool) (q k : ℕ) (full : Full (hid f) k q) (most : q ≤ 2 * hid f) where
@@ -62,7 +62,7 @@ module _ (f : Format) (s : Bool) (N C a d k : ℕ) (pC : 0 < C) (pd : 0 < d) (sa
   abbrev mid : ℕ → ℕ
   mid M = M * C
 
-  rising : Rising mid
+  rising : Increasing mid
   rising x y l = mul-lt-mul-of-pos-right l pC
 
   -- everything over the common d * (U * C)

@@ -5,7 +5,7 @@ use lib.Ieee.{binary32}
 use Rattle.bodies.specs.Elements.{bitElement}
 use Rattle.bodies.proofs.Elements.{bit-fits}
 use Rattle.convert_parts.specs.Result.{resultOf}
-use Rattle.convert_parts.proofs.Searched.{quantized-put}
+use Rattle.convert_parts.proofs.RangeSoFar.{quantized-put}
 use Rattle.convert_parts.proofs.Through.{quantized-through}
 use Rattle.convert_1bit.proofs.quantized.put_quantized.Statement.{statement}
 use Rattle.convert_1bit.proofs.quantized.put_quantized.Tie as tie

@@ -3,13 +3,13 @@ use Prim.Native.Nat.{_-_}
 use native.Mathlib.Omega.{arith}
 use borrow.Author.Needs.{needs}
 use Rattle.bodies.specs.Elements.{bitElement}
-use Rattle.convert_parts.proofs.Searched.{Searched, none-searched, one-searched, all-searched}
+use Rattle.convert_parts.proofs.RangeSoFar.{RangeSoFar, range-none, range-next, range-all}
 use Rattle.convert_1bit.proofs.Units.{both-met}
 use Rattle.convert_1bit.proofs.quantized.range_of.Statement.{statement}
 use Rattle.convert_1bit.proofs.quantized.range_of.Tie as tie
 
 abbrev Inv-loop : tie.InvT-loop
-Inv-loop dims body found₀ i₀ found i = Searched (bitElement body) dims i found
+Inv-loop dims body found₀ i₀ found i = RangeSoFar (bitElement body) dims i found
 
 abbrev μ-loop : tie.MeasureT-loop
 μ-loop dims body found₀ i₀ found i = dims - i
@@ -18,7 +18,7 @@ loop-again : tie.Need-loop-again Inv-loop μ-loop
 loop-again c =
     let x = c .before in
     let l = x .before .before .before in
-    one-searched _ (l .before .loop .inv) (l .loop-test .taken) (x .element .ensures) (c .wider .ensures)
+    range-next _ (l .before .loop .inv) (l .loop-test .taken) (x .element .ensures) (c .wider .ensures)
 
 returns : tie.Need-returns Inv-loop μ-loop
 returns c =
@@ -30,6 +30,6 @@ range-of-spec =
     tie.close
     (tie.spec
     Inv-loop μ-loop
-    (λ c κs. tt) (λ c. none-searched _ _ (c .no-range .ensures)) returns
+    (λ c κs. tt) (λ c. range-none _ _ (c .no-range .ensures)) returns
     (λ c κs. search needs) (λ c κs. tt) (λ c. omega arith) (λ c. omega arith)
-    loop-again (λ c. all-searched _ (c .before .loop .inv) (c .loop-test .left)))
+    loop-again (λ c. range-all _ (c .before .loop .inv) (c .loop-test .left)))

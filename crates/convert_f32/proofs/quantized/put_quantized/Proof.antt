@@ -4,7 +4,7 @@ use borrow.Author.Needs.{needs}
 use lib.Ieee.{binary32}
 use Rattle.bodies.specs.Elements.{denseElement}
 use Rattle.convert_parts.specs.Result.{resultOf}
-use Rattle.convert_parts.proofs.Searched.{quantized-put}
+use Rattle.convert_parts.proofs.RangeSoFar.{quantized-put}
 use Rattle.convert_f32.proofs.quantized.put_quantized.Statement.{statement}
 use Rattle.convert_f32.proofs.quantized.put_quantized.Tie as tie
 

@@ -7,7 +7,7 @@ use Rattle.rounding.specs.Narrow.{narrowed}
 use Rattle.rounding.proofs.NarrowBits.{narrowed-fits}
 use Rattle.bodies.specs.Elements.{denseElement}
 use Rattle.convert_parts.specs.Result.{resultOf}
-use Rattle.convert_parts.proofs.Searched.{quantized-put}
+use Rattle.convert_parts.proofs.RangeSoFar.{quantized-put}
 use Rattle.convert_parts.proofs.Through.{quantized-through}
 use Rattle.convert_f64.proofs.quantized.put_quantized.Statement.{statement}
 use Rattle.convert_f64.proofs.quantized.put_quantized.Tie as tie

@@ -5,12 +5,12 @@ use borrow.Author.Needs.{needs}
 use lib.Ieee.{binary64}
 use Rattle.rounding.specs.Narrow.{narrowed}
 use Rattle.bodies.specs.Elements.{denseElement}
-use Rattle.convert_parts.proofs.Searched.{Searched, none-searched, one-searched, all-searched}
+use Rattle.convert_parts.proofs.RangeSoFar.{RangeSoFar, range-none, range-next, range-all}
 use Rattle.convert_f64.proofs.quantized.range_of.Statement.{statement}
 use Rattle.convert_f64.proofs.quantized.range_of.Tie as tie
 
 abbrev Inv-loop : tie.InvT-loop
-Inv-loop dims body found₀ i₀ found i = Searched (λ k. narrowed (denseElement binary64 body k)) dims i found
+Inv-loop dims body found₀ i₀ found i = RangeSoFar (λ k. narrowed (denseElement binary64 body k)) dims i found
 
 abbrev μ-loop : tie.MeasureT-loop
 μ-loop dims body found₀ i₀ found i = dims - i
@@ -18,13 +18,13 @@ abbrev μ-loop : tie.MeasureT-loop
 loop-again : tie.Need-loop-again Inv-loop μ-loop
 loop-again c =
     let x = c .before in
-    one-searched _ (x .before .before .loop .inv) (x .before .loop-test .taken) (x .narrow-at .ensures) (c .wider .ensures)
+    range-next _ (x .before .before .loop .inv) (x .before .loop-test .taken) (x .narrow-at .ensures) (c .wider .ensures)
 
 pub range-of-spec : {M : Type 1} → statement M
 range-of-spec =
     tie.close
     (tie.spec
     Inv-loop μ-loop
-    (λ c κs. tt) (λ c. none-searched _ _ (c .no-range .ensures))
+    (λ c κs. tt) (λ c. range-none _ _ (c .no-range .ensures))
     (λ c. search needs) (λ c κs. search needs) (λ c κs. tt) (λ c. omega arith) (λ c. omega arith)
-    loop-again (λ c. all-searched _ (c .before .loop .inv) (c .loop-test .left)))
+    loop-again (λ c. range-all _ (c .before .loop .inv) (c .loop-test .left)))

@@ -1,7 +1,7 @@
 -- Three parts written one after another (`end-put`).
 use native.Mathlib.Omega.{arith}
 use borrow.Author.Needs.{needs}
-use Rattle.convert_parts.proofs.Searched.{end-put}
+use Rattle.convert_parts.proofs.RangeSoFar.{end-put}
 use Rattle.convert_parts.proofs.quantized.put_end.Statement.{statement}
 use Rattle.convert_parts.proofs.quantized.put_end.Tie as tie
 

@@ -20,20 +20,20 @@ use Rattle.convert_parts.specs.declared.quantized.Range.{Range}
 use Rattle.convert_parts.proofs.Pieces.{length-bytes, put-after}
 
 -- ---- a loop of n turns: after i of them r is the range of the first i elements
-pub record Searched (e : ℕ → Float) (n i : ℕ) (r : Range) : Type 0 where
+pub record RangeSoFar (e : ℕ → Float) (n i : ℕ) (r : Range) : Type 0 where
   pub within : i ≤ n
   pub found : r ≡ rangeOf e i
 
-pub none-searched : (e : ℕ → Float) (n : ℕ) {r : Range} → r ≡ noRange → Searched e n 0 r
+pub range-none : (e : ℕ → Float) (n : ℕ) {r : Range} → r ≡ noRange → RangeSoFar e n 0 r
 unfolding least greatest
-none-searched e n h = record { within = omega arith; found = h }
+range-none e n h = record { within = omega arith; found = h }
 
-pub one-searched : (e : ℕ → Float) {n i : ℕ} {r w : Range} {x : Float} → Searched e n i r → i < n → x ≡ e i → w ≡ widerBy r x → Searched e n (i + 1) w
+pub range-next : (e : ℕ → Float) {n i : ℕ} {r w : Range} {x : Float} → RangeSoFar e n i r → i < n → x ≡ e i → w ≡ widerBy r x → RangeSoFar e n (i + 1) w
 unfolding least greatest
-one-searched e {i = i} h less same wide = record { within = omega arith; found = wide ∙ rw (add-one i, h .found, same) }
+range-next e {i = i} h less same wide = record { within = omega arith; found = wide ∙ rw (add-one i, h .found, same) }
 
-pub all-searched : (e : ℕ → Float) {n i : ℕ} {r : Range} → Searched e n i r → n ≤ i → r ≡ rangeOf e n
-all-searched e {n} {i} h ends = let all : n ≡ i = omega (arith, h .within) in rw all (h .found)
+pub range-all : (e : ℕ → Float) {n i : ℕ} {r : Range} → RangeSoFar e n i r → n ≤ i → r ≡ rangeOf e n
+range-all e {n} {i} h ends = let all : n ≡ i = omega (arith, h .within) in rw all (h .found)
 
 -- ---- the end of a Float8 body
 pub length-end : (d : ℕ) (c : Scale) → length (scaleEnd d c) ≡ 4 * ceil d 4 - d + 8
