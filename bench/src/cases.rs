@@ -48,7 +48,7 @@ impl Case {
     }
 
     /// Where the two sides part: the bits of a distance, the dims and bytes of a conversion, with
-    /// the differences that document 01 lists and no others.
+    /// the differences that docs/DIFFERENCES.md lists and no others.
     pub fn difference(&self) -> Option<String> {
         let (ours, theirs) = match self.work {
             Work::Distance(measure) => {

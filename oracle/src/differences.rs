@@ -1,4 +1,4 @@
-//! Every place where document 01 differs from the Rust on purpose; nothing else is changed.
+//! Every place where the rules (docs/RULES.md) differ from the Rust on purpose; nothing else is changed.
 
 use std::borrow::Cow;
 use std::hint::black_box;

@@ -1,5 +1,5 @@
 //! The Rust side of differential runs: the vector module of turso_core, unchanged, beside
-//! document 01. `oracle answer` answers lines as our programs must; `oracle gen` makes lines.
+//! the rules. `oracle answer` answers lines as our programs must; `oracle gen` makes lines.
 
 mod differences;
 mod generate;
@@ -66,7 +66,7 @@ fn run(arguments: &[&str]) -> Option<io::Result<bool>> {
     }
 }
 
-/// Answers the lines of standard input; false if the Rust parted from document 01 anywhere.
+/// Answers the lines of standard input; false if the Rust parted from the rules anywhere.
 fn answer(program: Program) -> io::Result<bool> {
     let mut input = io::stdin().lock();
     let mut output = BufWriter::new(io::stdout().lock());

@@ -1,11 +1,11 @@
-//! Document 01's answers, each held against the Rust's; where the two part there is a finding.
+//! The rules' answers, each held against the Rust's; where the two part there is a finding.
 
 use std::fmt::Debug;
 
 use crate::rules::{self, Kind, Measure, Refusal, View};
 use crate::{differences, original};
 
-/// Stands where document 01 expects a value and the Rust has none; a finding says why.
+/// Stands where the rules expect a value and the Rust has none; a finding says why.
 const NO_ANSWER: Refusal = 0;
 
 /// A refusal and the blob it names: `p`, `a`, `b`, or `-` for none.

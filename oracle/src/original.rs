@@ -49,7 +49,7 @@ pub fn distance(measure: Measure, first: &[u8], second: &[u8]) -> Result<f64, St
     })
 }
 
-/// Document 01's number for the Rust's words; a panic has none.
+/// The rules' number for the Rust's words; a panic has none.
 pub fn number(words: &str) -> Option<Refusal> {
     const WORDS: [(&str, Refusal); 13] = [
         ("unsupported vector type from LibSQL", 2),

@@ -1,4 +1,4 @@
-//! Document 01's rules, written from its tables: layouts, refusal numbers and their order.
+//! The rules of docs/RULES.md, written from its tables: layouts, refusal numbers and their order.
 
 use std::fmt;
 
@@ -50,7 +50,7 @@ pub enum Measure {
     Jac,
 }
 
-/// A number of document 01's table of refusals.
+/// A number of the table of refusals.
 pub type Refusal = u8;
 
 /// What a reader shows of a blob.

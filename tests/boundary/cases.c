@@ -213,7 +213,7 @@ void try_cases(void) {
     the_same_blob_twice();
 }
 
-/* Document 01's numbers that an export can give, as a set, 0 among them. */
+/* The refusals' numbers that an export can give, as a set, 0 among them. */
 static uint32_t can_give(enum export export) {
     const uint32_t reading = 0x3ff; /* 0 to 9 */
     const uint32_t pairs = reading | 1u << 12 | 1u << 13;

@@ -11,7 +11,7 @@ written n = Written n
 abbrev pub writeRefused : Refusal → WriteAnswer
 writeRefused r = Refused r
 
--- document 01's number for an answer, 0 where nothing is refused
+-- the number of an answer by the rules, 0 where nothing is refused
 abbrev pub writeNumber : WriteAnswer → ℕ
 writeNumber (Written n) = 0
 writeNumber (Refused r) = r .number

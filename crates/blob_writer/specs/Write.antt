@@ -1,4 +1,4 @@
--- What the writer answers and leaves: the blob of each kind, and document 01's refusals in the writer's order.
+-- What the writer answers and leaves: the blob of each kind, and the refusals of docs/RULES.md in the writer's order.
 use Prim.Native.Nat.{ℕ, _+_, _-_, _*_, _%_}
 use mathlib.Core.Bool.{Bool, cond, not, _&&_}
 use mathlib.Core.List.{List, [], _∷_, _++_}

@@ -14,7 +14,7 @@ use Rattle.convert_parts.specs.Result.{resultOf, scratchBody}
 use Rattle.convert.specs.declared.ConvertAnswer.{ConvertAnswer}
 use Rattle.convert.specs.declared.ConvertAnswer.the-variants.{Converted, Refused}
 
--- document 01's number for each answer, 0 where nothing is refused
+-- the number of an answer by the rules, 0 where nothing is refused
 abbrev pub convertNumber : ConvertAnswer → ℕ
 convertNumber (Converted v) = 0
 convertNumber (Refused r) = r .number

@@ -20,7 +20,7 @@ use Rattle.distance.specs.declared.Pairing.the-variants.{Alike, Mismatch
 use Rattle.distance.specs.declared.DistanceAnswer.{DistanceAnswer}
 use Rattle.distance.specs.declared.DistanceAnswer.the-variants.{Measured, Refused}
 
--- document 01's number for each answer, 0 where nothing is refused
+-- the number of an answer by the rules, 0 where nothing is refused
 abbrev pub distanceNumber : DistanceAnswer → ℕ
 distanceNumber (Measured x) = 0
 distanceNumber (Refused r w) = r .number

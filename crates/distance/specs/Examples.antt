@@ -1,4 +1,4 @@
--- Document 01's P examples, reading and distances: one table with one statement about all of it, which antt computes; and a table of others.
+-- The customer's examples marked P, reading and distances: one table with one statement about all of it, which antt computes; and a table of others.
 use mathlib.Core.Path.{_≡_, refl}
 use mathlib.Core.List.{List, [], _∷_, _++_, map}
 use Prim.Native.Nat.{ℕ}
@@ -27,7 +27,7 @@ pub data Answer : Type 0 where
   read : ReadAnswer → List ℕ → Answer
   measured : DistanceAnswer → Answer
 
--- what the definitions say, and what document 01 says
+-- what the definitions say, and what the customer says
 pub record Example : Type 0 where
   pub defined : Answer
   pub expected : Answer
@@ -76,7 +76,7 @@ noEntry = 2 ∷ 0 ∷ 0 ∷ 0 ∷ 9 ∷ []
 abbrev pub unscaled : List ℕ
 unscaled = (7 ∷ 0 ∷ 0 ∷ 0 ∷ []) ++ zero ++ zero ++ 0 ∷ 3 ∷ 4 ∷ []
 
--- Every row is one of document 01's examples marked P, in its order and its words
+-- Every row is one of the customer's examples marked P, in the paper's order and words
 abbrev pub documentTable : List Example
 documentTable =
     -- P: empty blob, dims 0
@@ -108,7 +108,7 @@ documentTable =
     ∷ measures L2 (zero ++ zero) (three ++ four) 0x4014_0000_0000_0000
     ∷ []
 
--- examples that document 01 does not mark
+-- examples that the paper does not mark
 abbrev pub furtherTable : List Example
 furtherTable =
     -- those that it runs only

@@ -1,4 +1,4 @@
--- The four distances of two bodies of one kind and dims: document 01's 'Distance facts', kind by kind.
+-- The four distances of two bodies of one kind and dims: the section 'Distances' of docs/RULES.md, kind by kind.
 use Prim.Native.Nat.{ℕ}
 use mathlib.Core.List.{List}
 use mathlib.Core.Option.{Option, none, some}

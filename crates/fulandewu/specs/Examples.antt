@@ -1,4 +1,4 @@
--- Document 01's examples, and others, through the exports: one table, and one statement about all of it, which antt computes.
+-- The customer's examples, and others, through the exports: one table, and one statement about all of it, which antt computes.
 use mathlib.Core.Path.{_≡_, refl}
 use mathlib.Core.List.{List, [], _∷_, _++_, map}
 use Prim.Native.Nat.{ℕ}

@@ -1,4 +1,4 @@
--- What each export leaves: the number returned is 0 for an answer, else document 01's number, and the fields that are written are listed by
+-- What each export leaves: the number returned is 0 for an answer, else a refusal's number, and the fields that are written are listed by
 -- case. A distance is written as its pattern.
 use Prim.Native.Nat.{ℕ}
 use mathlib.Core.List.{List, [], _∷_}

@@ -1,5 +1,5 @@
 // What C and Rust programs call: reading, writing, converting, the distances and the nearer of two.
-// Each export answers document 01's number of a refusal, 0 where there is none. It writes its values
+// Each export answers the number of a refusal (docs/RULES.md), 0 where there is none. It writes its values
 // into the fields of one lent answer, and leaves every other field as it was.
 mod converting;
 mod distances;

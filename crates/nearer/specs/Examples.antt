@@ -22,7 +22,7 @@ use Rattle.nearer.specs.declared.Among.the-variants.{Probe, First as The
 use Rattle.nearer.specs.declared.NearerAnswer.{NearerAnswer}
 use Rattle.nearer.specs.declared.NearerAnswer.the-variants.{Refused}
 
--- what the definitions say of a probe and two candidates, and what document 01 says
+-- what the definitions say of a probe and two candidates, and what the rules say
 pub record Example : Type 0 where
   pub defined : NearerAnswer
   pub written : NearerAnswer

@@ -20,7 +20,7 @@ use Rattle.nearer.specs.declared.Among.the-variants.{Probe, First as The
 use Rattle.nearer.specs.declared.NearerAnswer.{NearerAnswer}
 use Rattle.nearer.specs.declared.NearerAnswer.the-variants.{Nearer, Refused}
 
--- document 01's number for each answer, 0 where nothing is refused
+-- the number of an answer by the rules, 0 where nothing is refused
 abbrev pub nearerNumber : NearerAnswer → ℕ
 nearerNumber (Nearer n) = 0
 nearerNumber (Refused r w) = r .number

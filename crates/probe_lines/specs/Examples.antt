@@ -38,7 +38,7 @@ floats =
     ∷ example "" "X"
     ∷ []
 
--- document 01's examples of reading, and lines of the strict reader and of the writer
+-- the customer's examples of reading, and lines of the strict reader and of the writer
 abbrev pub blobs : List Example
 blobs =
     example "read\t" "V\t1\t0\t"

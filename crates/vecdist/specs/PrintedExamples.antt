@@ -1,4 +1,4 @@
--- Inputs with what vecdist prints for them, document 01's first, which antt computes.
+-- Inputs with what vecdist prints for them, the customer's first, which antt computes.
 use mathlib.Core.Path.{_≡_, refl}
 use mathlib.Core.List.{List, [], _∷_}
 use lib.Ieee.{add, sub, mul, div, neg, eq, lt, ofInt, ofBits, toBits}

@@ -1,4 +1,4 @@
--- Examples: lines with their replies, document 01's first: one table, and one statement about all of it, which antt computes.
+-- Examples: lines with their replies, the customer's first: one table, and one statement about all of it, which antt computes.
 use mathlib.Core.Path.{refl}
 use mathlib.Core.List.{List, [], _∷_}
 use lib.Ieee.{add, sub, mul, div, neg, eq, lt, ofInt, ofBits, toBits}

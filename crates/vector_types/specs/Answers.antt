@@ -31,7 +31,7 @@ abbrev pub isAccepted : ReadAnswer → Bool
 isAccepted (Accepted v) = true
 isAccepted (Refused r) = false
 
--- document 01's number for an answer, 0 where nothing is refused
+-- the number of an answer by the rules, 0 where nothing is refused
 abbrev pub readNumber : ReadAnswer → ℕ
 readNumber (Accepted v) = 0
 readNumber (Refused r) = r .number

@@ -1,4 +1,4 @@
--- Blobs that the two readers answer differently, and refusals that document 01's P examples do not have: one table, which antt computes.
+-- Blobs that the two readers answer differently, and refusals that the customer's own examples (distance/specs/Examples.antt) do not have: one table, which antt computes.
 -- The P examples of reading stand with those of distances, in the crate `distance`.
 use mathlib.Core.Path.{_≡_, refl}
 use mathlib.Core.List.{List, [], _∷_, map}

@@ -1,4 +1,4 @@
--- The layouts of blobs: document 01's table, row by row.
+-- The layouts of blobs: the table of docs/RULES.md, row by row.
 use Prim.Native.Nat.{ℕ, _+_, _-_, _*_, _/_, _%_, _^_}
 use mathlib.Core.Bool.{Bool, false, cond, not, _&&_, _||_}
 use mathlib.Core.List.{List}

@@ -1,4 +1,4 @@
--- What reading a blob answers: document 01's refusals in their order, each with its 'given exactly when'; the first that holds
+-- What reading a blob answers: the refusals of docs/RULES.md in their order, each with its 'given exactly when'; the first that holds
 -- answers, and where none does, the view by the blob's row of the layout table.
 use Prim.Native.Nat.{ℕ, zero, suc, _+_, _-_, _*_}
 use mathlib.Core.Bool.{Bool, true, false, _&&_, _||_}
