@@ -100,6 +100,26 @@ fn change_nans(
 #[cfg(test)]
 mod tests {
     use super::*;
+    use crate::{original, rules};
+
+    /// Rows 'limit 1' and 'limit 9' of docs/DIFFERENCES.md: the shortest blobs that the Rust
+    /// accepts and a limit refuses. Between limit 1 and its row's blob the Rust refuses too.
+    #[test]
+    fn the_rust_has_no_limits() {
+        let shape = |blob: &[u8]| original::read(blob).map(|view| (view.kind, view.dims));
+        let ending = |end: [u8; 2]| [vec![0; MOST_LENGTH], end.to_vec()].concat();
+
+        assert!(original::read(&vec![0; MOST_LENGTH + 1]).is_err());
+        let bits = ending([8, 3]);
+        assert_eq!(bits.len(), 524_295);
+        assert_eq!(shape(&bits), Ok((Kind::Float1Bit, 4_194_344)));
+        assert_eq!(rules::read(&bits), Err(1));
+        assert_eq!(shape(&ending([0, 4])), Ok((Kind::Float8, 524_284)));
+
+        let sparse = [1, 0, 1, 0, 9];
+        assert_eq!(shape(&sparse), Ok((Kind::Float32Sparse, 65_537)));
+        assert_eq!(rules::read(&sparse), Err(9));
+    }
 
     #[test]
     fn only_signalling_nans_of_the_values_become_quiet() {
