@@ -11,24 +11,24 @@ ghost use Rattle.convert_parts.specs.Pieces.{placesOf};
 ghost use Rattle.convert_parts.specs.Sparse.{isNonzero};
 ghost use Rattle.convert_parts.specs.Result.{resultOf};
 use bodies::float8::scale_of;
-use convert_parts::entries::next_count;
 use convert_parts::entries::put_entry;
 
-// How many elements are stored, those that are not 0.0.
+// How many elements are stored, those that are not 0.0. Counted in 32 bits, as wide as an element, so that
+// the loop is vectorised without widening.
 pub(crate) fn count_stored(dims: usize, body: &[u8]) -> usize
     requires { ⌜ dims ≤ maxDims ⌝ }
     requires { ⌜ length (now body) ≡ 4 * ceil dims 4 + 8 ⌝ }
     ensures { λ r. ⌜ r ≡ length (placesOf (λ i. isNonzero (float8Element binary32 dims (now (body .entry)) i)) dims) ⌝ }
 {
     let scale = scale_of(dims, body);
-    let mut n = 0;
+    let mut n: u32 = 0;
     let mut i = 0;
     while i < dims {
         let x = scale.element(body[i]);
-        n = next_count(x != 0.0, n);
+        n += (x != 0.0) as u32;
         i += 1;
     }
-    n
+    n as usize
 }
 
 // Puts the count elements that are stored at the start of out, their values, then their indices.

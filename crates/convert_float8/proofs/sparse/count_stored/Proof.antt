@@ -1,8 +1,11 @@
 -- The stored elements below i have been counted.
+use mathlib.Core.Path.{_≡_, refl}
+use mathlib.Core.Bool.{Bool, true, false, cond}
 use Prim.Native.Nat.{_-_}
 use native.Mathlib.Omega.{arith}
 use borrow.Author.Needs.{needs}
-use lib.Ieee.{binary32}
+use mir.Val.{boolByte}
+use lib.Ieee.{binary32, ne, ofBits}
 use Rattle.bodies.specs.Elements.{float8Element}
 use Rattle.convert_parts.specs.Sparse.{isNonzero}
 use Rattle.convert_parts.proofs.Places.{Counting, count-none, count-within, count-next, count-all}
@@ -16,16 +19,26 @@ Inv-loop dims body scale n₀ i₀ n i = Counting (λ k. isNonzero (float8Elemen
 abbrev μ-loop : tie.MeasureT-loop
 μ-loop dims body scale n₀ i₀ n i = dims - i
 
-next-count-requires : tie.Need-next-count-requires Inv-loop μ-loop
-next-count-requires c κs =
-    let turn = c .before .before in
-    omega (arith, turn .before .before .before .before .pre .0, count-within _ (turn .before .loop .inv), turn .loop-test .taken)
+-- a test as a number is what it adds to the count
+added : (b : Bool) → boolByte b ≡ cond b 1 0
+added true = refl
+added false = refl
 
 loop-again : tie.Need-loop-again Inv-loop μ-loop
 loop-again c =
-    let turn = c .before .before .before in
-    let x = element-computed _ _ _ (turn .before .before .scale-of .ensures) (c .before .element .ensures) in
-    count-next _ (turn .before .loop .inv) (turn .loop-test .taken) _ (nonzero-computed _ _ _ x) _ (c .next-count .ensures)
+    let turn = c .before .before in
+    let x = element-computed _ _ _ (turn .before .before .scale-of .ensures) (c .element .ensures) in
+    count-next _ (turn .before .loop .inv) (turn .loop-test .taken) _ (nonzero-computed _ _ _ x) _ (rw (added (ne (c .element .result) (ofBits binary32 0))))
+
+add-n : tie.Need-add-n Inv-loop μ-loop
+add-n c =
+    let turn = c .before .before in
+    omega (arith, turn .before .before .before .before .pre .0, count-within _ (loop-again c), turn .loop-test .taken)
+
+cast-result : tie.Need-cast-result Inv-loop μ-loop
+cast-result c =
+    let found = c .before .loop .inv in
+    omega (arith, c .before .before .before .before .pre .0, count-within _ found, found .within)
 
 returns : tie.Need-returns Inv-loop μ-loop
 returns c = count-all _ (c .before .loop .inv) (c .loop-test .left)
@@ -38,7 +51,10 @@ count-stored-spec =
     μ-loop
     (λ c κs. search needs)
     (λ c. count-none _ _)
-    (λ c. search needs) (λ c κs. search needs) next-count-requires
+    (λ c. search needs) (λ c κs. search needs)
+    (λ c. search needs)
+    add-n
     (λ c. search needs) (λ c. search needs)
     loop-again
+    cast-result
     returns)
