@@ -52,6 +52,9 @@ unfoldable pub sparseDots : List ℕ → List ℕ → Float
 unfolding merged
 sparseDots a b = merge dotsRule (entriesOf a) (entriesOf b) plusZero
 
-unfoldable pub sparseShares : List ℕ → List ℕ → Shares
+unfoldable pub sparseSharesBy : (Float → Float → Float) → (Float → Float → Float) → List ℕ → List ℕ → Shares
 unfolding merged
-sparseShares a b = merge (sharesRule binary32) (entriesOf a) (entriesOf b) noShares
+sparseSharesBy lo hi a b = merge (sharesRuleBy lo hi binary32) (entriesOf a) (entriesOf b) noShares
+
+abbrev pub sparseShares : List ℕ → List ℕ → Shares
+sparseShares = sparseSharesBy lesser greater

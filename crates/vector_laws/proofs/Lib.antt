@@ -3,7 +3,9 @@ pub mod SwappedSums
 pub mod SwappedMerge
 pub mod SwappedBits
 pub mod Swapped
+pub mod Measured
 pub mod OneBitLaws
+pub mod JaccardChoices
 pub mod Summed
 pub mod Spreading
 pub mod DenseFormSums
