@@ -10,3 +10,4 @@ pub mod Summed
 pub mod Spreading
 pub mod DenseFormSums
 pub mod DenseForm
+pub mod Padding
