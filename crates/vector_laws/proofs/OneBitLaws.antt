@@ -105,18 +105,6 @@ orNan none = nan
 orNan (some x) = x
 
 module _ {d : ℕ} {s : List ℕ} (o : OneBit d s) where
-  body-bytes : AreBytes s → AreBytes (bodyOf s)
-  body-bytes B = rw (body-is s (o .view) (o .read)) (bytes-take (o .view .length) s B)
-
-  body-long : length (bodyOf s) ≡ ceil d 8
-  unfolding bodyFits
-  body-long = eqb-true _ _ (rw (o .kind, o .dims) at (body-facts s (o .view) (o .read) .fit))
-
-  -- 65,536 at the most
-  few-apart : (t : List ℕ) → bitsApart d s t ≤ maxDims
-  unfolding differing
-  few-apart t = omega (arith, o .dims, view-facts s (o .view) (o .read) .few, tally-le xor-digits (bodyOf s) (bodyOf t) (wholeBits d))
-
   -- what is measured against it is one too, and the answer is the count
   measured-one-bit : (t : List ℕ) (x : Float) → distanceOf Cos s t ≡ Measured x → OneBit d t × (bitCosine (bitsApart d s t) ≡ x)
   unfolding valueOf cosineOf
@@ -128,6 +116,18 @@ module _ {d : ℕ} {s : List ℕ} (o : OneBit d s) where
         record { view = p .second; read = p .secondRead; kind = sym (p .kind) ∙ kind; dims = sym (p .dims) ∙ dims },
         ap orNan (rw (kind, dims) at (p .value)),
       )
+
+  body-bytes : AreBytes s → AreBytes (bodyOf s)
+  body-bytes B = rw (body-is s (o .view) (o .read)) (bytes-take (o .view .length) s B)
+
+  body-long : length (bodyOf s) ≡ ceil d 8
+  unfolding bodyFits
+  body-long = eqb-true _ _ (rw (o .kind, o .dims) at (body-facts s (o .view) (o .read) .fit))
+
+  -- 65,536 at the most
+  few-apart : (t : List ℕ) → bitsApart d s t ≤ maxDims
+  unfolding differing
+  few-apart t = omega (arith, o .dims, view-facts s (o .view) (o .read) .few, tally-le xor-digits (bodyOf s) (bodyOf t) (wholeBits d))
 
   exact-count : (t : List ℕ) (x : Float) → distanceOf Cos s t ≡ Measured x → HasValue x false (bitsApart d s t) 1
   unfolding bitCosine
