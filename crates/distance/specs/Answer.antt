@@ -45,7 +45,7 @@ mismatches v w =
 abbrev pub pairingOf : View → View → Pairing
 pairingOf v w = unless (firstGiven (mismatches v w)) Mismatched Alike
 
--- by any formula: of two views and their bodies; of what reading each answers; of two blobs
+-- by any formula: of two views and their bodies; by what reading the two blobs answers; of two blobs
 unfoldable pub answerOfViews : Formula → View → View → List ℕ → List ℕ → DistanceAnswer
 answerOfViews value v w a b = unless (firstGiven (mismatches v w)) (λ r. Refused r Neither) (distanceAnswer (value (v .kind) (v .dims .0) a b))
 
@@ -58,7 +58,6 @@ unfoldable pub answerBy : Formula → List ℕ → List ℕ → DistanceAnswer
 unfolding answerOfViews
 answerBy value s t = answerIn value (readOf s) (readOf t) (bodyOf s) (bodyOf t)
 
--- a distance of two blobs
 unfoldable pub distanceOf : Distance → List ℕ → List ℕ → DistanceAnswer
 unfolding answerBy valueOf
 distanceOf m s t = answerBy (valueOf m) s t

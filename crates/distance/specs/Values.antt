@@ -8,11 +8,10 @@ use Rattle.distance_sums.specs.Values.{cosineOf, l2Of, dotOf, jaccardOf}
 use Rattle.distance.specs.declared.Distance.{Distance}
 use Rattle.distance.specs.declared.Distance.the-variants.{Cos, L2, Dot, Jaccard}
 
--- a formula: a value for two bodies of one kind and dims, or none
+-- a formula: of a kind, dims and two bodies the value, or none
 abbrev pub Formula : Type 0
 Formula = VectorType → ℕ → List ℕ → List ℕ → Option Float
 
--- that of each distance
 unfoldable pub valueOf : Distance → Formula
 unfolding cosineOf l2Of dotOf jaccardOf
 valueOf Cos k d a b = some (cosineOf k d a b)

@@ -15,8 +15,9 @@ use Rattle.float_laws.proofs.Running.{plusZero-fromZero, add-fromZero, add-zero
 use Rattle.bodies.specs.Entries.{Entries}
 use Rattle.bodies.specs.Merged.{Rule, merged}
 use Rattle.distance_sums.specs.Extremes.{lesser, greater, Chosen, IsLesser, IsGreater, AreChoices}
-use Rattle.distance_sums.specs.Dense.{Shares, noShares, sharesBy, shares, sharesWith}
-use Rattle.distance_sums.specs.Sparse.{sharesRuleBy, sharesRule}
+use Rattle.distance_sums.specs.Dense.{Shares, noShares, sharesBy, sharesWith}
+use Rattle.distance_sums.specs.Sparse.{sharesRuleBy}
+use Rattle.distance_sums.specs.inner.Ours.{shares, sharesRule}
 
 abbrev Order : Type 0
 Order = Float → Float → Bool

@@ -16,10 +16,11 @@ use Rattle.little_endian.proofs.Floats.{floatAt-fits}
 use Rattle.vector_types.specs.Layout.{hasIndexOutside}
 use Rattle.vector_types.specs.declared.VectorType.the-variants.{Float32Sparse}
 use Rattle.convert_parts.specs.Spread.{spreadBody}
-use Rattle.distance_sums.specs.Dense.{Products, products, productsWith, squares, squaresWith, dots, dotsWith, sharesBy, shares, sharesWith}
+use Rattle.distance_sums.specs.Dense.{Products, products, productsWith, squares, squaresWith, dots, dotsWith, sharesBy, sharesWith}
 use Rattle.distance_sums.specs.Extremes.{lesser, greater}
 use Rattle.bodies.specs.Merged.{Rule, merge}
-use Rattle.distance_sums.specs.Sparse.{productsRule, squaresRule, dotsRule, sharesRule, sparseProducts, sparseSquares, sparseDots, sparseSharesBy, sparseShares}
+use Rattle.distance_sums.specs.Sparse.{productsRule, squaresRule, dotsRule, sparseProducts, sparseSquares, sparseDots, sparseSharesBy}
+use Rattle.distance_sums.specs.inner.Ours.{shares, sharesRule, sparseShares}
 use Rattle.distance_sums.proofs.EitherZero.{BothFromZero, one-more, ours-are-choices}
 use Rattle.bodies.specs.Entries.{Rising, entriesOf}
 use Rattle.bodies.specs.Elements.{denseElement}

@@ -13,7 +13,8 @@ use Rattle.bodies.specs.Entries.{entriesOf, storedCount}
 use Rattle.bodies.proofs.Elements.{dense-fits, float8-fits}
 use Rattle.distance_sums.specs.Extremes.{AreChoices}
 use Rattle.distance_sums.specs.Dense.{jaccardBy}
-use Rattle.distance_sums.specs.Sparse.{sparseSharesBy, sparseShares}
+use Rattle.distance_sums.specs.Sparse.{sparseSharesBy}
+use Rattle.distance_sums.specs.inner.Ours.{sparseShares}
 use Rattle.distance_sums.specs.Values.{jaccardChoosing, jaccardOf}
 use Rattle.distance_sums.proofs.EitherZero.{shares-either-zero, merged-either-zero}
 use Rattle.distance.specs.Values.{valueOf}

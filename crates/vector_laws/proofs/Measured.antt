@@ -24,7 +24,6 @@ use Rattle.distance.specs.declared.Which.the-variants.{Neither}
 use Rattle.distance.specs.declared.DistanceAnswer.{DistanceAnswer}
 use Rattle.distance.specs.declared.DistanceAnswer.the-variants.{Measured, Refused}
 use Rattle.distance.proofs.Paired.{SameShape, alike-same, both-same, unlessMismatched, answer-by-pairing}
-use Rattle.vector_laws.specs.Measured.{MeasuredPair}
 
 -- ---- two pairs of views of which the check answers the same
 abbrev checked : Pairing → Option Float → DistanceAnswer
@@ -57,6 +56,15 @@ answers-same f g s t s′ t′ p q same = rw (← p, ← q) (go (readOf s) refl 
     go (Accepted v) e (Accepted w) k = views-same f g v w v w (bodyOf s) (bodyOf t) (bodyOf s′) (bodyOf t′) refl (same v w e k)
 
 -- ---- a pair that is measured
+pub record MeasuredPair (m : Distance) (s t : List ℕ) (x : Float) : Type 0 where
+  pub first : View
+  pub second : View
+  pub firstRead : readOf s ≡ Accepted first
+  pub secondRead : readOf t ≡ Accepted second
+  pub kind : first .kind ≡ second .kind
+  pub dims : first .dims .0 ≡ second .dims .0
+  pub value : valueOf m (first .kind) (first .dims .0) (bodyOf s) (bodyOf t) ≡ some x
+
 abbrev valueIn : DistanceAnswer → Option Float
 valueIn (Measured x) = some x
 valueIn (Refused r w) = none

@@ -1,7 +1,7 @@
 -- Exchanging the two vectors changes no bit of a distance, cosine and dot of Float8 apart (specs/SwapExamples.antt), and a pair refused is
 -- refused either way: kind by kind, over the sums and counts with their arguments exchanged.
 use mathlib.Core.Path.{_≡_, refl, sym, ap, ap₂, _∙_}
-use mathlib.Core.Bool.{Bool, true, false, false≢true}
+use mathlib.Core.Bool.{Bool, true, false, not, false≢true}
 use mathlib.Core.List.{List}
 use mathlib.Core.Option.{some}
 use Prim.Native.Nat.{ℕ}
@@ -9,7 +9,7 @@ use lib.Dec.{eqb}
 use borrow.Author.Tests.{eqb-true, eqb-false, eq-eqb, ne-eqb}
 use lib.Ieee.{Format, binary32, binary64}
 use Rattle.float_laws.specs.Running.{AllFit}
-use Rattle.vector_types.specs.Layout.{byteOf}
+use Rattle.vector_types.specs.Layout.{byteOf, hasByte}
 use Rattle.vector_types.specs.Read.{readOf}
 use Rattle.vector_types.specs.Parts.{bodyOf}
 use Rattle.vector_types.specs.declared.VectorType.{VectorType}
@@ -26,7 +26,7 @@ use Rattle.distance.specs.Values.{valueOf}
 use Rattle.distance.specs.Answer.{pairingOf, distanceOf}
 use Rattle.distance.specs.declared.Distance.{Distance}
 use Rattle.distance.specs.declared.Distance.the-variants.{Cos, L2, Dot, Jaccard}
-use Rattle.vector_laws.specs.Symmetric.{isNotFloat8, symmetric}
+use Rattle.vector_laws.specs.Symmetric.{symmetric}
 use Rattle.vector_laws.proofs.Measured.{views-same}
 use Rattle.vector_laws.proofs.SwappedSums.{products-swap, dense-crossed, sparse-crossed, squares-swap, dots-swap, shares-swap}
 use Rattle.vector_laws.proofs.SwappedMerge.{sparse-products-swap, sparse-squares-swap, sparse-dots-swap, sparse-shares-swap}
@@ -34,7 +34,7 @@ use Rattle.vector_laws.proofs.SwappedBits.{differing-swap, overlap-swap
 
 -- ---- two bodies of one kind
 module _ (d : ℕ) (a b : List ℕ) where
-  cosine-swap : (k : VectorType) → isNotFloat8 k ≡ true → cosineOf k d a b ≡ cosineOf k d b a
+  cosine-swap : (k : VectorType) → not (hasByte 4 k) ≡ true → cosineOf k d a b ≡ cosineOf k d b a
   unfolding cosineOf
   cosine-swap Float32Dense o = sym (dense-crossed _ binary32) ∙ ap (denseCosine binary32) (products-swap binary32 _ _ d)
   cosine-swap Float64Dense o = sym (dense-crossed _ binary64) ∙ ap (denseCosine binary64) (products-swap binary64 _ _ d)
@@ -50,7 +50,7 @@ module _ (d : ℕ) (a b : List ℕ) where
   l2-swap Float1Bit = refl
   l2-swap Float8 = ap (λ s. some (l2By s)) (squares-swap binary64 _ _ d)
 
-  dot-swap : (k : VectorType) → isNotFloat8 k ≡ true → dotOf k d a b ≡ dotOf k d b a
+  dot-swap : (k : VectorType) → not (hasByte 4 k) ≡ true → dotOf k d a b ≡ dotOf k d b a
   unfolding dotOf
   dot-swap Float32Dense o = ap dotBy (dots-swap _ _ d)
   dot-swap Float64Dense o = ap dotBy (dots-swap _ _ d)

@@ -12,7 +12,8 @@ use Rattle.float_laws.proofs.Running.{running-same}
 use Rattle.float_laws.proofs.Squared.{sub-squared}
 use Rattle.float_laws.proofs.Swap.{mul-comm}
 use Rattle.distance_sums.specs.Extremes.{lesser, greater, Chosen, AreChoices}
-use Rattle.distance_sums.specs.Dense.{Products, products, isZero, angle, denseCosine, squares, dots, sharesBy, shares}
+use Rattle.distance_sums.specs.Dense.{Products, products, isZero, angle, denseCosine, squares, dots, sharesBy}
+use Rattle.distance_sums.specs.inner.Ours.{shares}
 use Rattle.distance_sums.specs.Sparse.{sparseCosine}
 use Rattle.distance_sums.proofs.EitherZero.{lesser-is, greater-is, shares-either-zero}
 

@@ -1,6 +1,5 @@
 pub mod Symmetric
 pub mod SwapExamples
-pub mod Measured
 pub mod BitsApart
 pub mod Padding
 pub mod DenseForm

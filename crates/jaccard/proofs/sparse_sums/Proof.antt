@@ -8,7 +8,8 @@ use lib.Ieee.{Float, binary32, fits}
 use Rattle.bodies.specs.Entries.{storedCount, entriesOf}
 use Rattle.distance_sums.specs.Extremes.{lesser, greater}
 use Rattle.distance_sums.specs.Dense.{Shares, noShares, sharesWith}
-use Rattle.distance_sums.specs.Sparse.{sharesRule, sparseSharesBy}
+use Rattle.distance_sums.specs.Sparse.{sparseSharesBy}
+use Rattle.distance_sums.specs.inner.Ours.{sharesRule}
 use Rattle.jaccard.specs.inner.Sums.{shares32}
 use Rattle.float_laws.proofs.Running.{plusZero-fromZero}
 use Rattle.distance_sums.proofs.EitherZero.{BothFromZero, one-more, ours-are-choices}
