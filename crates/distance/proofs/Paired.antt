@@ -16,9 +16,8 @@ use Rattle.vector_types.specs.declared.View.{View}
 use Rattle.vector_types.specs.declared.ReadAnswer.the-variants.{Accepted}
 use Rattle.vector_types.proofs.SameKind.{same-kind}
 use Rattle.vector_types.proofs.Views.{view-facts}
-use Rattle.distance.specs.Values.{valueOf}
-use Rattle.distance.specs.Answer.{mismatches, pairingOf, distanceAnswer, distanceOfViews}
-use Rattle.distance.specs.declared.Distance.{Distance}
+use Rattle.distance.specs.Values.{Formula}
+use Rattle.distance.specs.Answer.{mismatches, pairingOf, distanceAnswer, answerOfViews}
 use Rattle.distance.specs.declared.Which.the-variants.{Neither}
 use Rattle.distance.specs.declared.Pairing.{Pairing}
 use Rattle.distance.specs.declared.Pairing.the-variants.{Alike, Mismatched}
@@ -69,10 +68,10 @@ unless-by-pairing (given r) refuse x = refl
 abbrev refusedNeither : Refusal → DistanceAnswer
 refusedNeither r = Refused r Neither
 
-pub distance-by-pairing : (m : Distance) (v w : View) (a b : List ℕ)
-    → distanceOfViews m v w a b ≡ unlessMismatched (pairingOf v w) refusedNeither (distanceAnswer (valueOf m (v .kind) (v .dims .0) a b))
-unfolding distanceOfViews
-distance-by-pairing m v w a b = unless-by-pairing (firstGiven (mismatches v w)) refusedNeither (distanceAnswer (valueOf m (v .kind) (v .dims .0) a b))
+pub answer-by-pairing : (value : Formula) (v w : View) (a b : List ℕ)
+    → answerOfViews value v w a b ≡ unlessMismatched (pairingOf v w) refusedNeither (distanceAnswer (value (v .kind) (v .dims .0) a b))
+unfolding answerOfViews
+answer-by-pairing value v w a b = unless-by-pairing (firstGiven (mismatches v w)) refusedNeither (distanceAnswer (value (v .kind) (v .dims .0) a b))
 
 -- ---- the bodies
 module _ (s : List ℕ) (v : View) (e : readOf s ≡ Accepted v) where

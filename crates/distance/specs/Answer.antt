@@ -12,7 +12,7 @@ use Rattle.vector_types.specs.Parts.{bodyOf}
 use Rattle.vector_types.specs.declared.View.{View}
 use Rattle.vector_types.specs.declared.ReadAnswer.{ReadAnswer}
 use Rattle.vector_types.specs.declared.ReadAnswer.the-variants.{Accepted, Refused as Unread}
-use Rattle.distance.specs.Values.{valueOf}
+use Rattle.distance.specs.Values.{Formula, valueOf}
 use Rattle.distance.specs.declared.Distance.{Distance}
 use Rattle.distance.specs.declared.Which.the-variants.{First, Second, Neither}
 use Rattle.distance.specs.declared.Pairing.{Pairing}
@@ -45,16 +45,19 @@ mismatches v w =
 abbrev pub pairingOf : View → View → Pairing
 pairingOf v w = unless (firstGiven (mismatches v w)) Mismatched Alike
 
--- of two views and their bodies
-unfoldable pub distanceOfViews : Distance → View → View → List ℕ → List ℕ → DistanceAnswer
-unfolding valueOf
-distanceOfViews m v w a b = unless (firstGiven (mismatches v w)) (λ r. Refused r Neither) (distanceAnswer (valueOf m (v .kind) (v .dims .0) a b))
+-- by any formula: of two views and their bodies; by what reading the two blobs answers; of two blobs
+unfoldable pub answerOfViews : Formula → View → View → List ℕ → List ℕ → DistanceAnswer
+answerOfViews value v w a b = unless (firstGiven (mismatches v w)) (λ r. Refused r Neither) (distanceAnswer (value (v .kind) (v .dims .0) a b))
 
-abbrev pub distanceIn : Distance → ReadAnswer → ReadAnswer → List ℕ → List ℕ → DistanceAnswer
-distanceIn m (Unread r) q a b = Refused r First
-distanceIn m (Accepted v) (Unread r) a b = Refused r Second
-distanceIn m (Accepted v) (Accepted w) a b = distanceOfViews m v w a b
+abbrev pub answerIn : Formula → ReadAnswer → ReadAnswer → List ℕ → List ℕ → DistanceAnswer
+answerIn value (Unread r) q a b = Refused r First
+answerIn value (Accepted v) (Unread r) a b = Refused r Second
+answerIn value (Accepted v) (Accepted w) a b = answerOfViews value v w a b
+
+unfoldable pub answerBy : Formula → List ℕ → List ℕ → DistanceAnswer
+unfolding answerOfViews
+answerBy value s t = answerIn value (readOf s) (readOf t) (bodyOf s) (bodyOf t)
 
 unfoldable pub distanceOf : Distance → List ℕ → List ℕ → DistanceAnswer
-unfolding distanceOfViews
-distanceOf m s t = distanceIn m (readOf s) (readOf t) (bodyOf s) (bodyOf t)
+unfolding answerBy valueOf
+distanceOf m s t = answerBy (valueOf m) s t

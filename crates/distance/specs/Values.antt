@@ -8,8 +8,11 @@ use Rattle.distance_sums.specs.Values.{cosineOf, l2Of, dotOf, jaccardOf}
 use Rattle.distance.specs.declared.Distance.{Distance}
 use Rattle.distance.specs.declared.Distance.the-variants.{Cos, L2, Dot, Jaccard}
 
--- the distance, where there is one
-unfoldable pub valueOf : Distance → VectorType → ℕ → List ℕ → List ℕ → Option Float
+-- a formula: of a kind, dims and two bodies the value, or none
+abbrev pub Formula : Type 0
+Formula = VectorType → ℕ → List ℕ → List ℕ → Option Float
+
+unfoldable pub valueOf : Distance → Formula
 unfolding cosineOf l2Of dotOf jaccardOf
 valueOf Cos k d a b = some (cosineOf k d a b)
 valueOf L2 k d a b = l2Of k d a b

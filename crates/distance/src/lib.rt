@@ -12,7 +12,7 @@ ghost use Rattle.vector_types.specs.Parts.{bodyOf};
 ghost use Rattle.vector_types.specs.declared.ReadAnswer.the-variants.{Accepted};
 ghost use Rattle.distance.specs.Values.{valueOf};
 ghost use Rattle.distance.specs.inner.Table.{existsFor};
-ghost use Rattle.distance.specs.Answer.{pairingOf, distanceAnswer, distanceOfViews, distanceOf};
+ghost use Rattle.distance.specs.Answer.{pairingOf, distanceAnswer, answerOfViews, distanceOf};
 ghost use Rattle.distance.specs.declared.Pairing.the-variants.{Alike};
 ghost use Rattle.distance.specs.declared.Distance.the-variants.{Cos, L2, Dot, Jaccard};
 use distance_cos::measure_cos;
@@ -120,7 +120,7 @@ fn measure_views(
 ) -> DistanceAnswer
     requires { ⌜ readOf (now first) ≡ Accepted v ⌝ }
     requires { ⌜ readOf (now second) ≡ Accepted w ⌝ }
-    ensures { λ r. ⌜ r ≡ distanceOfViews distance v w (bodyOf (now (first .entry))) (bodyOf (now (second .entry))) ⌝ }
+    ensures { λ r. ⌜ r ≡ answerOfViews (valueOf distance) v w (bodyOf (now (first .entry))) (bodyOf (now (second .entry))) ⌝ }
 {
     match check_pair(v, w) {
         Pairing::Mismatched(refusal) => DistanceAnswer::Refused(refusal, Which::Neither),

@@ -93,7 +93,7 @@ module _ {op f : ℕ → ℕ → ℕ} (d : Digitwise op f) where
 
   -- byte n, and the number of the w bytes from n on
   module _ (s t : List ℕ) (B : AreBytes s) (C : AreBytes t) where
-    byte-more : (n : ℕ) → tally f s t (8 * suc n) ≡ tally f s t (8 * n) + ones (op (getD s n 0) (getD t n 0))
+    pub byte-more : (n : ℕ) → tally f s t (8 * suc n) ≡ tally f s t (8 * n) + ones (op (getD s n 0) (getD t n 0))
     byte-more n =
         let all = rw (div-eq-of-lt (B n), div-eq-of-lt (C n), ones-none) at (bits-more s t n 8 (omega arith)) in
         rw (mul-suc 8 n) (omega arith)

@@ -14,9 +14,10 @@ use Rattle.float_laws.proofs.Order.{nan-lt, lt-nan, lt-asym, eq-self, nan-self,
 use Rattle.float_laws.proofs.Running.{plusZero-fromZero, add-fromZero, add-zero-term}
 use Rattle.bodies.specs.Entries.{Entries}
 use Rattle.bodies.specs.Merged.{Rule, merged}
-use Rattle.distance_sums.specs.Extremes.{lesser, greater, Chosen, IsLesser, IsGreater}
-use Rattle.distance_sums.specs.Dense.{Shares, noShares, sharesBy, shares, sharesWith}
-use Rattle.distance_sums.specs.Sparse.{sharesRuleBy, sharesRule}
+use Rattle.distance_sums.specs.Extremes.{lesser, greater, Chosen, IsLesser, IsGreater, AreChoices}
+use Rattle.distance_sums.specs.Dense.{Shares, noShares, sharesBy, sharesWith}
+use Rattle.distance_sums.specs.Sparse.{sharesRuleBy}
+use Rattle.distance_sums.specs.inner.Shares.{shares, sharesRule}
 
 abbrev Order : Type 0
 Order = Float → Float → Bool
@@ -132,10 +133,6 @@ module _ {S : Type 0} (r t : Rule S) (v w : Entries) (Reached : S → Type 0)
       (next (suc p) q (merged-agree (suc p) q) (right s j k)))
 
 -- ---- the theorems: any choices give the sums that ours give
-pub record AreChoices (f : Format) (lo hi : Float → Float → Float) : Type 0 where
-  pub low : (x y : Float) → T (fits f x) → T (fits f y) → IsLesser x y (lo x y)
-  pub high : (x y : Float) → T (fits f x) → T (fits f y) → IsGreater x y (hi x y)
-
 pub ours-are-choices : (f : Format) → AreChoices f lesser greater
 ours-are-choices f = record { low = λ x y h k. lesser-is x y; high = λ x y h k. greater-is x y }
 

@@ -6,7 +6,6 @@ use lib.Ieee.{Float, nan, fin, Format, binary64, add, sub, mul, div, neg, eq}
 use Rattle.float_laws.specs.Zero.{plusZero}
 use Rattle.float_laws.specs.Running.{running}
 use Rattle.rounding.specs.Root.{root}
-use Rattle.distance_sums.specs.Extremes.{lesser, greater}
 
 -- 1.0, and whether a value is a zero of either sign
 abbrev pub floatOne : Float
@@ -69,12 +68,9 @@ pub record Shares : Type 0 where
 abbrev pub noShares : Shares
 noShares = record { low = plusZero; high = plusZero }
 
--- by any choice of the lesser and the greater, and by ours
+-- by any choice of the lesser and the greater
 unfoldable pub sharesBy : (Float → Float → Float) → (Float → Float → Float) → Format → (ℕ → Float) → (ℕ → Float) → ℕ → Shares
 sharesBy lo hi f x y n = record { low = running f (λ i. lo (x i) (y i)) n; high = running f (λ i. hi (x i) (y i)) n }
-
-abbrev pub shares : Format → (ℕ → Float) → (ℕ → Float) → ℕ → Shares
-shares = sharesBy lesser greater
 
 -- a sum of 0 of the greater ones gives NaN; else 1 - low / high, of which the difference is taken in f64
 unfoldable pub jaccardBy : Format → Shares → Float

@@ -2,7 +2,8 @@
 use mathlib.Core.Path.{_≡_}
 use mathlib.Core.Logic.{_⊎_}
 use mathlib.Core.Bool.{Bool, true, false, cond}
-use lib.Ieee.{Float, lt, eq, isNan}
+use lib.Dec.{T}
+use lib.Ieee.{Float, Format, lt, eq, isNan, fits}
 
 -- of two that are equal, the first
 unfoldable pub lesser : Float → Float → Float
@@ -24,3 +25,8 @@ IsLesser x y m = Chosen lt x y m
 
 abbrev pub IsGreater : Float → Float → Float → Type 0
 IsGreater x y m = Chosen (λ u v. lt v u) x y m
+
+-- lo and hi choose the lesser and the greater of every two values of a format
+pub record AreChoices (f : Format) (lo hi : Float → Float → Float) : Type 0 where
+  pub low : (x y : Float) → T (fits f x) → T (fits f y) → IsLesser x y (lo x y)
+  pub high : (x y : Float) → T (fits f x) → T (fits f y) → IsGreater x y (hi x y)

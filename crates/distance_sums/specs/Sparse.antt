@@ -6,7 +6,6 @@ use lib.Ieee.{Float, nan, Format, binary32, add}
 use Rattle.float_laws.specs.Zero.{plusZero}
 use Rattle.bodies.specs.Entries.{entriesOf}
 use Rattle.bodies.specs.Merged.{Rule, merge, merged}
-use Rattle.distance_sums.specs.Extremes.{lesser, greater}
 use Rattle.distance_sums.specs.Dense.{Products, noProducts, productsWith, square, angle, isZero, squaresWith, dotsWith, Shares, noShares, sharesWith}
 
 -- the norms go on where one vector has no element; the product does not
@@ -31,9 +30,6 @@ sharesRuleBy lo hi f = record {
   right = λ s y. sharesWith lo hi f s y plusZero;
 }
 
-abbrev pub sharesRule : Format → Rule Shares
-sharesRule = sharesRuleBy lesser greater
-
 -- a zero norm gives NaN, and there is no other test
 unfoldable pub sparseCosine : Products → Float
 unfolding angle
@@ -52,6 +48,6 @@ unfoldable pub sparseDots : List ℕ → List ℕ → Float
 unfolding merged
 sparseDots a b = merge dotsRule (entriesOf a) (entriesOf b) plusZero
 
-unfoldable pub sparseShares : List ℕ → List ℕ → Shares
+unfoldable pub sparseSharesBy : (Float → Float → Float) → (Float → Float → Float) → List ℕ → List ℕ → Shares
 unfolding merged
-sparseShares a b = merge (sharesRule binary32) (entriesOf a) (entriesOf b) noShares
+sparseSharesBy lo hi a b = merge (sharesRuleBy lo hi binary32) (entriesOf a) (entriesOf b) noShares

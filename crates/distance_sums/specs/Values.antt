@@ -6,8 +6,9 @@ use lib.Ieee.{Float, binary32, binary64}
 use Rattle.bodies.specs.Elements.{denseElement, float8Element}
 use Rattle.vector_types.specs.declared.VectorType.{VectorType}
 use Rattle.vector_types.specs.declared.VectorType.the-variants.{Float32Dense, Float64Dense, Float32Sparse, Float1Bit, Float8}
-use Rattle.distance_sums.specs.Dense.{products, denseCosine, squares, l2By, dots, dotBy, sharesBy, shares, jaccardBy}
-use Rattle.distance_sums.specs.Sparse.{sparseProducts, sparseCosine, sparseSquares, sparseDots, sparseShares}
+use Rattle.distance_sums.specs.Extremes.{lesser, greater}
+use Rattle.distance_sums.specs.Dense.{products, denseCosine, squares, l2By, dots, dotBy, sharesBy, jaccardBy}
+use Rattle.distance_sums.specs.Sparse.{sparseProducts, sparseCosine, sparseSquares, sparseDots, sparseSharesBy}
 use Rattle.distance_sums.specs.OneBit.{wholeBits, differing, overlapOf, bitCosine, bitDot, bitJaccard}
 use Rattle.distance_sums.specs.Float8.{wideScale, totalsOf, scaledCosine, scaledDot}
 
@@ -36,10 +37,15 @@ dotOf Float32Sparse d a b = dotBy (sparseDots a b)
 dotOf Float1Bit d a b = bitDot d (differing a b (wholeBits d))
 dotOf Float8 d a b = dotBy (scaledDot (wideScale d a) (wideScale d b) (totalsOf a b d) d)
 
+-- by any choice of the lesser and the greater, of which 1-bit vectors have none, and by ours
+unfoldable pub jaccardChoosing : (Float → Float → Float) → (Float → Float → Float) → VectorType → ℕ → List ℕ → List ℕ → Float
+unfolding sharesBy jaccardBy sparseSharesBy overlapOf bitJaccard
+jaccardChoosing lo hi Float32Dense d a b = jaccardBy binary32 (sharesBy lo hi binary32 (denseElement binary32 a) (denseElement binary32 b) d)
+jaccardChoosing lo hi Float64Dense d a b = jaccardBy binary64 (sharesBy lo hi binary64 (denseElement binary64 a) (denseElement binary64 b) d)
+jaccardChoosing lo hi Float32Sparse d a b = jaccardBy binary32 (sparseSharesBy lo hi a b)
+jaccardChoosing lo hi Float1Bit d a b = bitJaccard (overlapOf a b (wholeBits d))
+jaccardChoosing lo hi Float8 d a b = jaccardBy binary64 (sharesBy lo hi binary64 (float8Element binary64 d a) (float8Element binary64 d b) d)
+
 unfoldable pub jaccardOf : VectorType → ℕ → List ℕ → List ℕ → Float
-unfolding sharesBy jaccardBy sparseShares overlapOf bitJaccard
-jaccardOf Float32Dense d a b = jaccardBy binary32 (shares binary32 (denseElement binary32 a) (denseElement binary32 b) d)
-jaccardOf Float64Dense d a b = jaccardBy binary64 (shares binary64 (denseElement binary64 a) (denseElement binary64 b) d)
-jaccardOf Float32Sparse d a b = jaccardBy binary32 (sparseShares a b)
-jaccardOf Float1Bit d a b = bitJaccard (overlapOf a b (wholeBits d))
-jaccardOf Float8 d a b = jaccardBy binary64 (shares binary64 (float8Element binary64 d a) (float8Element binary64 d b) d)
+unfolding jaccardChoosing
+jaccardOf k d a b = jaccardChoosing lesser greater k d a b

@@ -9,7 +9,7 @@ ghost use lib.Ieee.{binary32};
 ghost use Rattle.vector_types.specs.Layout.{maxDims, ceil, bodyFits};
 ghost use Rattle.vector_types.specs.declared.VectorType.the-variants.{Float32Dense, Float64Dense, Float1Bit, Float8};
 ghost use Rattle.distance_sums.specs.Dense.{jaccardBy};
-ghost use Rattle.distance_sums.specs.Sparse.{sparseShares};
+ghost use Rattle.distance_sums.specs.inner.Shares.{sparseShares};
 ghost use Rattle.distance_sums.specs.OneBit.{bitJaccard};
 ghost use Rattle.distance_sums.specs.Values.{jaccardOf};
 ghost use Rattle.jaccard.specs.inner.Sums.{shares32};

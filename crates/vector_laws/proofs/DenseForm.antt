@@ -1,18 +1,17 @@
 -- Two sparse blobs with rising indices have the distances of their Float32Dense forms, to the bit: the dense blobs read back, their
 -- sums are those of the sparse ones, and where no sum is a zero the two rules of cosine are one. It is what the converter and the writer do.
 use mathlib.Core.Path.{_≡_, refl, sym, ap, subst, _∙_}
-use mathlib.Core.Bool.{Bool, true, false}
+use mathlib.Core.Bool.{false}
 use mathlib.Core.List.{List, append-nil}
 use mathlib.Core.Option.{some}
 use Prim.Native.Nat.{ℕ, _*_, _≤_}
 use native.Mathlib.Omega.{arith}
-use lib.Dec.{eqb}
 use lib.ListN.{length, take, drop}
 use lib.Seq.{take-at}
 use lib.Ieee.{binary32}
-use borrow.Author.Tests.{eqb-true, eqb-false, eq-eqb, ne-eqb, le-ltb}
+use borrow.Author.Tests.{eq-eqb, le-ltb}
 use Rattle.vector_types.specs.Answers.{none, firstGiven, acceptedAs}
-use Rattle.vector_types.specs.Layout.{bodyFits, hasIndexOutside, byteOf}
+use Rattle.vector_types.specs.Layout.{bodyFits, hasIndexOutside}
 use Rattle.vector_types.specs.Read.{readOf}
 use Rattle.vector_types.specs.Parts.{bodyOf}
 use Rattle.vector_types.specs.declared.View.{View}
@@ -33,10 +32,12 @@ use Rattle.distance_sums.specs.Dense.{Products, denseCosine, l2By, dotBy, jacca
 use Rattle.distance_sums.specs.Sparse.{sparseProducts, sparseCosine}
 use Rattle.distance_sums.specs.Values.{cosineOf, l2Of, dotOf, jaccardOf}
 use Rattle.distance.specs.Values.{valueOf}
-use Rattle.distance.specs.Answer.{pairRefused, distanceAnswer, distanceOfViews, distanceOf}
+use Rattle.distance.specs.Answer.{distanceOf}
 use Rattle.distance.specs.declared.Distance.{Distance}
 use Rattle.distance.specs.declared.Distance.the-variants.{Cos, L2, Dot, Jaccard}
+use Rattle.distance.proofs.Paired.{SameShape}
 use Rattle.vector_laws.specs.DenseForm.{denseForm, NoZero, Premises}
+use Rattle.vector_laws.proofs.Measured.{views-same}
 use Rattle.vector_laws.proofs.DenseFormSums.{dense-form-same-squares, dense-form-same-shares, dense-form-same-dots, dense-form-same-products}
 
 -- ---- the values
@@ -61,6 +62,10 @@ module _ (d : ℕ) (a b : List ℕ) (au : Rising (entriesOf a)) (bu : Rising (en
 -- the new body
 abbrev pub denseFormBody : List ℕ → View → List ℕ
 denseFormBody s v = resultOf Float32Sparse Float32Dense (v .dims .0) (bodyOf s)
+
+-- and the view of the new blob
+abbrev denseFormView : List ℕ → View → View
+denseFormView s v = record { kind = Float32Dense; dims = v .dims; length = length (denseFormBody s v) }
 
 module _ (s : List ℕ) (v : View) (e : readOf s ≡ Accepted v) (k : v .kind ≡ Float32Sparse) where
   abbrev d : ℕ
@@ -107,57 +112,17 @@ module _ (s : List ℕ) (v : View) (e : readOf s ≡ Accepted v) (k : v .kind �
       )
 
 -- ---- two blobs
-accepted-pair : (m : Distance) (s t : List ℕ) (v w : View) (a b : List ℕ) → readOf s ≡ Accepted v → readOf t ≡ Accepted w → bodyOf s ≡ a → bodyOf t ≡ b
-    → distanceOf m s t ≡ distanceOfViews m v w a b
-unfolding distanceOf
-accepted-pair m s t v w a b p q f g = rw (p, q, f, g)
-
--- of other dims
-unlike-pair : (m : Distance) (v w : View) (a b : List ℕ) → (v .dims .0 ≡ w .dims .0 → ⊥) → distanceOfViews m v w a b ≡ pairRefused 12
-unfolding distanceOfViews
-unlike-pair m v w a b d = rw (ne-eqb (v .dims .0) (w .dims .0) d)
-
--- of one kind and dims
-alike-pair : (m : Distance) (v w : View) (a b : List ℕ) (k : VectorType) → v .dims .0 ≡ w .dims .0 → v .kind ≡ k → w .kind ≡ k
-    → distanceOfViews m v w a b ≡ distanceAnswer (valueOf m k (v .dims .0) a b)
-unfolding distanceOfViews
-alike-pair m v w a b k d p q = rw (eq-eqb (v .dims .0) (w .dims .0) d, p, q, eq-eqb (byteOf k) (byteOf k) refl)
-
 pub dense-form-same-distance : (m : Distance) (s t : List ℕ) (v w : View) → readOf s ≡ Accepted v → readOf t ≡ Accepted w → v .kind ≡ Float32Sparse → w .kind ≡ Float32Sparse
     → Rising (entriesOf (bodyOf s)) → Rising (entriesOf (bodyOf t)) → Premises m (bodyOf s) (bodyOf t)
     → distanceOf m (denseForm s v) (denseForm t w) ≡ distanceOf m s t
-dense-form-same-distance m s t v w p q kv kw su tu asks = go (eqb (v .dims .0) (w .dims .0)) refl
+unfolding distanceOf
+dense-form-same-distance m s t v w p q kv kw su tu asks =
+    let (f, x) = dense-form-read s v p kv in
+    let (g, y) = dense-form-read t w q kw in
+    rw (p, q, f, g, x, y) (views-same (valueOf m) (valueOf m) (denseFormView s v) (denseFormView t w) v w _ _ _ _ (rw (kv, kw)) values)
   where
-    a : List ℕ
-    a = denseFormBody s v
-
-    b : List ℕ
-    b = denseFormBody t w
-
-    v′ : View
-    v′ = record { kind = Float32Dense; dims = v .dims; length = length a }
-
-    w′ : View
-    w′ = record { kind = Float32Dense; dims = w .dims; length = length b }
-
-    dense-pair : distanceOf m (denseForm s v) (denseForm t w) ≡ distanceOfViews m v′ w′ a b
-    dense-pair =
-        let (f, x) = dense-form-read s v p kv in
-        let (g, y) = dense-form-read t w q kw in
-        accepted-pair m (denseForm s v) (denseForm t w) v′ w′ a b f g x y
-
-    sparse-pair : distanceOf m s t ≡ distanceOfViews m v w (bodyOf s) (bodyOf t)
-    sparse-pair = accepted-pair m s t v w (bodyOf s) (bodyOf t) p q refl refl
-
-    go : (c : Bool) → eqb (v .dims .0) (w .dims .0) ≡ c → distanceOf m (denseForm s v) (denseForm t w) ≡ distanceOf m s t
-    go false e =
-        let differ = eqb-false (v .dims .0) (w .dims .0) e in
-        dense-pair ∙ unlike-pair m v′ w′ a b differ ∙ sym (sparse-pair ∙ unlike-pair m v w (bodyOf s) (bodyOf t) differ)
-    go true e =
-        let same = eqb-true (v .dims .0) (w .dims .0) e in
-        let ti = subst (λ (n : ℕ). hasIndexOutside Float32Sparse n (bodyOf t) ≡ false) (sym same) (inside t w q kw) in
-        dense-pair
-        ∙ alike-pair m v′ w′ a b Float32Dense same refl refl
-        ∙ ap (λ (n : ℕ). distanceAnswer (valueOf m Float32Dense (v .dims .0) a (resultOf Float32Sparse Float32Dense n (bodyOf t)))) (sym same)
-        ∙ ap distanceAnswer (dense-form-same-value (v .dims .0) (bodyOf s) (bodyOf t) su tu (inside s v p kv) ti m asks)
-        ∙ sym (sparse-pair ∙ alike-pair m v w (bodyOf s) (bodyOf t) Float32Sparse same kv kw)
+    values : SameShape (denseFormView s v) (denseFormView t w)
+        → valueOf m Float32Dense (v .dims .0) (denseFormBody s v) (denseFormBody t w) ≡ valueOf m (v .kind) (v .dims .0) (bodyOf s) (bodyOf t)
+    values same =
+        let ti = subst (λ (n : ℕ). hasIndexOutside Float32Sparse n (bodyOf t) ≡ false) (sym (same .dims)) (inside t w q kw) in
+        rw (← same .dims, kv) (dense-form-same-value (v .dims .0) (bodyOf s) (bodyOf t) su tu (inside s v p kv) ti m asks)

@@ -16,10 +16,11 @@ use Rattle.little_endian.proofs.Floats.{floatAt-fits}
 use Rattle.vector_types.specs.Layout.{hasIndexOutside}
 use Rattle.vector_types.specs.declared.VectorType.the-variants.{Float32Sparse}
 use Rattle.convert_parts.specs.Spread.{spreadBody}
-use Rattle.distance_sums.specs.Dense.{Products, products, productsWith, squares, squaresWith, dots, dotsWith, sharesBy, shares, sharesWith}
+use Rattle.distance_sums.specs.Dense.{Products, products, productsWith, squares, squaresWith, dots, dotsWith, sharesBy, sharesWith}
 use Rattle.distance_sums.specs.Extremes.{lesser, greater}
 use Rattle.bodies.specs.Merged.{Rule, merge}
-use Rattle.distance_sums.specs.Sparse.{productsRule, squaresRule, dotsRule, sharesRule, sparseProducts, sparseSquares, sparseDots, sparseShares}
+use Rattle.distance_sums.specs.Sparse.{productsRule, squaresRule, dotsRule, sparseProducts, sparseSquares, sparseDots, sparseSharesBy}
+use Rattle.distance_sums.specs.inner.Shares.{shares, sharesRule, sparseShares}
 use Rattle.distance_sums.proofs.EitherZero.{BothFromZero, one-more, ours-are-choices}
 use Rattle.bodies.specs.Entries.{Rising, entriesOf}
 use Rattle.bodies.specs.Elements.{denseElement}
@@ -122,7 +123,7 @@ module _ (d : ℕ) (a b : List ℕ) (au : Rising (entriesOf a)) (bu : Rising (en
       (squares binary32 (spreadElement d a) (spreadElement d b)) (plusZero-fromZero binary32) (λ n. refl)
 
   pub dense-form-same-shares : sparseShares a b ≡ shares binary32 (spreadElement d a) (spreadElement d b) d
-  unfolding sparseShares sharesBy sharesWith running
+  unfolding sparseSharesBy sharesBy sharesWith running
   dense-form-same-shares =
       let z = plusZero-fromZero binary32 in
       spread-sums (shares-absent-is-zero binary32) (λ i h. floatAt-fits binary32 a (4 * i)) (λ i h. floatAt-fits binary32 b (4 * i))

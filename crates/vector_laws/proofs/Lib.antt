@@ -3,8 +3,11 @@ pub mod SwappedSums
 pub mod SwappedMerge
 pub mod SwappedBits
 pub mod Swapped
+pub mod Measured
 pub mod OneBitLaws
+pub mod JaccardChoices
 pub mod Summed
 pub mod Spreading
 pub mod DenseFormSums
 pub mod DenseForm
+pub mod Padding

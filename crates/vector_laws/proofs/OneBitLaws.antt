@@ -1,45 +1,47 @@
--- Cosine of 1-bit vectors is the count of bits that differ: 0 exactly for equal bodies, and by a detour never less, as numbers and as f64s.
-use mathlib.Core.Path.{_≡_, refl, sym, ap, ap₂, subst, _∙_}
+-- Cosine of 1-bit blobs, from answers: it is the count of bits that differ, 0 exactly for equal bodies, and by a detour never less. What is measured
+-- against a 1-bit blob is one of the same dims, and counts up to 65,536 are exact as f64s.
+use mathlib.Core.Path.{_≡_, refl, sym, ap, subst, _∙_}
 use mathlib.Core.Logic.{⊎-elim}
-use mathlib.Core.Bool.{false}
+use mathlib.Core.Bool.{true, false, and-eq-true-iff}
 use mathlib.Core.List.{List, [], _∷_}
+use mathlib.Core.Option.{Option, none, some}
 use Prim.Native.Nat.{ℕ, zero, suc, _+_, _-_, _*_, _/_, _≤_, _<_}
 use native.Mathlib.Nat.{div-add-mod', eq-or-lt-of-le, le-of-suc-le-suc, zero-lt-suc}
-use native.Mathlib.Numerals.{add-one}
 use native.Mathlib.Omega.{arith}
-use borrow.Author.Tests.{eqb-true, eq-eqb}
+use borrow.Author.Tests.{eqb-true}
 use lib.Arith.{bin-ind}
 use lib.Bits.{differ, bitXor, xor-add-and, and-le-l, and-le-r}
 use lib.Count.{ones, ones-step}
-use lib.Dec.{T}
+use lib.Dec.{T, eqb}
 use lib.IntN.{pos}
 use lib.ListN.{length, getD, take}
 use lib.Seq.{ext-getD}
-use lib.Ieee.{Float, nan, binary64, add, le}
+use lib.Ieee.{Float, nan, inf, fin, up, down, binary64, add, le, eq}
 use lib.Ieee.Exact.{HasValue}
+use lib.Ieee.Fits.{down-pos}
 use lib.Ieee.Order.{le-of-values}
-use Rattle.float_laws.specs.Zero.{plusZero}
 use Rattle.float_laws.specs.Running.{total}
 use Rattle.float_laws.proofs.Whole.{of-whole, of-zero, add-int}
 use Rattle.little_endian.specs.Bytes.{AreBytes}
-use Rattle.vector_types.specs.Answers.{acceptedAs}
 use Rattle.vector_types.specs.Layout.{maxDims, ceil, bodyFits, bitAt}
 use Rattle.vector_types.specs.Read.{readOf}
 use Rattle.vector_types.specs.Parts.{bodyOf}
 use Rattle.vector_types.specs.declared.VectorType.the-variants.{Float1Bit}
 use Rattle.vector_types.specs.declared.View.{View}
 use Rattle.vector_types.specs.declared.ReadAnswer.the-variants.{Accepted}
+use Rattle.vector_types.proofs.Given.{accepted-same-view}
 use Rattle.vector_types.proofs.Views.{view-facts}
+use Rattle.vector_types.proofs.Bodies.{body-is, body-facts}
+use Rattle.distance_sums.specs.Dense.{isZero}
 use Rattle.distance_sums.specs.OneBit.{wholeBits, differing, bitCosine}
 use Rattle.distance_sums.specs.Values.{cosineOf}
+use Rattle.distance_sums.proofs.Counts.{xor-digits, tally-le, byte-more}
 use Rattle.distance.specs.Values.{valueOf}
-use Rattle.distance.specs.Answer.{distanceOfViews, distanceOf}
+use Rattle.distance.specs.Answer.{distanceOf}
 use Rattle.distance.specs.declared.Distance.the-variants.{Cos}
-use Rattle.distance.specs.declared.DistanceAnswer.{DistanceAnswer}
-use Rattle.distance.specs.declared.DistanceAnswer.the-variants.{Measured, Refused}
-use Rattle.distance_sums.proofs.Counts.{xor-digits, tally-le, Counted, counted-byte}
-use Rattle.distance.proofs.Paired.{body-length}
-use Rattle.vector_laws.specs.OneBitBlob.{OneBitBlob, bitsApart}
+use Rattle.distance.specs.declared.DistanceAnswer.the-variants.{Measured}
+use Rattle.vector_laws.specs.BitsApart.{bitsApart}
+use Rattle.vector_laws.proofs.Measured.{measured-alike, alike-measured}
 
 -- ---- two digits
 differ-is : (x y : ℕ) → differ x y ≡ (x - y) + (y - x)
@@ -62,8 +64,8 @@ differing-self a zero = refl
 differing-self a (suc m) = omega (arith, differing-self a m, differ-is (bitAt a m) (bitAt a m))
 
 -- a number with no digit set is 0, so two bytes that differ in none are equal
-ones-none : (n : ℕ) → ones n ≡ 0 → n ≡ 0
-ones-none = bin-ind (λ (n : ℕ). ones n ≡ 0 → n ≡ 0) (λ e. refl) step
+no-digit : (n : ℕ) → ones n ≡ 0 → n ≡ 0
+no-digit = bin-ind (λ (n : ℕ). ones n ≡ 0 → n ≡ 0) (λ e. refl) step
   where
     step : (n : ℕ) → (ones (n / 2) ≡ 0 → n / 2 ≡ 0) → ones n ≡ 0 → n ≡ 0
     step n half e =
@@ -71,30 +73,26 @@ ones-none = bin-ind (λ (n : ℕ). ones n ≡ 0 → n ≡ 0) (λ e. refl) step
         omega (arith, ones-step n, half none, div-add-mod' n 2)
 
 same-byte : (x y : ℕ) → ones (bitXor x y) ≡ 0 → x ≡ y
-same-byte x y e = omega (arith, xor-add-and x y, and-le-l x y, and-le-r x y, ones-none (bitXor x y) e)
+same-byte x y e = omega (arith, xor-add-and x y, and-le-l x y, and-le-r x y, no-digit (bitXor x y) e)
 
 module _ (a b : List ℕ) (B : AreBytes a) (C : AreBytes b) where
-  differing-counted : (n : ℕ) → Counted differ a b n (differing a b (8 * n))
-  unfolding differing
-  differing-counted n = record { firstBytes = B; secondBytes = C; count = refl }
-
-  byte-more : (n : ℕ) → differing a b (8 * suc n) ≡ differing a b (8 * n) + ones (bitXor (getD a n 0) (getD b n 0))
-  unfolding differing
-  byte-more n = rw (← add-one n) (sym (counted-byte xor-digits (differing-counted n) .count))
-
   same-bytes : (n : ℕ) → differing a b (8 * n) ≡ 0 → (k : ℕ) → k < n → getD a k 0 ≡ getD b k 0
+  unfolding differing
   same-bytes zero e k h = absurd (omega arith)
   same-bytes (suc n) e k h =
-      let more = byte-more n in
+      let more = byte-more xor-digits a b B C n in
       ⊎-elim (λ w. rw w (same-byte (getD a n 0) (getD b n 0) (omega arith))) (λ w. same-bytes n (omega arith) k w)
       (eq-or-lt-of-le (le-of-suc-le-suc h))
 
   differing-none : (n : ℕ) → length a ≡ n → length b ≡ n → differing a b (8 * n) ≡ 0 → a ≡ b
   differing-none n p q e = ext-getD 0 a b (p ∙ sym q) (λ i h. same-bytes n e i (rw p at h))
 
--- ---- a blob: its view, and its body
-pub one-bit-blob : (s : List ℕ) (v : View) (d : ℕ) → AreBytes s → readOf s ≡ Accepted v → v .kind ≡ Float1Bit → v .dims .0 ≡ d → OneBitBlob d s
-one-bit-blob s v d B e k g = record { bytes = B; bodyLength = v .length; read = e ∙ ap₂ (λ l n. acceptedAs l n (v .length)) k g }
+-- ---- a 1-bit blob of d elements
+record OneBit (d : ℕ) (s : List ℕ) : Type 0 where
+  view : View
+  read : readOf s ≡ Accepted view
+  kind : view .kind ≡ Float1Bit
+  dims : view .dims .0 ≡ d
 
 bytes-take : (n : ℕ) (s : List ℕ) → AreBytes s → AreBytes (take n s)
 bytes-take zero s B k = zero-lt-suc 255
@@ -102,62 +100,96 @@ bytes-take (suc n) [] B k = zero-lt-suc 255
 bytes-take (suc n) (x ∷ s) B zero = B zero
 bytes-take (suc n) (x ∷ s) B (suc k) = bytes-take n s (λ i. B (suc i)) k
 
-module _ {d : ℕ} {s : List ℕ} (p : OneBitBlob d s) where
-  few : d ≤ maxDims
-  few = view-facts s _ (p .read) .few
+abbrev orNan : Option Float → Float
+orNan none = nan
+orNan (some x) = x
 
-  body-bytes : AreBytes (bodyOf s)
-  unfolding bodyOf
-  body-bytes = rw (p .read) (bytes-take (p .bodyLength) s (p .bytes))
+module _ {d : ℕ} {s : List ℕ} (o : OneBit d s) where
+  -- what is measured against it is one too, and the answer is the count
+  measured-one-bit : (t : List ℕ) (x : Float) → distanceOf Cos s t ≡ Measured x → OneBit d t × (bitCosine (bitsApart d s t) ≡ x)
+  unfolding valueOf cosineOf
+  measured-one-bit t x e =
+      let p = measured-alike Cos s t x e in
+      let same = accepted-same-view (p .first) (o .view) (sym (p .firstRead) ∙ o .read) in
+      let kind : p .first .kind ≡ Float1Bit = ap (λ (v : View). v .kind) same ∙ o .kind in
+      let dims : p .first .dims .0 ≡ d = ap (λ (v : View). v .dims .0) same ∙ o .dims in (
+        record { view = p .second; read = p .secondRead; kind = sym (p .kind) ∙ kind; dims = sym (p .dims) ∙ dims },
+        ap orNan (rw (kind, dims) at (p .value)),
+      )
+
+  body-bytes : AreBytes s → AreBytes (bodyOf s)
+  body-bytes B = rw (body-is s (o .view) (o .read)) (bytes-take (o .view .length) s B)
 
   body-long : length (bodyOf s) ≡ ceil d 8
-  unfolding bodyOf bodyFits
-  body-long = rw (p .read) (body-length s _ (p .read) ∙ eqb-true _ _ (view-facts s _ (p .read) .fit))
-
--- ---- two blobs of equal dims
-abbrev valueIn : DistanceAnswer → Float
-valueIn (Measured x) = x
-valueIn (Refused r w) = nan
-
--- a count that as a float is +0.0
-no-bits : (n : ℕ) → bitCosine n ≡ plusZero → HasValue (bitCosine n) false n 1 → n ≡ 0
-no-bits n e v = let z = subst (λ (x : Float). HasValue x false n 1) e v in omega (arith, z .1)
-
-module _ {d : ℕ} {s t : List ℕ} (p : OneBitBlob d s) (q : OneBitBlob d t) where
-  pub cosine-counts : distanceOf Cos s t ≡ Measured (bitCosine (bitsApart d s t))
-  unfolding distanceOf distanceOfViews valueOf cosineOf
-  cosine-counts = rw (p .read, q .read, eq-eqb d d refl)
+  unfolding bodyFits
+  body-long = eqb-true _ _ (rw (o .kind, o .dims) at (body-facts s (o .view) (o .read) .fit))
 
   -- 65,536 at the most
-  few-apart : bitsApart d s t ≤ maxDims
+  few-apart : (t : List ℕ) → bitsApart d s t ≤ maxDims
   unfolding differing
-  few-apart = omega (arith, few p, tally-le xor-digits (bodyOf s) (bodyOf t) (wholeBits d))
+  few-apart t = omega (arith, o .dims, view-facts s (o .view) (o .read) .few, tally-le xor-digits (bodyOf s) (bodyOf t) (wholeBits d))
 
-  pub count-exact : HasValue (bitCosine (bitsApart d s t)) false (bitsApart d s t) 1
+  exact-count : (t : List ℕ) (x : Float) → distanceOf Cos s t ≡ Measured x → HasValue x false (bitsApart d s t) 1
   unfolding bitCosine
-  count-exact = of-whole binary64 (bitsApart d s t) (omega (arith, few-apart))
+  exact-count t x e =
+      subst (λ (y : Float). HasValue y false (bitsApart d s t) 1) (measured-one-bit t x e .1) (of-whole binary64 (bitsApart d s t) (omega (arith, few-apart t)))
 
-  pub cosine-zero : (distanceOf Cos s t ≡ Measured plusZero → bodyOf s ≡ bodyOf t) × (bodyOf s ≡ bodyOf t → distanceOf Cos s t ≡ Measured plusZero)
-  unfolding bitCosine
-  cosine-zero = (
-    λ e. differing-none (bodyOf s) (bodyOf t) (body-bytes p) (body-bytes q) (ceil d 8) (body-long p) (body-long q)
-        (no-bits (bitsApart d s t) (ap valueIn (sym cosine-counts ∙ e)) count-exact),
-    λ e. cosine-counts ∙ rw (e, differing-self (bodyOf t) (wholeBits d), of-zero binary64),
-  )
+-- a whole number that as a float is a zero
+zero-whole : (x : Float) (n : ℕ) → isZero x ≡ true → HasValue x false n 1 → n ≡ 0
+unfolding eq
+zero-whole nan n e v = absurd v
+zero-whole (inf s) n e v = absurd v
+zero-whole (fin s m i) zero e v = refl
+zero-whole (fin s m i) (suc n) e v =
+    let a = m * up i * down (pos 0) in
+    let b = 0 * up (pos 0) * down i in
+    omega (arith, eqb-true a b (and-eq-true-iff (eqb a b) _ .0 e .0), v .1, down-pos i)
 
--- ---- three blobs of equal dims: the count, and the f64, by way of t; the f64s' sum is exact
+-- ---- the theorems: counts by way of t, and the answers for an accepted 1-bit blob s
 pub counts-triangle : (d : ℕ) (s t u : List ℕ) → bitsApart d s u ≤ bitsApart d s t + bitsApart d t u
 counts-triangle d s t u = differing-triangle (bodyOf s) (bodyOf t) (bodyOf u) (wholeBits d)
 
-module _ {d : ℕ} {s t u : List ℕ} (p : OneBitBlob d s) (q : OneBitBlob d t) (r : OneBitBlob d u) where
-  pub detour-exact : HasValue (add binary64 (bitCosine (bitsApart d s t)) (bitCosine (bitsApart d t u))) false (bitsApart d s t + bitsApart d t u) 1
-  unfolding bitCosine
-  detour-exact =
-      let x = few-apart p q in
-      let y = few-apart q r in
-      rw (add-int binary64 (pos (bitsApart d s t)) (pos (bitsApart d t u)) (omega arith) (omega arith)) (of-whole binary64 _ (omega arith))
+module _ (s : List ℕ) (v : View) (e : readOf s ≡ Accepted v) (k : v .kind ≡ Float1Bit) where
+  abbrev d : ℕ
+  d = v .dims .0
 
-  pub cosine-triangle : T (le (bitCosine (bitsApart d s u)) (add binary64 (bitCosine (bitsApart d s t)) (bitCosine (bitsApart d t u))))
-  cosine-triangle =
-      le-of-values _ _ (bitsApart d s u) 1 (bitsApart d s t + bitsApart d t u) 1 (zero-lt-suc 0) (zero-lt-suc 0) (count-exact p r) detour-exact
-      (omega (arith, counts-triangle d s t u))
+  one-bit : OneBit d s
+  one-bit = record { view = v; read = e; kind = k; dims = refl }
+
+  -- another of the same dims is measured against it, by the count
+  pub cosine-counts : (t : List ℕ) (w : View) → readOf t ≡ Accepted w → w .kind ≡ Float1Bit → v .dims .0 ≡ w .dims .0
+      → distanceOf Cos s t ≡ Measured (bitCosine (bitsApart (v .dims .0) s t))
+  unfolding valueOf cosineOf
+  cosine-counts t w g l same =
+      alike-measured Cos s t _ (record { first = v; second = w; firstRead = e; secondRead = g; kind = k ∙ sym l; dims = same; value = rw k })
+
+  -- the f64 that is answered is the count
+  pub count-exact : (t : List ℕ) (x : Float) → distanceOf Cos s t ≡ Measured x → HasValue x false (bitsApart (v .dims .0) s t) 1
+  count-exact = exact-count one-bit
+
+  pub cosine-zero : (t : List ℕ) (x : Float) → AreBytes s → AreBytes t → distanceOf Cos s t ≡ Measured x
+      → (isZero x ≡ true → bodyOf s ≡ bodyOf t) × (bodyOf s ≡ bodyOf t → isZero x ≡ true)
+  unfolding bitCosine eq
+  cosine-zero t x B C g =
+      let (other, count) = measured-one-bit one-bit t x g in (
+        λ z. differing-none (bodyOf s) (bodyOf t) (body-bytes one-bit B) (body-bytes other C) (ceil d 8) (body-long one-bit) (body-long other)
+            (zero-whole x (bitsApart d s t) z (count-exact t x g)),
+        λ z. rw (← count, z, differing-self (bodyOf t) (wholeBits d), of-zero binary64),
+      )
+
+  -- by way of t: the sum of two f64s is exact, and so no less than the third
+  pub detour-exact : (t u : List ℕ) (x y : Float) → distanceOf Cos s t ≡ Measured x → distanceOf Cos t u ≡ Measured y
+      → HasValue (add binary64 x y) false (bitsApart (v .dims .0) s t + bitsApart (v .dims .0) t u) 1
+  unfolding bitCosine
+  detour-exact t u x y p q =
+      let (other, first) = measured-one-bit one-bit t x p in
+      let (_, second) = measured-one-bit other u y q in
+      let a = few-apart one-bit t in
+      let b = few-apart other u in
+      rw (← first, ← second, add-int binary64 (pos (bitsApart d s t)) (pos (bitsApart d t u)) (omega arith) (omega arith)) (of-whole binary64 _ (omega arith))
+
+  pub cosine-triangle : (t u : List ℕ) (x y z : Float) → distanceOf Cos s t ≡ Measured x → distanceOf Cos t u ≡ Measured y → distanceOf Cos s u ≡ Measured z
+      → T (le z (add binary64 x y))
+  cosine-triangle t u x y z p q r =
+      le-of-values z (add binary64 x y) (bitsApart d s u) 1 (bitsApart d s t + bitsApart d t u) 1 (zero-lt-suc 0) (zero-lt-suc 0)
+      (count-exact u z r) (detour-exact t u x y p q) (omega (arith, counts-triangle d s t u))

@@ -2,14 +2,13 @@
 -- refused either way: kind by kind, over the sums and counts with their arguments exchanged.
 use mathlib.Core.Path.{_≡_, refl, sym, ap, ap₂, _∙_}
 use mathlib.Core.Bool.{Bool, true, false, not, false≢true}
-use mathlib.Core.List.{List, [], _∷_}
+use mathlib.Core.List.{List}
 use mathlib.Core.Option.{some}
 use Prim.Native.Nat.{ℕ}
 use lib.Dec.{eqb}
 use borrow.Author.Tests.{eqb-true, eqb-false, eq-eqb, ne-eqb}
 use lib.Ieee.{Format, binary32, binary64}
 use Rattle.float_laws.specs.Running.{AllFit}
-use Rattle.vector_types.specs.Answers.{Test, test, firstGiven, unless}
 use Rattle.vector_types.specs.Layout.{byteOf, hasByte}
 use Rattle.vector_types.specs.Read.{readOf}
 use Rattle.vector_types.specs.Parts.{bodyOf}
@@ -24,21 +23,18 @@ use Rattle.distance_sums.specs.OneBit.{wholeBits, bitCosine, bitDot, bitJaccard
 use Rattle.distance_sums.specs.Sparse.{sparseCosine, sparseProducts}
 use Rattle.distance_sums.specs.Values.{cosineOf, l2Of, dotOf, jaccardOf}
 use Rattle.distance.specs.Values.{valueOf}
-use Rattle.distance.specs.Answer.{distanceAnswer, mismatches, distanceOfViews, distanceOf}
+use Rattle.distance.specs.Answer.{pairingOf, distanceOf}
 use Rattle.distance.specs.declared.Distance.{Distance}
 use Rattle.distance.specs.declared.Distance.the-variants.{Cos, L2, Dot, Jaccard}
-use Rattle.distance.specs.declared.Which.the-variants.{Neither}
-use Rattle.distance.specs.declared.DistanceAnswer.{DistanceAnswer}
-use Rattle.distance.specs.declared.DistanceAnswer.the-variants.{Refused}
-use Rattle.vector_types.proofs.SameKind.{same-kind}
-use Rattle.vector_laws.specs.Symmetric.{isNotFloat8, symmetric}
+use Rattle.vector_laws.specs.Symmetric.{symmetric}
+use Rattle.vector_laws.proofs.Measured.{views-same}
 use Rattle.vector_laws.proofs.SwappedSums.{products-swap, dense-crossed, sparse-crossed, squares-swap, dots-swap, shares-swap}
 use Rattle.vector_laws.proofs.SwappedMerge.{sparse-products-swap, sparse-squares-swap, sparse-dots-swap, sparse-shares-swap}
 use Rattle.vector_laws.proofs.SwappedBits.{differing-swap, overlap-swap}
 
 -- ---- two bodies of one kind
 module _ (d : ℕ) (a b : List ℕ) where
-  cosine-swap : (k : VectorType) → isNotFloat8 k ≡ true → cosineOf k d a b ≡ cosineOf k d b a
+  cosine-swap : (k : VectorType) → not (hasByte 4 k) ≡ true → cosineOf k d a b ≡ cosineOf k d b a
   unfolding cosineOf
   cosine-swap Float32Dense o = sym (dense-crossed _ binary32) ∙ ap (denseCosine binary32) (products-swap binary32 _ _ d)
   cosine-swap Float64Dense o = sym (dense-crossed _ binary64) ∙ ap (denseCosine binary64) (products-swap binary64 _ _ d)
@@ -54,7 +50,7 @@ module _ (d : ℕ) (a b : List ℕ) where
   l2-swap Float1Bit = refl
   l2-swap Float8 = ap (λ s. some (l2By s)) (squares-swap binary64 _ _ d)
 
-  dot-swap : (k : VectorType) → isNotFloat8 k ≡ true → dotOf k d a b ≡ dotOf k d b a
+  dot-swap : (k : VectorType) → not (hasByte 4 k) ≡ true → dotOf k d a b ≡ dotOf k d b a
   unfolding dotOf
   dot-swap Float32Dense o = ap dotBy (dots-swap _ _ d)
   dot-swap Float64Dense o = ap dotBy (dots-swap _ _ d)
@@ -91,30 +87,16 @@ eqb-swap x y = go (eqb x y) refl
     go true e = sym (eq-eqb y x (sym (eqb-true x y e)))
     go false e = sym (ne-eqb y x (λ z. eqb-false x y e (sym z)))
 
-mismatches-swap : (v w : View) → mismatches v w ≡ mismatches w v
-mismatches-swap v w = rw (eqb-swap (v .dims .0) (w .dims .0), eqb-swap (byteOf (v .kind)) (byteOf (w .kind)))
-
-module _ (m : Distance) (v w : View) (o : symmetric m (v .kind) ≡ true) (a b : List ℕ) where
-  -- what they answer, unless a test refuses
-  abbrev given : List Test → VectorType → ℕ → List ℕ → List ℕ → DistanceAnswer
-  given ts k d a b = unless (firstGiven ts) (λ r. Refused r Neither) (distanceAnswer (valueOf m k d a b))
-
-  pair-swap : distanceOfViews m v w a b ≡ distanceOfViews m w v b a
-  unfolding distanceOfViews
-  pair-swap =
-      go (eqb (v .dims .0) (w .dims .0)) refl (hasByte (byteOf (w .kind)) (v .kind)) refl
-      ∙ ap (λ ts. given ts (w .kind) (w .dims .0) b a) (mismatches-swap v w)
-    where
-      go : (p : Bool) → eqb (v .dims .0) (w .dims .0) ≡ p → (q : Bool) → hasByte (byteOf (w .kind)) (v .kind) ≡ q
-          → let ts = test 12 (not p) ∷ test 13 (not q) ∷ [] in given ts (v .kind) (v .dims .0) a b ≡ given ts (w .kind) (w .dims .0) b a
-      go false e q k = refl
-      go true e false k = refl
-      go true e true k =
-          ap distanceAnswer (value-swap m (v .kind) (v .dims .0) a b o
-          ∙ ap₂ (λ l d. valueOf m l d b a) (same-kind (v .kind) (w .kind) k) (eqb-true _ _ e))
+pairing-swap : (v w : View) → pairingOf v w ≡ pairingOf w v
+pairing-swap v w = rw (eqb-swap (v .dims .0) (w .dims .0), eqb-swap (byteOf (v .kind)) (byteOf (w .kind)))
 
 -- ---- two blobs
 pub distance-swap : (m : Distance) (s t : List ℕ) (v w : View) → readOf s ≡ Accepted v → readOf t ≡ Accepted w → symmetric m (v .kind) ≡ true
     → distanceOf m s t ≡ distanceOf m t s
 unfolding distanceOf
-distance-swap m s t v w e g o = rw (e, g) (pair-swap m v w o (bodyOf s) (bodyOf t))
+distance-swap m s t v w e g o =
+    let a = bodyOf s in
+    let b = bodyOf t in
+    rw (e, g)
+    (views-same (valueOf m) (valueOf m) v w w v a b b a (pairing-swap v w)
+    (λ same. value-swap m (v .kind) (v .dims .0) a b o ∙ ap₂ (λ l d. valueOf m l d b a) (same .kind) (same .dims)))

@@ -17,7 +17,8 @@ use Rattle.bodies.specs.Entries.{Entries, entriesOf}
 use Rattle.bodies.specs.Merged.{Rule, merged, merge}
 use Rattle.distance_sums.specs.Extremes.{lesser, greater}
 use Rattle.distance_sums.specs.Dense.{noProducts, productsWith, squaresWith, dotsWith, Shares, noShares, sharesWith}
-use Rattle.distance_sums.specs.Sparse.{productsRule, squaresRule, dotsRule, sharesRule, sparseProducts, sparseSquares, sparseDots, sparseShares}
+use Rattle.distance_sums.specs.Sparse.{productsRule, squaresRule, dotsRule, sparseProducts, sparseSquares, sparseDots, sparseSharesBy}
+use Rattle.distance_sums.specs.inner.Shares.{sharesRule, sparseShares}
 use Rattle.distance_sums.proofs.EitherZero.{BothFromZero, one-more, ours-are-choices}
 use Rattle.vector_laws.proofs.SwappedSums.{crossed, exchanged-are-choices}
 
@@ -130,5 +131,5 @@ module _ (a b : List ℕ) where
   sparse-dots-swap = bodies-swap dots-exchange plusZero tt
 
   pub sparse-shares-swap : sparseShares a b ≡ sparseShares b a
-  unfolding sparseShares
+  unfolding sparseSharesBy
   sparse-shares-swap = bodies-swap shares-exchange noShares (zero-from, zero-from)

@@ -11,10 +11,11 @@ use Rattle.float_laws.proofs.Order.{nan-self}
 use Rattle.float_laws.proofs.Running.{running-same}
 use Rattle.float_laws.proofs.Squared.{sub-squared}
 use Rattle.float_laws.proofs.Swap.{mul-comm}
-use Rattle.distance_sums.specs.Extremes.{lesser, greater, Chosen}
-use Rattle.distance_sums.specs.Dense.{Products, products, isZero, angle, denseCosine, squares, dots, sharesBy, shares}
+use Rattle.distance_sums.specs.Extremes.{lesser, greater, Chosen, AreChoices}
+use Rattle.distance_sums.specs.Dense.{Products, products, isZero, angle, denseCosine, squares, dots, sharesBy}
+use Rattle.distance_sums.specs.inner.Shares.{shares}
 use Rattle.distance_sums.specs.Sparse.{sparseCosine}
-use Rattle.distance_sums.proofs.EitherZero.{lesser-is, greater-is, AreChoices, shares-either-zero}
+use Rattle.distance_sums.proofs.EitherZero.{lesser-is, greater-is, shares-either-zero}
 
 -- ---- L2 and dot
 pub squares-swap : (f : Format) (x y : ℕ → Float) (n : ℕ) → squares f x y n ≡ squares f y x n

@@ -1,5 +1,6 @@
 pub mod Symmetric
 pub mod SwapExamples
-pub mod OneBitBlob
+pub mod BitsApart
+pub mod Padding
 pub mod DenseForm
 pub mod DenseFormExamples

@@ -8,7 +8,8 @@ use lib.Ieee.{Float, binary32, fits}
 use Rattle.bodies.specs.Entries.{storedCount, entriesOf}
 use Rattle.distance_sums.specs.Extremes.{lesser, greater}
 use Rattle.distance_sums.specs.Dense.{Shares, noShares, sharesWith}
-use Rattle.distance_sums.specs.Sparse.{sharesRule, sparseShares}
+use Rattle.distance_sums.specs.Sparse.{sparseSharesBy}
+use Rattle.distance_sums.specs.inner.Shares.{sharesRule}
 use Rattle.jaccard.specs.inner.Sums.{shares32}
 use Rattle.float_laws.proofs.Running.{plusZero-fromZero}
 use Rattle.distance_sums.proofs.EitherZero.{BothFromZero, one-more, ours-are-choices}
@@ -34,7 +35,7 @@ loop-holds c =
     (merging-none (c .new .ensures), subst (BothFromZero binary32) (sym (c .new .ensures)) (zero, zero))
 
 returns : tie.Need-returns Inv-loop μ-loop
-unfolding sparseShares
+unfolding sparseSharesBy
 returns c = merging-done (c .before .before .before .loop .inv .0) (c .before .before .next-turn .ensures) (c .enum-told .given .1)
 
 alone-requires : tie.Need-alone-requires Inv-loop μ-loop
