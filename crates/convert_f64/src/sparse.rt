@@ -15,7 +15,6 @@ ghost use Rattle.bodies.specs.Elements.{denseElement};
 ghost use Rattle.convert_parts.specs.Pieces.{placesOf};
 ghost use Rattle.convert_parts.specs.Sparse.{isNonzero};
 ghost use Rattle.convert_parts.specs.Result.{resultOf};
-use convert_parts::entries::next_count;
 use convert_parts::entries::put_entry;
 
 // How many elements are stored, those that are not 0.0 before they are rounded. A pattern without its
@@ -29,7 +28,7 @@ pub(crate) fn count_stored(dims: usize, body: &[u8]) -> usize
     let mut i = 0;
     while i < dims {
         let bits = little_endian::u64_at(body, 8 * i);
-        n = next_count(bits % 0x8000_0000_0000_0000 != 0, n);
+        n += (bits % 0x8000_0000_0000_0000 != 0) as usize;
         i += 1;
     }
     n

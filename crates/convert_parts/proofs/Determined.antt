@@ -6,7 +6,6 @@ use denote.Ref.{now}
 use Rattle.promises.specs.Determined.{Determined}
 use Rattle.convert_parts.proofs.filling.put_zeros.Reads as put-zeros
 use Rattle.convert_parts.proofs.filling.put_copy.Reads as put-copy
-use Rattle.convert_parts.proofs.entries.next_count.Reads as next-count
 use Rattle.convert_parts.proofs.entries.put_entry.Reads as put-entry
 use Rattle.convert_parts.proofs.bits.weighed.Reads as weighed
 use Rattle.convert_parts.proofs.quantized.no_range.Reads as no-range
@@ -20,9 +19,6 @@ put-zeros-determined κs a r r′ x x′ p q = p ∙ sym q
 
 pub put-copy-determined : (κs : _) (a : _) → Determined (put-copy.Post κs a) (λ r x. now (x .1 .0))
 put-copy-determined κs a r r′ x x′ p q = p ∙ sym q
-
-pub next-count-determined : (κs : _) (a : _) → Determined (next-count.Post κs a) (λ r x. r)
-next-count-determined κs a r r′ x x′ p q = p ∙ sym q
 
 pub put-entry-determined : (κs : _) (a : _) → Determined {Y = ℕ × List ℕ} (put-entry.Post κs a) (λ r x. (r, now (x .1 .1 .1 .1 .1 .0)))
 put-entry-determined κs a r r′ x x′ p q = ap₂ (λ (n : ℕ) (o : List ℕ). (n, o)) (p .0 ∙ sym (q .0)) (p .1 ∙ sym (q .1))

@@ -7,6 +7,7 @@ use native.Mathlib.Nat.{add-zero, add-suc}
 use native.Mathlib.Numerals.{add-one}
 use native.Mathlib.Omega.{arith}
 use lib.ListN.{length, length-append}
+use mir.Val.{boolByte}
 use Rattle.little_endian.specs.Bytes.{bytesOf}
 use Rattle.little_endian.proofs.Numbers.{length-bytesOf}
 use Rattle.convert_parts.specs.Pieces.{placesOf, piecesAt}
@@ -53,10 +54,11 @@ module _ (p : ℕ → Bool) where
     pub count-within : n ≤ i
     count-within = rw (h .found) (places-within i)
 
-    pub count-next : i < d → (b : Bool) → b ≡ p i → (r : ℕ) → r ≡ n + cond b 1 0 → Counting d r (i + 1)
-    count-next less b e r more = record { within = omega arith; found = rw (length-next i, ← (h .found), ← e) (more ∙ one b) }
+    -- the test at place i, as a number, is what it adds
+    pub count-next : i < d → (b : Bool) → b ≡ p i → Counting d (n + boolByte b) (i + 1)
+    count-next less b e = record { within = omega arith; found = rw (length-next i, ← (h .found), ← e) (one b) }
       where
-        one : (b : Bool) → n + cond b 1 0 ≡ n + length (cond b (i ∷ []) [])
+        one : (b : Bool) → n + boolByte b ≡ n + length (cond b (i ∷ []) [])
         one true = refl
         one false = refl
 

@@ -7,14 +7,6 @@ ghost use lib.ListN.{length};
 ghost use Rattle.little_endian.specs.Bytes.{put, bytesOf};
 ghost use Rattle.vector_types.specs.Layout.{maxDims};
 
-// One more, if an element is stored.
-pub fn next_count(stored: bool, n: usize) -> usize
-    requires { ⌜ n < maxDims ⌝ }
-    ensures { λ r. ⌜ r ≡ n + cond stored 1 0 ⌝ }
-{
-    if stored { n + 1 } else { n }
-}
-
 // Puts element i, if it is stored, as entry n of count: the four bytes of its value, and its index.
 // Answers how many entries there are then.
 pub fn put_entry(

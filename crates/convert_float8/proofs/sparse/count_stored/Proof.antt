@@ -1,11 +1,8 @@
 -- The stored elements below i have been counted.
-use mathlib.Core.Path.{_≡_, refl}
-use mathlib.Core.Bool.{Bool, true, false, cond}
 use Prim.Native.Nat.{_-_}
 use native.Mathlib.Omega.{arith}
 use borrow.Author.Needs.{needs}
-use mir.Val.{boolByte}
-use lib.Ieee.{binary32, ne, ofBits}
+use lib.Ieee.{binary32}
 use Rattle.bodies.specs.Elements.{float8Element}
 use Rattle.convert_parts.specs.Sparse.{isNonzero}
 use Rattle.convert_parts.proofs.Places.{Counting, count-none, count-within, count-next, count-all}
@@ -19,16 +16,11 @@ Inv-loop dims body scale n₀ i₀ n i = Counting (λ k. isNonzero (float8Elemen
 abbrev μ-loop : tie.MeasureT-loop
 μ-loop dims body scale n₀ i₀ n i = dims - i
 
--- a test as a number is what it adds to the count
-added : (b : Bool) → boolByte b ≡ cond b 1 0
-added true = refl
-added false = refl
-
 loop-again : tie.Need-loop-again Inv-loop μ-loop
 loop-again c =
     let turn = c .before .before in
     let x = element-computed _ _ _ (turn .before .before .scale-of .ensures) (c .element .ensures) in
-    count-next _ (turn .before .loop .inv) (turn .loop-test .taken) _ (nonzero-computed _ _ _ x) _ (rw (added (ne (c .element .result) (ofBits binary32 0))))
+    count-next _ (turn .before .loop .inv) (turn .loop-test .taken) _ (nonzero-computed _ _ _ x)
 
 add-n : tie.Need-add-n Inv-loop μ-loop
 add-n c =
