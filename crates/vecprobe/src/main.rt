@@ -11,7 +11,8 @@ ghost use Rattle.lines.specs.Parts.{lastUnlessEmpty};
 ghost use Rattle.line_stream.specs.inner.Serving.{Ready, Passes, Ending};
 ghost use Rattle.probe_blobs.specs.Limits.{scratchRoom, blobRoom};
 ghost use Rattle.probe_lines.specs.Limits.{decodedRoom};
-ghost use Rattle.vecprobe.specs.inner.Rooms.{longestReply, inputRoom, replyRoom, Rooms};
+ghost use Rattle.probe_replies.specs.inner.Rooms.{longestReply, Rooms};
+ghost use Rattle.vecprobe.specs.inner.Rooms.{inputRoom, replyRoom};
 use line_stream::Done;
 use line_stream::Held;
 use line_stream::Piece;
@@ -21,7 +22,7 @@ use probe_lines::BLOB;
 use probe_lines::DECODED;
 use probe_lines::LIMIT;
 use probe_lines::SCRATCH;
-use serving::LONGEST;
+use probe_replies::LONGEST;
 use serving::serve;
 
 // As many bytes of a line as are kept: one more than it may have, so that a longer one is seen.

@@ -1,14 +1,7 @@
 -- The rooms of vecprobe.
-use Prim.Native.Nat.{ℕ, _+_, _*_, _≤_}
-use mathlib.Core.Path.{_≡_}
-use mathlib.Core.List.{List}
-use lib.ListN.{length}
-use Rattle.probe_blobs.specs.Limits.{scratchRoom, blobRoom}
+use Prim.Native.Nat.{ℕ, _+_}
 use Rattle.probe_lines.specs.Limits.{vecprobeLimit}
-
--- the longest numbered reply: twenty digits, a tab, room for the reply to a line, and a newline
-abbrev pub longestReply : ℕ
-longestReply = vecprobeLimit + 22
+use Rattle.probe_replies.specs.inner.Rooms.{longestReply}
 
 -- as many bytes of a line as are kept
 abbrev pub mostKept : ℕ
@@ -20,9 +13,3 @@ inputRoom = mostKept + 65536
 
 abbrev pub replyRoom : ℕ
 replyRoom = longestReply + 65536
-
--- room to work in: for the bytes that a line is decoded to, for a conversion, and for the blob made
-pub record Rooms (decoded scratch made : List ℕ) : Type 0 where
-  pub bytes : vecprobeLimit ≤ 2 * length decoded
-  pub dense : length scratch ≡ scratchRoom
-  pub blob : length made ≡ blobRoom

@@ -3,12 +3,13 @@ use Prim.Native.Nat.{_-_}
 use native.Mathlib.Omega.{arith}
 use lib.ListN.{length, length-set}
 use Rattle.lines.specs.Text.{newline}
-use Rattle.lines.specs.Printed.{headOf, numberedReply}
+use Rattle.lines.specs.Printed.{headOf, limited, numberedReply}
 use Rattle.line_stream.proofs.Replying.{Replied, replied}
-use Rattle.vecprobe.specs.Printed.{replyTo}
+use Rattle.probe_lines.specs.Limits.{vecprobeLimit}
+use Rattle.probe_lines.specs.Line.{vecprobeReply}
 use borrow.Author.Needs.{needs}
-use Rattle.vecprobe.proofs.serving.reply.Statement.{statement}
-use Rattle.vecprobe.proofs.serving.reply.Tie as tie
+use Rattle.probe_replies.proofs.reply.Statement.{statement}
+use Rattle.probe_replies.proofs.reply.Tie as tie
 
 -- the start, and where the head and the reply to the line are put
 abbrev start : tie.After-slice-known9 → tie.Start
@@ -21,7 +22,7 @@ abbrev said : tie.After-slice-known9 → tie.After-answer
 said c = c .before .before .before .before .before .before .before .before
 
 whole : (c : tie.After-slice-known9) → let a = start c .args in let h = head c .put-head in let r = said c .answer in
-    Replied (headOf (a .number)) (replyTo (a .line .now)) (a .out .now) (h .last .1 .0) (r .last .1 .1 .1 .1 .0) newline (h .result) (r .result) (length (h .last .1 .0) - 1)
+    Replied (headOf (a .number)) (limited vecprobeLimit vecprobeReply (a .line .now)) (a .out .now) (h .last .1 .0) (r .last .1 .1 .1 .1 .0) newline (h .result) (r .result) (length (h .last .1 .0) - 1)
 whole c =
     let h = head c .put-head in
     let r = said c .answer in

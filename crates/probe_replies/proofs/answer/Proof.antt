@@ -1,8 +1,8 @@
 -- `answer` meets its contract, on either side of the limit.
 use borrow.Author.Tests.{lt-ltb, le-ltb}
 use borrow.Author.Needs.{needs}
-use Rattle.vecprobe.proofs.serving.answer.Statement.{statement}
-use Rattle.vecprobe.proofs.serving.answer.Tie as tie
+use Rattle.probe_replies.proofs.answer.Statement.{statement}
+use Rattle.probe_replies.proofs.answer.Tie as tie
 
 returns : tie.Need-returns
 returns c = rw (lt-ltb _ _ (c .before .before .before .before .if1 .taken)) (c .before .before .put-malformed .ensures)
