@@ -1,0 +1,76 @@
+-- Laws of the text that is read next: bytes that came behind the line that is held, or its newline at the end of the input.
+use mathlib.Core.Path.{_≡_, refl, sym, _∙_, subst}
+use mathlib.Core.Bool.{Bool, true, false, cond, false≢true}
+use mathlib.Core.List.{List, [], _∷_, _++_}
+use Prim.Native.Nat.{ℕ, _+_, _-_, _<_, _≤_}
+use native.Mathlib.Omega.{arith}
+use native.Mathlib.Numerals.{add-one}
+use borrow.Author.Tests.{eq-eqb, ne-eqb}
+use lib.ListN.{length, take, drop, set, length-set}
+use lib.Seq.{take-suc-set, take-take, take-at, drop-at, length-take-le}
+use Rattle.lines.specs.Text.{newline}
+use Rattle.line_stream.specs.inner.Stream.{keptOf, lastNewline}
+use Rattle.line_stream.specs.inner.Reading.{PieceFits, HoldsText, ReadsText}
+use Rattle.line_stream.specs.declared.Piece.{Piece}
+use Rattle.line_stream.specs.declared.Piece.the-variants.{Bytes}
+use Rattle.line_stream.specs.declared.InputText.{InputText}
+use Rattle.line_stream.specs.declared.NextText.{NextText}
+use Rattle.line_stream.specs.declared.NextText.the-variants.{Text}
+
+-- the line is the first bytes of the buffer, and the input is at its end
+module _ (buffer : List ℕ) (count left : ℕ) (less : count < length buffer) where
+  size : length (take count buffer) ≡ count
+  size = length-take-le count buffer (omega arith)
+
+  pub last-empty : count ≡ 0 → HoldsText (take count buffer) left buffer (record { count = count; end = count; left = left; more = false })
+  last-empty zero = record {
+    count = sym size;
+    front = refl;
+    within = omega arith;
+    fits = omega arith;
+    some = λ e. absurd (false≢true e);
+    fewer = λ e. absurd (false≢true e);
+    last = λ _. rw (eq-eqb (length (take count buffer)) 0 (size ∙ zero), zero);
+  }
+
+  pub last-ended : (count ≡ 0 → ⊥) → HoldsText (take count buffer) left (set buffer count newline) (record { count = count; end = count + 1; left = left; more = false })
+  last-ended some =
+      let put : take (count + 1) (set buffer count newline) ≡ take count buffer ++ (newline ∷ []) = rw add-one (take-suc-set buffer count newline less) in
+      record {
+        count = sym size;
+        front = sym (take-take count (count + 1) (set buffer count newline) (omega arith)) ∙ rw put (take-at (take count buffer) (newline ∷ []) count size);
+        within = omega arith;
+        fits = omega (arith, length-set buffer count newline);
+        some = λ e. absurd (false≢true e);
+        fewer = λ e. absurd (false≢true e);
+        last = λ _. rw (put, drop-at (take count buffer) (newline ∷ []) count size, ne-eqb (length (take count buffer)) 0 (λ z. some (sym size ∙ z)));
+      }
+
+-- n bytes came
+pub bytes-fit : (count room left : ℕ) {n : ℕ} {r : Piece} → r ≡ Bytes n → PieceFits count room left r → (count + n ≤ room) × (n ≤ left)
+bytes-fit count room left e f = subst (λ (x : Piece). PieceFits count room left x) e f
+
+pub piece-held : {line buffer : List ℕ} {count : ℕ} (n left : ℕ) → count ≡ length line → take count buffer ≡ line → count + n ≤ length buffer → n ≤ left → (n ≡ 0 → ⊥)
+    → HoldsText line left buffer (record { count = count; end = count + n; left = left - n; more = true })
+piece-held n left size front fits few some = record {
+  count = size;
+  front = front;
+  within = omega arith;
+  fits = fits;
+  some = λ _. omega (arith, some);
+  fewer = λ _. omega arith;
+  last = λ e. absurd (false≢true (sym e));
+}
+
+-- a text was read
+pub text-held : (at end most : ℕ) (buffer : List ℕ) {left : ℕ} {buffer′ : List ℕ} {r : NextText} {t : InputText} → r ≡ Text t → ReadsText at end most left buffer buffer′ r
+    → HoldsText (keptOf most (drop at (take end buffer))) left buffer′ t
+text-held at end most buffer {left} {buffer′} e h = subst (λ (x : NextText). ReadsText at end most left buffer buffer′ x) e h
+
+-- the loop over texts ends: fewer bytes are left, or no more come
+pub left-fewer : {line buffer : List ℕ} {left : ℕ} {t : InputText} → HoldsText line left buffer t → cond (t .more) (t .left + 1) 0 < left + 1
+left-fewer {left = left} {t} h = go (t .more) refl
+  where
+    go : (m : Bool) → t .more ≡ m → cond m (t .left + 1) 0 < left + 1
+    go true e = omega (arith, h .some e, h .fewer e)
+    go false e = omega arith
