@@ -1,6 +1,6 @@
 -- Laws of a program's own loop: what stands in the buffer is what the pieces of the input so far leave.
 use mathlib.Core.Path.{_≡_, refl, ap, ap₂, _∙_, sym}
-use mathlib.Core.Bool.{Bool, true}
+use mathlib.Core.Bool.{true}
 use mathlib.Core.List.{List, [], _∷_, _++_, append-nil, flatten}
 use Prim.Native.Nat.{ℕ, _+_, _-_, _<_, _≤_, _^_}
 use native.Mathlib.Omega.{arith}
@@ -35,21 +35,21 @@ module _ (reply : List ℕ → List ℕ) (most : ℕ) where
   after-count p [] = omega arith
   after-count p (s ∷ pieces) = omega (arith, after-count (afterPiece reply most p s) pieces, count-le (p .line) s, length-append s (flatten pieces))
 
-  -- of the pieces that came a line is left, from `at` up to `end`; before it b lines ended, and while there is more, `left` bytes may come before there are `top` in all
-  pub record InputRead (buffer : List ℕ) (at end b left top : ℕ) (more : Bool) : Type 0 where
+  -- of the pieces that came a line is left, from `at` up to `end`; before it b lines ended, and `left` bytes more may come before there are `top` in all
+  pub record InputRead (buffer : List ℕ) (at end b left top : ℕ) : Type 0 where
     pub pieces : List (List ℕ)
     pub within : at ≤ end
     pub inside : end ≤ length buffer
     pub line : keptOf most (drop at (take end buffer)) ≡ afterPieces reply most initial pieces .line
     pub numbered : b ≡ afterPieces reply most initial pieces .before
-    pub room : more ≡ true → length (flatten pieces) + left ≤ top
+    pub room : length (flatten pieces) + left ≤ top
 
-  pub nothing-read : (buffer : List ℕ) (top : ℕ) → InputRead buffer 0 0 0 top top true
+  pub nothing-read : (buffer : List ℕ) (top : ℕ) → InputRead buffer 0 0 0 top top
   unfolding afterPieces flatten keptOf
-  nothing-read buffer top = record { pieces = []; within = omega arith; inside = omega arith; line = take-nil most; numbered = refl; room = λ _. omega arith }
+  nothing-read buffer top = record { pieces = []; within = omega arith; inside = omega arith; line = take-nil most; numbered = refl; room = omega arith }
 
   -- the next text is read
-  module _ {buffer b₁ : List ℕ} {at end b left top : ℕ} {t : InputText} (c : InputRead buffer at end b left top true) (h : HoldsText (keptOf most (drop at (take end buffer))) left b₁ t) where
+  module _ {buffer b₁ : List ℕ} {at end b left top : ℕ} {t : InputText} (c : InputRead buffer at end b left top) (h : HoldsText (keptOf most (drop at (take end buffer))) left b₁ t) where
     front : take (t .count) (take (t .end) b₁) ≡ afterPieces reply most initial (c .pieces) .line
     front = take-take (t .count) (t .end) b₁ (h .within) ∙ h .front ∙ c .line
 
@@ -63,12 +63,12 @@ module _ (reply : List ℕ → List ℕ) (most : ℕ) where
         record {
           inside = omega (arith, size, h .within);
           line = rw front none;
-          numbers = omega (arith, size, after-count initial (c .pieces), c .numbered, c .room refl);
+          numbers = omega (arith, size, after-count initial (c .pieces), c .numbered, c .room);
         }
 
-    -- all its lines are served
-    pub text-served : {r : ServedText} → ServesAll (take (t .end) b₁) b r → InputRead b₁ (r .at) (t .end) (r .before) (t .left) top (t .more)
-    text-served {r} p =
+    -- all its lines are served, and the input may go on
+    pub text-served : {r : ServedText} → t .more ≡ true → ServesAll (take (t .end) b₁) b r → InputRead b₁ (r .at) (t .end) (r .before) (t .left) top
+    text-served {r} more p =
         let text = take (t .end) b₁ in
         let size = length-take-le (t .end) b₁ (h .fits) in
         let q = afterPieces reply most initial (c .pieces) in
@@ -83,5 +83,5 @@ module _ (reply : List ℕ → List ℕ) (most : ℕ) where
           inside = h .fits;
           line = ap (keptOf most) rest ∙ ap (λ (z : Progress). z .line) (sym step);
           numbered = p .numbered ∙ ap₂ (λ (m : ℕ) (ls : List (List ℕ)). m + length ls) (c .numbered) ends ∙ ap (λ (z : Progress). z .before) (sym step);
-          room = λ e. omega (arith, flatten-more (c .pieces) s, length-drop (t .count) text, size, c .room refl, h .fewer e);
+          room = omega (arith, flatten-more (c .pieces) s, length-drop (t .count) text, size, c .room, h .fewer more);
         }

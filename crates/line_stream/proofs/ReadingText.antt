@@ -1,28 +1,27 @@
 -- Laws of the text that is read next: bytes that came behind the line that is held, or its newline at the end of the input.
 use mathlib.Core.Path.{_≡_, refl, sym, _∙_, subst}
-use mathlib.Core.Bool.{Bool, true, false, cond, false≢true}
+use mathlib.Core.Bool.{Bool, true, false, cond, _&&_, false≢true}
 use mathlib.Core.List.{List, [], _∷_, _++_}
 use Prim.Native.Nat.{ℕ, _+_, _-_, _<_, _≤_}
 use native.Mathlib.Omega.{arith}
 use native.Mathlib.Numerals.{add-one}
 use borrow.Author.Tests.{eq-eqb, ne-eqb}
-use lib.ListN.{length, take, drop, set, length-set}
+use lib.ListN.{length, take, drop, set, length-set, drop-of-length-le}
 use lib.Seq.{take-suc-set, take-take, take-at, drop-at, length-take-le}
 use Rattle.lines.specs.Text.{newline}
-use Rattle.line_stream.specs.inner.Stream.{keptOf, lastNewline}
-use Rattle.line_stream.specs.inner.Reading.{PieceFits, HoldsText, ReadsText}
+use Rattle.line_stream.specs.inner.Stream.{lastNewline}
+use Rattle.line_stream.specs.inner.Reading.{PieceFits, HoldsText}
 use Rattle.line_stream.specs.declared.Piece.{Piece}
 use Rattle.line_stream.specs.declared.Piece.the-variants.{Bytes}
 use Rattle.line_stream.specs.declared.InputText.{InputText}
-use Rattle.line_stream.specs.declared.NextText.{NextText}
-use Rattle.line_stream.specs.declared.NextText.the-variants.{Text}
+use Rattle.line_stream.proofs.ServingAll.{goes-on}
 
 -- the line is the first bytes of the buffer, and the input is at its end
 module _ (buffer : List ℕ) (count left : ℕ) (less : count < length buffer) where
   size : length (take count buffer) ≡ count
   size = length-take-le count buffer (omega arith)
 
-  pub last-empty : count ≡ 0 → HoldsText (take count buffer) left buffer (record { count = count; end = count; left = left; more = false })
+  pub last-empty : count ≡ 0 → HoldsText (take count buffer) left buffer (record { count = count; end = count; left = left; more = false; failed = false })
   last-empty zero = record {
     count = sym size;
     front = refl;
@@ -33,7 +32,7 @@ module _ (buffer : List ℕ) (count left : ℕ) (less : count < length buffer) w
     last = λ _. rw (eq-eqb (length (take count buffer)) 0 (size ∙ zero), zero);
   }
 
-  pub last-ended : (count ≡ 0 → ⊥) → HoldsText (take count buffer) left (set buffer count newline) (record { count = count; end = count + 1; left = left; more = false })
+  pub last-ended : (count ≡ 0 → ⊥) → HoldsText (take count buffer) left (set buffer count newline) (record { count = count; end = count + 1; left = left; more = false; failed = false })
   last-ended some =
       let put : take (count + 1) (set buffer count newline) ≡ take count buffer ++ (newline ∷ []) = rw add-one (take-suc-set buffer count newline less) in
       record {
@@ -46,12 +45,25 @@ module _ (buffer : List ℕ) (count left : ℕ) (less : count < length buffer) w
         last = λ _. rw (put, drop-at (take count buffer) (newline ∷ []) count size, ne-eqb (length (take count buffer)) 0 (λ z. some (sym size ∙ z)));
       }
 
+-- the read failed
+pub piece-failed : {line buffer : List ℕ} {count : ℕ} (left : ℕ) → count ≡ length line → take count buffer ≡ line → count ≤ length buffer
+    → HoldsText line left buffer (record { count = count; end = count; left = left; more = false; failed = true })
+piece-failed {line} {buffer} {count} left size front fits = record {
+  count = size;
+  front = front;
+  within = omega arith;
+  fits = fits;
+  some = λ e. absurd (false≢true e);
+  fewer = λ e. absurd (false≢true e);
+  last = λ _. drop-of-length-le (take count buffer) {i = count} (omega (arith, length-take-le count buffer fits));
+}
+
 -- n bytes came
 pub bytes-fit : (count room left : ℕ) {n : ℕ} {r : Piece} → r ≡ Bytes n → PieceFits count room left r → (count + n ≤ room) × (n ≤ left)
 bytes-fit count room left e f = subst (λ (x : Piece). PieceFits count room left x) e f
 
 pub piece-held : {line buffer : List ℕ} {count : ℕ} (n left : ℕ) → count ≡ length line → take count buffer ≡ line → count + n ≤ length buffer → n ≤ left → (n ≡ 0 → ⊥)
-    → HoldsText line left buffer (record { count = count; end = count + n; left = left - n; more = true })
+    → HoldsText line left buffer (record { count = count; end = count + n; left = left - n; more = true; failed = false })
 piece-held n left size front fits few some = record {
   count = size;
   front = front;
@@ -62,15 +74,10 @@ piece-held n left size front fits few some = record {
   last = λ e. absurd (false≢true (sym e));
 }
 
--- a text was read
-pub text-held : (at end most : ℕ) (buffer : List ℕ) {left : ℕ} {buffer′ : List ℕ} {r : NextText} {t : InputText} → r ≡ Text t → ReadsText at end most left buffer buffer′ r
-    → HoldsText (keptOf most (drop at (take end buffer))) left buffer′ t
-text-held at end most buffer {left} {buffer′} e h = subst (λ (x : NextText). ReadsText at end most left buffer buffer′ x) e h
-
--- the loop over texts ends: fewer bytes are left, or no more come
-pub left-fewer : {line buffer : List ℕ} {left : ℕ} {t : InputText} → HoldsText line left buffer t → cond (t .more) (t .left + 1) 0 < left + 1
-left-fewer {left = left} {t} h = go (t .more) refl
+-- the loop over texts goes on while the input may and all replies are written, and it ends: fewer bytes are left each time
+pub left-fewer : {line buffer : List ℕ} {left : ℕ} {t : InputText} → HoldsText line left buffer t → (written : Bool) → cond (t .more && written) (t .left + 1) 0 < left + 1
+left-fewer {left = left} {t} h written = go (t .more && written) refl
   where
-    go : (m : Bool) → t .more ≡ m → cond m (t .left + 1) 0 < left + 1
-    go true e = omega (arith, h .some e, h .fewer e)
+    go : (on : Bool) → t .more && written ≡ on → cond on (t .left + 1) 0 < left + 1
+    go true e = let more = goes-on (t .more) written e .0 in omega (arith, h .some more, h .fewer more)
     go false e = omega arith

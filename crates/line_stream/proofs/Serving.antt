@@ -74,8 +74,8 @@ lines-left text at end found le start =
     let all = length (endedLines [] text) in
     let sum = ap length (lines-cut text at start) ∙ length-append (endedLines [] (take at text)) (endedLines [] (drop at text)) in
     elim (decLt end (length text)) [
-      yes less ↦ lt-ltb end (length text) less ∙ sym (lt-ltb done all (omega (arith, sum, ap length (lines-ahead text at end found le less))))
-    | no over ↦ le-ltb end (length text) (omega (arith, over)) ∙ sym (le-ltb done all (omega (arith, sum, ap length (no-line-ahead text at end found le (omega (arith, over))))))
+      | yes less ↦ lt-ltb end (length text) less ∙ sym (lt-ltb done all (omega (arith, sum, ap length (lines-ahead text at end found le less))))
+      | no over ↦ le-ltb end (length text) (omega (arith, over)) ∙ sym (le-ltb done all (omega (arith, sum, ap length (no-line-ahead text at end found le (omega (arith, over))))))
     ]
 
 served-same : {o o′ : List ℕ} {r r′ : ServedLines} → r .at ≡ r′ .at → r .before ≡ r′ .before → r .more ≡ r′ .more → _≡_ {A = ℕ × List ℕ} (r .filled, o) (r′ .filled, o′)

@@ -1,6 +1,6 @@
 -- Laws of a text that is served part after part: once no line is left, all of it is served but the unfinished line.
 use mathlib.Core.Path.{_≡_, refl, ap, _∙_, sym}
-use mathlib.Core.Bool.{Bool, true, false, cond, false≢true}
+use mathlib.Core.Bool.{Bool, true, false, cond, _&&_, false≢true}
 use mathlib.Core.List.{List, [], _++_, append-nil}
 use Prim.Native.Nat.{ℕ, _+_, _-_, _<_, _≤_, _^_}
 use native.Mathlib.Omega.{arith}
@@ -15,15 +15,14 @@ use Rattle.line_stream.proofs.Cutting.{ended-append, unfinished-append,
 use Rattle.line_stream.proofs.Serving.{serves-no-more, serves-some}
 
 -- the lines up to `at`, where one starts, are served; the first bytes of that one, so many as `held` counts, end no line
-pub record ServedUpTo (text : List ℕ) (before at : ℕ) (held : HeldLine) (more : Bool) : Type 0 where
+pub record ServedUpTo (text : List ℕ) (before at : ℕ) (held : HeldLine) : Type 0 where
   pub within : at ≤ length text
   pub start : unfinishedLine [] (take at text) ≡ []
   pub numbered : held .before ≡ before + length (endedLines [] (take at text))
   pub inside : held .count ≤ length (drop at text)
   pub line : endedLines [] (take (held .count) (drop at text)) ≡ []
-  pub all : more ≡ false → endedLines [] (drop at text) ≡ []
 
-pub none-served : (text : List ℕ) (held : HeldLine) → TextReady text held → ServedUpTo text (held .before) 0 held true
+pub none-served : (text : List ℕ) (held : HeldLine) → TextReady text held → ServedUpTo text (held .before) 0 held
 unfolding endedLines unfinishedLine
 none-served text held ready = record {
   within = omega arith;
@@ -31,11 +30,10 @@ none-served text held ready = record {
   numbered = omega arith;
   inside = ready .inside;
   line = ready .line;
-  all = λ e. absurd (false≢true (sym e));
 }
 
 -- the rest of the text is ready to be served
-pub rest-ready : {text : List ℕ} {before at : ℕ} {held : HeldLine} {more : Bool} → ServedUpTo text before at held more → before + length text < 2 ^ 64
+pub rest-ready : {text : List ℕ} {before at : ℕ} {held : HeldLine} → ServedUpTo text before at held → before + length text < 2 ^ 64
     → TextReady (take (length text - at) (drop at text)) held
 rest-ready {text} {before} {at} {held} p fits = record {
   inside = rw (tail-lent at text) (p .inside);
@@ -43,11 +41,20 @@ rest-ready {text} {before} {at} {held} p fits = record {
   numbers = omega (arith, p .numbered, count-le [] (take at text), length-take-le at text (p .within), rest-lent at text, p .within, fits);
 }
 
+-- a loop goes on while there is more and all replies are written
+pub goes-on : (more written : Bool) → more && written ≡ true → (more ≡ true) × (written ≡ true)
+goes-on true written e = (refl, e)
+goes-on false written e = absurd (false≢true e)
+
+stopped : (more written : Bool) → more && written ≡ false → written ≡ true → more ≡ false
+stopped true written e w = absurd (false≢true (sym e ∙ w))
+stopped false written e w = refl
+
 module _ (text : List ℕ) (at : ℕ) {reply : List ℕ → List ℕ} {longest : ℕ} {out out′ : List ℕ} {b : ℕ} {r : ServedLines}
     (s : Serves reply longest (take (length text - at) (drop at text)) b out out′ r) where
   -- lines of the rest are served
-  pub more-served : {before : ℕ} {held : HeldLine} {more : Bool} → held .before ≡ b → ServedUpTo text before at held more
-      → ServedUpTo text before (at + r .at) (record { count = 0; before = r .before }) (r .more)
+  pub more-served : {before : ℕ} {held : HeldLine} → held .before ≡ b → ServedUpTo text before at held
+      → ServedUpTo text before (at + r .at) (record { count = 0; before = r .before })
   unfolding endedLines
   more-served {before} same p =
       let t = drop at text in
@@ -61,22 +68,24 @@ module _ (text : List ℕ) (at : ℕ) {reply : List ℕ → List ℕ} {longest :
         numbered = omega (arith, p .numbered, same, s .numbered, ap length ends, length-append (endedLines [] (take at text)) (endedLines [] (take (r .at) (take (length text - at) t))));
         inside = omega arith;
         line = refl;
-        all = λ e. rw (← drop-drop (r .at) at text, ← lent) (serves-no-more reply longest s e);
       }
 
-  -- the loop ends: bytes are passed, or no line is left
-  pub rest-shorter : longest ≤ length out → at + r .at ≤ length text → length text - (at + r .at) + cond (r .more) 1 0 < length text - at + 1
-  rest-shorter fits le = go (r .more) refl
+  -- the loop goes on while there are lines and their replies are written: where it stops for want of lines, none is left
+  pub none-left : (written : Bool) → r .more && written ≡ false → written ≡ true → endedLines [] (drop (at + r .at) text) ≡ []
+  none-left written e w = rw (← drop-drop (r .at) at text, ← tail-lent at text) (serves-no-more reply longest s (stopped (r .more) written e w))
+
+  -- and it ends: bytes are passed, or it does not go on
+  pub rest-shorter : (written : Bool) → longest ≤ length out → at + r .at ≤ length text → length text - (at + r .at) + cond (r .more && written) 1 0 < length text - at + 1
+  rest-shorter written fits le = go (r .more && written) refl
     where
-      go : (m : Bool) → r .more ≡ m → length text - (at + r .at) + cond m 1 0 < length text - at + 1
-      go true e = omega (arith, serves-some reply longest s fits e)
+      go : (on : Bool) → r .more && written ≡ on → length text - (at + r .at) + cond on 1 0 < length text - at + 1
+      go true e = omega (arith, serves-some reply longest s fits (goes-on (r .more) written e .0))
       go false e = omega arith
 
-pub all-served : {text : List ℕ} {before at : ℕ} {held : HeldLine} {more : Bool} → ServedUpTo text before at held more → more ≡ false → {written : Bool}
+pub all-served : {text : List ℕ} {before at : ℕ} {held : HeldLine} {written : Bool} → ServedUpTo text before at held → endedLines [] (drop at text) ≡ []
     → ServesAll text before (record { at = at; before = held .before; written = written })
-all-served {text} {before} {at} {held} p e =
+all-served {text} {before} {at} {held} p none =
     let t = drop at text in
-    let none : endedLines [] t ≡ [] = p .all e in
     let rest : unfinishedLine [] (take at text ++ t) ≡ t = unfinished-append [] (take at text) t ∙ rw (p .start) (unfinished-whole [] t none) in
     let ends : endedLines [] (take at text ++ t) ≡ endedLines [] (take at text) = ended-append [] (take at text) t ∙ rw (p .start, none) (append-nil (endedLines [] (take at text))) in
     record {

@@ -6,7 +6,7 @@ ghost use lib.ListN.{length, take, drop};
 ghost use Rattle.promises.specs.Onto.{onto};
 ghost use Rattle.promises.specs.Puts.{Puts};
 ghost use Rattle.line_stream.specs.inner.Stream.{keptOf};
-ghost use Rattle.line_stream.specs.inner.Reading.{Reads, HoldsText, ReadsText};
+ghost use Rattle.line_stream.specs.inner.Reading.{Reads, HoldsText};
 
 // The line that starts a text: how many of its bytes were looked at and hold no newline, and how many
 // lines came before it.
@@ -34,17 +34,13 @@ pub struct ServedText {
 }
 
 // A text at the start of a buffer, up to `end`: the first `count` bytes are the line that was held.
-// `left` bytes may still be read, and `more` says that the input may go on.
+// `left` bytes may still be read; `more` says that the input may go on, and `failed` that a read failed.
 pub struct InputText {
     pub count: usize,
     pub end: usize,
     pub left: u64,
     pub more: bool,
-}
-
-pub enum NextText {
-    Text(InputText),
-    Unreadable,
+    pub failed: bool,
 }
 
 // What a read answers: how many bytes came, 0 at the end of the input, or that it failed.
@@ -119,31 +115,39 @@ fn last_text(buffer: &mut [u8], count: usize, left: u64) -> InputText
         end,
         left,
         more: false,
+        failed: false,
     }
 }
 
 // Keeps the line that stands from `at` up to `end`, at most `most` bytes of it, and reads the input on
 // behind it.
-pub fn next_text(buffer: &mut [u8], at: usize, end: usize, most: usize, left: u64) -> NextText
+pub fn next_text(buffer: &mut [u8], at: usize, end: usize, most: usize, left: u64) -> InputText
     requires { ⌜ at ≤ end ⌝ }
     requires { ⌜ end ≤ length (now buffer) ⌝ }
     requires { ⌜ most < length (now buffer) ⌝ }
-    ensures { λ r. ⌜ ReadsText at end most left (now (buffer .entry)) (now (buffer .exit)) r ⌝ }
+    ensures { λ r. ⌜ HoldsText (keptOf most (drop at (take end (now (buffer .entry))))) left (now (buffer .exit)) r ⌝ }
 {
     let count = keep(buffer, at, end, most);
     let piece = read_behind(buffer, count, left);
     let Piece::Bytes(n) = piece else {
-        return NextText::Unreadable;
+        return InputText {
+            count,
+            end: count,
+            left,
+            more: false,
+            failed: true,
+        };
     };
     if n == 0 {
-        let last = last_text(buffer, count, left);
-        return NextText::Text(last);
+        return last_text(buffer, count, left);
     }
-    let text = InputText {
+    let end = count + n;
+    let left = left - n as u64;
+    InputText {
         count,
-        end: count + n,
-        left: left - n as u64,
+        end,
+        left,
         more: true,
-    };
-    NextText::Text(text)
+        failed: false,
+    }
 }

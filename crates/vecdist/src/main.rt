@@ -9,7 +9,6 @@ ghost use Rattle.line_stream.specs.inner.Rooms.{numberedRoom, inputRoom};
 ghost use Rattle.line_stream.specs.inner.Serving.{TextReady, ServesAll};
 ghost use Rattle.vecdist_lines.specs.Limits.{vecdistLimit};
 use line_stream::HeldLine;
-use line_stream::NextText;
 use line_stream::ServedText;
 use line_stream::next_text;
 use serving::serve;
@@ -66,7 +65,7 @@ fn serve_all(text: &[u8], held: HeldLine, decoded: &mut [u8], out: &mut [u8]) ->
     let mut at = 0;
     let mut more = true;
     let mut written = true;
-    while more && written {
+    while more {
         let served = serve(&text[at..], line, decoded, out);
         let filled = served.filled;
         written = write_replies(&out[..filled]);
@@ -75,7 +74,7 @@ fn serve_all(text: &[u8], held: HeldLine, decoded: &mut [u8], out: &mut [u8]) ->
             count: 0,
             before: served.before,
         };
-        more = served.more;
+        more = served.more & written;
     }
     ServedText {
         at,
@@ -84,8 +83,8 @@ fn serve_all(text: &[u8], held: HeldLine, decoded: &mut [u8], out: &mut [u8]) ->
     }
 }
 
-// Reads standard input piece by piece to its end, and serves its lines.
-fn run(input: &mut [u8], decoded: &mut [u8], out: &mut [u8])
+// Reads standard input piece by piece to its end, serves its lines, and answers whether it could be read.
+fn run(input: &mut [u8], decoded: &mut [u8], out: &mut [u8]) -> bool
     requires { ⌜ length (now input) ≡ inputRoom vecdistLimit ⌝ }
     requires { ⌜ vecdistLimit ≤ 2 * length (now decoded) ⌝ }
     requires { ⌜ numberedRoom 32 ≤ length (now out) ⌝ }
@@ -96,31 +95,29 @@ fn run(input: &mut [u8], decoded: &mut [u8], out: &mut [u8])
     // as many bytes of input as the numbers of lines can count
     let mut left = 0x8000_0000_0000_0000;
     let mut more = true;
+    let mut failed = false;
     while more {
-        let next = next_text(input, at, end, MOST_KEPT, left);
-        let NextText::Text(text) = next else {
-            cannot_read();
-            return;
-        };
+        let text = next_text(input, at, end, MOST_KEPT, left);
         end = text.end;
         let held = HeldLine {
             count: text.count,
             before,
         };
         let served = serve_all(&input[..end], held, decoded, out);
-        if !served.written {
-            return;
-        }
         at = served.at;
         before = served.before;
         left = text.left;
-        more = text.more;
+        more = text.more & served.written;
+        failed = text.failed;
     }
+    !failed
 }
 
 fn main() {
     let mut input = input_room();
     let mut decoded = decoded_room();
     let mut out = io::large_buffer();
-    run(&mut input, &mut decoded, &mut out);
+    if !run(&mut input, &mut decoded, &mut out) {
+        cannot_read();
+    }
 }

@@ -6,7 +6,7 @@ use lib.ListN.{length, take, drop}
 use Rattle.promises.proofs.Puts.{puts-prefix}
 use Rattle.line_stream.specs.inner.Stream.{keptOf}
 use Rattle.line_stream.proofs.Keeping.{kept-few}
-use Rattle.line_stream.proofs.ReadingText.{bytes-fit, piece-held}
+use Rattle.line_stream.proofs.ReadingText.{piece-failed, bytes-fit, piece-held}
 use borrow.Author.Needs.{needs}
 use Rattle.line_stream.proofs.next_text.Statement.{statement}
 use Rattle.line_stream.proofs.next_text.Tie as tie
@@ -40,6 +40,12 @@ fits c =
 read-behind-requires : tie.Need-read-behind-requires
 read-behind-requires c κs = let k = c .before .before .before in omega (arith, few k, k .keep .kept .0, start k .pre)
 
+returns : tie.Need-returns
+returns c =
+    let r = c .before .before .before .before in
+    let k = kept r in
+    piece-failed _ (k .keep .ensures .size) (line r) (omega (arith, few k, k .keep .kept .0, r .read-behind .kept .0, start k .pre))
+
 last-text-requires : tie.Need-last-text-requires
 last-text-requires c κs =
     let r = came (c .before .before .before) in
@@ -51,11 +57,11 @@ returns-2 c =
     let last = c .before .before in
     rw (line (came (last .before .before .before .before))) at (last .last-text .ensures)
 
-add-t18 : tie.Need-add-t18
-add-t18 c = let p = c .before .before in omega (arith, fits p .0, came p .read-behind .kept .0, kept (came p) .keep .kept .0, start (kept (came p)) .good)
+add-end : tie.Need-add-end
+add-end c = let p = c .before .before in omega (arith, fits p .0, came p .read-behind .kept .0, kept (came p) .keep .kept .0, start (kept (came p)) .good)
 
-sub-t20 : tie.Need-sub-t20
-sub-t20 c = fits (c .before .before) .1
+sub-left : tie.Need-sub-left
+sub-left c = fits (c .before .before) .1
 
 returns-3 : tie.Need-returns-3
 returns-3 c =
@@ -71,11 +77,11 @@ next-text-spec =
     (λ c. search needs)
     (λ c. search needs)
     (λ c. search needs)
-    (λ c. search needs)
+    returns
     last-text-requires
     (λ c. search needs)
     returns-2
-    add-t18
-    sub-t20
+    add-end
+    sub-left
     (λ c. search needs)
     returns-3)

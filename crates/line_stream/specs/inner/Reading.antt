@@ -1,15 +1,13 @@
 -- What a read into a buffer promises. No contract says which bytes come.
 use Prim.Native.Nat.{ℕ, _+_, _-_, _≤_, _<_}
 use mathlib.Core.Path.{_≡_}
-use mathlib.Core.Bool.{true, false}
-use mathlib.Core.List.{List}
+use mathlib.Core.Bool.{true, false, cond}
+use mathlib.Core.List.{List, []}
 use lib.ListN.{length, take, drop}
-use Rattle.line_stream.specs.inner.Stream.{keptOf, lastNewline}
+use Rattle.line_stream.specs.inner.Stream.{lastNewline}
 use Rattle.line_stream.specs.declared.Piece.{Piece}
 use Rattle.line_stream.specs.declared.Piece.the-variants.{Bytes, Failed}
 use Rattle.line_stream.specs.declared.InputText.{InputText}
-use Rattle.line_stream.specs.declared.NextText.{NextText}
-use Rattle.line_stream.specs.declared.NextText.the-variants.{Text, Unreadable}
 
 -- as many bytes as there is room for behind the first count, and not more than are left
 abbrev pub PieceFits : ℕ → ℕ → ℕ → Piece → Type 0
@@ -21,7 +19,7 @@ pub record Reads (count left : ℕ) (buffer buffer′ : List ℕ) (r : Piece) : 
   pub front : take count buffer′ ≡ take count buffer
   pub fits : PieceFits count (length buffer) left r
 
--- a text at the start of the buffer: a line, and behind it bytes that were read, of which `left` are allowed, or its newline at the end of the input
+-- a text at the start of the buffer: a line, and behind it bytes that were read, of which `left` are allowed, or at the end of the input its newline, or nothing where a read failed
 pub record HoldsText (line : List ℕ) (left : ℕ) (buffer : List ℕ) (t : InputText) : Type 0 where
   pub count : t .count ≡ length line
   pub front : take (t .count) buffer ≡ line
@@ -29,9 +27,4 @@ pub record HoldsText (line : List ℕ) (left : ℕ) (buffer : List ℕ) (t : Inp
   pub fits : t .end ≤ length buffer
   pub some : t .more ≡ true → t .count < t .end
   pub fewer : t .more ≡ true → t .left + (t .end - t .count) ≤ left
-  pub last : t .more ≡ false → drop (t .count) (take (t .end) buffer) ≡ lastNewline line
-
--- of the line that stood from `at` up to `end`, at most `most` bytes are kept
-abbrev pub ReadsText : (at end most left : ℕ) → (buffer buffer′ : List ℕ) → NextText → Type 0
-ReadsText at end most left buffer buffer′ (Text t) = HoldsText (keptOf most (drop at (take end buffer))) left buffer′ t
-ReadsText at end most left buffer buffer′ Unreadable = Unit
+  pub last : t .more ≡ false → drop (t .count) (take (t .end) buffer) ≡ cond (t .failed) [] (lastNewline line)
