@@ -196,10 +196,10 @@ pub lineBytes : List (List ℕ) → ℕ
 lineBytes [] = 0
 lineBytes (l ∷ ls) = length l + 1 + lineBytes ls
 
-pub cut-length : (l s : List ℕ) → length l + length s ≡ lineBytes (endedLines l s) + length (unfinishedLine l s)
+pub text-length : (l s : List ℕ) → length l + length s ≡ lineBytes (endedLines l s) + length (unfinishedLine l s)
 unfolding endedLines unfinishedLine lineBytes
-cut-length l [] = omega arith
-cut-length l (b ∷ s) = go (eqb b newline) (cut-length [] s) (cut-length (l ++ (b ∷ [])) s)
+text-length l [] = omega arith
+text-length l (b ∷ s) = go (eqb b newline) (text-length [] s) (text-length (l ++ (b ∷ [])) s)
   where
     go : (e : Bool) → length {A = ℕ} [] + length s ≡ lineBytes (endedLines [] s) + length (unfinishedLine [] s)
         → length (l ++ (b ∷ [])) + length s ≡ lineBytes (endedLines (l ++ (b ∷ [])) s) + length (unfinishedLine (l ++ (b ∷ [])) s)

@@ -21,7 +21,7 @@ use Rattle.lines.proofs.Parting.{slice-from, index-le, index-at}
 use Rattle.line_stream.specs.inner.Stream.{endedLines, unfinishedLine}
 use Rattle.line_stream.specs.inner.Serving.{answeredLines, Serves}
 use Rattle.line_stream.specs.declared.ServedLines.{ServedLines}
-use Rattle.line_stream.proofs.Cutting.{ended-append, unfinished-append, with-newline, none-ended, found-later, count-le, cut-length, lineBytes, replies-append}
+use Rattle.line_stream.proofs.Cutting.{ended-append, unfinished-append, with-newline, none-ended, found-later, count-le, text-length, lineBytes, replies-append}
 
 -- where `bytes::find` found a newline: at the end of the line that starts at `at`
 pub record LineEnd (text : List ℕ) (at end : ℕ) : Type 0 where
@@ -199,7 +199,7 @@ module _ (reply : List ℕ → List ℕ) (longest : ℕ) where
     stopped-at {r = r} s =
         let t = take (r .at) text in
         let none : length (unfinishedLine [] t) ≡ 0 = ap length (s .start) in
-        omega (arith, cut-length [] t, none, length-take-le (r .at) text (s .within), ap lineBytes (s .lines))
+        omega (arith, text-length [] t, none, length-take-le (r .at) text (s .within), ap lineBytes (s .lines))
 
     pub serves-determined : {o o′ : List ℕ} {r r′ : ServedLines} → Serves reply longest text before out o r → Serves reply longest text before out o′ r′
         → _≡_ {A = ServedLines × List ℕ} (r, o) (r′, o′)

@@ -15,14 +15,14 @@ use Rattle.line_stream.proofs.Cutting.{ended-append, unfinished-append,
 use Rattle.line_stream.proofs.Serving.{serves-no-more, serves-some}
 
 -- the lines up to `at`, where one starts, are served; the first bytes of that one, so many as `held` counts, end no line
-pub record ServedUpTo (text : List ℕ) (before at : ℕ) (held : HeldLine) : Type 0 where
+pub record TextServedUpTo (text : List ℕ) (before at : ℕ) (held : HeldLine) : Type 0 where
   pub within : at ≤ length text
   pub start : unfinishedLine [] (take at text) ≡ []
   pub numbered : held .before ≡ before + length (endedLines [] (take at text))
   pub inside : held .count ≤ length (drop at text)
   pub line : endedLines [] (take (held .count) (drop at text)) ≡ []
 
-pub none-served : (text : List ℕ) (held : HeldLine) → TextReady text held → ServedUpTo text (held .before) 0 held
+pub none-served : (text : List ℕ) (held : HeldLine) → TextReady text held → TextServedUpTo text (held .before) 0 held
 unfolding endedLines unfinishedLine
 none-served text held ready = record {
   within = omega arith;
@@ -33,7 +33,7 @@ none-served text held ready = record {
 }
 
 -- the rest of the text is ready to be served
-pub rest-ready : {text : List ℕ} {before at : ℕ} {held : HeldLine} → ServedUpTo text before at held → before + length text < 2 ^ 64
+pub rest-ready : {text : List ℕ} {before at : ℕ} {held : HeldLine} → TextServedUpTo text before at held → before + length text < 2 ^ 64
     → TextReady (take (length text - at) (drop at text)) held
 rest-ready {text} {before} {at} {held} p fits = record {
   inside = rw (tail-lent at text) (p .inside);
@@ -53,8 +53,8 @@ stopped false written e w = refl
 module _ (text : List ℕ) (at : ℕ) {reply : List ℕ → List ℕ} {longest : ℕ} {out out′ : List ℕ} {b : ℕ} {r : ServedLines}
     (s : Serves reply longest (take (length text - at) (drop at text)) b out out′ r) where
   -- lines of the rest are served
-  pub more-served : {before : ℕ} {held : HeldLine} → held .before ≡ b → ServedUpTo text before at held
-      → ServedUpTo text before (at + r .at) (record { count = 0; before = r .before })
+  pub more-served : {before : ℕ} {held : HeldLine} → held .before ≡ b → TextServedUpTo text before at held
+      → TextServedUpTo text before (at + r .at) (record { count = 0; before = r .before })
   unfolding endedLines
   more-served {before} same p =
       let t = drop at text in
@@ -82,7 +82,7 @@ module _ (text : List ℕ) (at : ℕ) {reply : List ℕ → List ℕ} {longest :
       go true e = omega (arith, serves-some reply longest s fits (goes-on (r .more) written e .0))
       go false e = omega arith
 
-pub all-served : {text : List ℕ} {before at : ℕ} {held : HeldLine} {written : Bool} → ServedUpTo text before at held → endedLines [] (drop at text) ≡ []
+pub all-served : {text : List ℕ} {before at : ℕ} {held : HeldLine} {written : Bool} → TextServedUpTo text before at held → endedLines [] (drop at text) ≡ []
     → ServesAll text before (record { at = at; before = held .before; written = written })
 all-served {text} {before} {at} {held} p none =
     let t = drop at text in

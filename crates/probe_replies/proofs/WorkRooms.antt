@@ -6,5 +6,5 @@ use native.Mathlib.Omega.{arith}
 use lib.ListN.{length}
 use Rattle.probe_replies.specs.inner.WorkRooms.{WorkRooms}
 
-pub rooms-same : {d s m d′ s′ m′ : List ℕ} → WorkRooms d s m → length d′ ≡ length d → length s′ ≡ length s → length m′ ≡ length m → WorkRooms d′ s′ m′
-rooms-same r d s m = record { bytes = omega (arith, r .bytes, d); dense = s ∙ r .dense; blob = m ∙ r .blob }
+pub work-rooms-kept : {d s m d′ s′ m′ : List ℕ} → WorkRooms d s m → length d′ ≡ length d → length s′ ≡ length s → length m′ ≡ length m → WorkRooms d′ s′ m′
+work-rooms-kept r d s m = record { bytes = omega (arith, r .bytes, d); dense = s ∙ r .dense; blob = m ∙ r .blob }

@@ -17,7 +17,7 @@ use lines::text::put_malformed;
 use probe_lines::LIMIT;
 
 // Room for a numbered reply: twenty digits, a tab, the reply to a line, and a newline.
-pub const NUMBERED: usize = LIMIT + 22;
+pub const NUMBERED_REPLY: usize = LIMIT + 22;
 
 // Puts the reply to a line at the start of out, and answers its length: X to one over the limit.
 fn answer(
@@ -76,7 +76,7 @@ pub fn serve(
     let mut number = held.before;
     let mut filled = 0;
     let mut end = find(text, held.count, text.len(), b'\n');
-    while end < text.len() && NUMBERED <= out.len() - filled {
+    while end < text.len() && NUMBERED_REPLY <= out.len() - filled {
         number += 1;
         let rest = &mut out[filled..];
         filled += reply(number, &text[at..end], decoded, scratch, made, rest);

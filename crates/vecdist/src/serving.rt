@@ -16,7 +16,7 @@ use lines::text::put_malformed;
 use vecdist_lines::LIMIT;
 
 // Room for a numbered reply: twenty digits, a tab, the reply to a line, and a newline.
-const NUMBERED: usize = 54;
+const NUMBERED_REPLY: usize = 54;
 
 // Puts the reply to a line at the start of out, and answers its length: X to one over the limit.
 fn answer(line: &[u8], decoded: &mut [u8], out: &mut [u8]) -> usize
@@ -55,7 +55,7 @@ pub(crate) fn serve(text: &[u8], held: HeldLine, decoded: &mut [u8], out: &mut [
     let mut number = held.before;
     let mut filled = 0;
     let mut end = find(text, held.count, text.len(), b'\n');
-    while end < text.len() && NUMBERED <= out.len() - filled {
+    while end < text.len() && NUMBERED_REPLY <= out.len() - filled {
         number += 1;
         filled += reply(number, &text[at..end], decoded, &mut out[filled..]);
         at = end + 1;

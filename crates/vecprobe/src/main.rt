@@ -17,7 +17,7 @@ use probe_lines::BLOB;
 use probe_lines::DECODED;
 use probe_lines::LIMIT;
 use probe_lines::SCRATCH;
-use probe_replies::NUMBERED;
+use probe_replies::NUMBERED_REPLY;
 use probe_replies::serve;
 
 // As many bytes of a line as are kept: one more than it may have, so that a longer one is seen.
@@ -52,7 +52,7 @@ fn blob_room() -> [u8; BLOB]
 }
 
 // Room for replies that are not written yet.
-const OUTPUT: usize = NUMBERED + 65536;
+const OUTPUT: usize = NUMBERED_REPLY + 65536;
 
 fn output_room() -> [u8; OUTPUT]
     ensures { λ r. ⌜ outputRoom ≡ length r ⌝ }

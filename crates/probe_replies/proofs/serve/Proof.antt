@@ -13,7 +13,7 @@ use Rattle.line_stream.specs.inner.Rooms.{numberedRoom}
 use Rattle.line_stream.proofs.Serving.{LineEnd, first-line-end, next-line-end, LinesServed, lines-served-none, lines-served-next, ServedBounds, served-bounds, serves-stopped}
 use Rattle.probe_lines.specs.Limits.{vecprobeLimit}
 use Rattle.probe_lines.specs.Line.{vecprobeReply}
-use Rattle.probe_replies.proofs.WorkRooms.{rooms-same}
+use Rattle.probe_replies.proofs.WorkRooms.{work-rooms-kept}
 use borrow.Author.Needs.{needs}
 use Rattle.probe_replies.proofs.serve.Statement.{statement}
 use Rattle.probe_replies.proofs.serve.Tie as tie
@@ -85,7 +85,7 @@ reply-requires : tie.Need-reply-requires Inv-loop μ-loop
 reply-requires c κs =
     let t = c .before .before .before .before .before in
     let l = turn t .loop in
-    (rooms-same (start (turn t) .pre .1) (l .inv .2) (l .inv .3) (l .inv .4), rw (tail-lent (l .filled) (l .out)) (omega (arith, room t, length-drop (l .filled) (l .out))))
+    (work-rooms-kept (start (turn t) .pre .1) (l .inv .2) (l .inv .3) (l .inv .4), rw (tail-lent (l .filled) (l .out)) (omega (arith, room t, length-drop (l .filled) (l .out))))
 
 add-filled : tie.Need-add-filled Inv-loop μ-loop
 add-filled c = let r = put c in omega (arith, served-bounds replyTo longest (next r) (long r) .fits, start (turn (answered r)) .good)

@@ -8,7 +8,7 @@ use lib.ListN.{length, drop}
 use lib.Seq.{length-take-le}
 use Rattle.promises.proofs.Puts.{puts-within}
 use Rattle.line_stream.specs.inner.Stream.{endedLines}
-use Rattle.line_stream.proofs.ServingAll.{ServedUpTo, none-served, rest-ready, more-served, none-left, rest-shorter, all-served}
+use Rattle.line_stream.proofs.ServingAll.{TextServedUpTo, none-served, rest-ready, more-served, none-left, rest-shorter, all-served}
 use borrow.Author.Needs.{needs}
 use Rattle.vecdist.proofs.serve_all.Statement.{statement}
 use Rattle.vecdist.proofs.serve_all.Tie as tie
@@ -16,7 +16,7 @@ use Rattle.vecdist.proofs.serve_all.Tie as tie
 -- where the loop stops with all replies written, no line is left
 abbrev Inv-loop : tie.InvT-loop
 Inv-loop text decoded₀ out₀ line₀ at₀ more₀ written₀ decoded out line at more written =
-    ServedUpTo text (line₀ .before) at line × (more ≡ false → written ≡ true → endedLines [] (drop at text) ≡ []) × (length decoded ≡ length decoded₀) × (length out ≡ length out₀)
+    TextServedUpTo text (line₀ .before) at line × (more ≡ false → written ≡ true → endedLines [] (drop at text) ≡ []) × (length decoded ≡ length decoded₀) × (length out ≡ length out₀)
 
 abbrev μ-loop : tie.MeasureT-loop
 μ-loop text decoded₀ out₀ line₀ at₀ more₀ written₀ decoded out line at more written = length text - at + cond more 1 0
@@ -36,7 +36,7 @@ fits : (c : tie.After-serve Inv-loop μ-loop) → c .serve .result .filled ≤ l
 fits c = let same = c .serve .kept .1 .1 .1 .0 in omega (arith, puts-within (c .serve .ensures .replies) same, same)
 
 next : (c : tie.After-serve Inv-loop μ-loop) → let l = turn c .before in let a = start l .args in let r = c .serve .result in
-    ServedUpTo (a .text .now) (a .held .before) (l .loop .at + r .at) (record { count = 0; before = r .before })
+    TextServedUpTo (a .text .now) (a .held .before) (l .loop .at + r .at) (record { count = 0; before = r .before })
 next c = let l = turn c .before in more-served (start l .args .text .now) (l .loop .at) (c .serve .ensures) refl (l .loop .inv .0)
 
 loop-holds : tie.Need-loop-holds Inv-loop μ-loop

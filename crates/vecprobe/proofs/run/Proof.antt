@@ -11,7 +11,7 @@ use Rattle.line_stream.proofs.ServingAll.{goes-on}
 use Rattle.line_stream.proofs.ReadingText.{left-fewer}
 use Rattle.line_stream.proofs.InputRead.{InputRead, nothing-read, text-ready, text-served}
 use Rattle.probe_lines.specs.Limits.{vecprobeLimit}
-use Rattle.probe_replies.proofs.WorkRooms.{rooms-same}
+use Rattle.probe_replies.proofs.WorkRooms.{work-rooms-kept}
 use Rattle.vecprobe.specs.Printed.{replyTo}
 use Rattle.vecprobe.proofs.run.Statement.{statement}
 use Rattle.vecprobe.proofs.run.Tie as tie
@@ -67,7 +67,7 @@ serve-all-requires c κs =
     let inv = l .loop .inv in
     let pre = start l .pre in
     let text = r .next-text .ensures in
-    (text-ready replyTo most (before (turn r)) text (omega (arith, text .fits, r .next-text .kept .0, inv .1)), (rooms-same (pre .1 .0) (inv .2) (inv .3) (inv .4), omega (arith, inv .5, pre .1 .1)))
+    (text-ready replyTo most (before (turn r)) text (omega (arith, text .fits, r .next-text .kept .0, inv .1)), (work-rooms-kept (pre .1 .0) (inv .2) (inv .3) (inv .4), omega (arith, inv .5, pre .1 .1)))
 
 loop-less : tie.Need-loop-less Inv-loop μ-loop
 loop-less c =

@@ -8,8 +8,8 @@ use lib.ListN.{length, drop}
 use lib.Seq.{length-take-le}
 use Rattle.promises.proofs.Puts.{puts-within}
 use Rattle.line_stream.specs.inner.Stream.{endedLines}
-use Rattle.line_stream.proofs.ServingAll.{ServedUpTo, none-served, rest-ready, more-served, none-left, rest-shorter, all-served}
-use Rattle.probe_replies.proofs.WorkRooms.{rooms-same}
+use Rattle.line_stream.proofs.ServingAll.{TextServedUpTo, none-served, rest-ready, more-served, none-left, rest-shorter, all-served}
+use Rattle.probe_replies.proofs.WorkRooms.{work-rooms-kept}
 use borrow.Author.Needs.{needs}
 use Rattle.vecprobe.proofs.serve_all.Statement.{statement}
 use Rattle.vecprobe.proofs.serve_all.Tie as tie
@@ -17,7 +17,7 @@ use Rattle.vecprobe.proofs.serve_all.Tie as tie
 -- where the loop stops with all replies written, no line is left
 abbrev Inv-loop : tie.InvT-loop
 Inv-loop text decoded₀ scratch₀ made₀ out₀ line₀ at₀ more₀ written₀ decoded scratch made out line at more written =
-    ServedUpTo text (line₀ .before) at line × (more ≡ false → written ≡ true → endedLines [] (drop at text) ≡ [])
+    TextServedUpTo text (line₀ .before) at line × (more ≡ false → written ≡ true → endedLines [] (drop at text) ≡ [])
     × (length decoded ≡ length decoded₀) × (length scratch ≡ length scratch₀) × (length made ≡ length made₀) × (length out ≡ length out₀)
 
 abbrev μ-loop : tie.MeasureT-loop
@@ -38,7 +38,7 @@ fits : (c : tie.After-serve Inv-loop μ-loop) → c .serve .result .filled ≤ l
 fits c = let same = c .serve .kept .1 .1 .1 .1 .1 .0 in omega (arith, puts-within (c .serve .ensures .replies) same, same)
 
 next : (c : tie.After-serve Inv-loop μ-loop) → let l = turn c .before in let a = start l .args in let r = c .serve .result in
-    ServedUpTo (a .text .now) (a .held .before) (l .loop .at + r .at) (record { count = 0; before = r .before })
+    TextServedUpTo (a .text .now) (a .held .before) (l .loop .at + r .at) (record { count = 0; before = r .before })
 next c = let l = turn c .before in more-served (start l .args .text .now) (l .loop .at) (c .serve .ensures) refl (l .loop .inv .0)
 
 loop-holds : tie.Need-loop-holds Inv-loop μ-loop
@@ -51,7 +51,7 @@ serve-requires : tie.Need-serve-requires Inv-loop μ-loop
 serve-requires c κs =
     let l = c .before .before .before .before .before .before in
     let inv = l .loop .inv in
-    (rest-ready (inv .0) (start l .pre .0 .numbers), rooms-same (start l .pre .1 .0) (inv .2) (inv .3) (inv .4))
+    (rest-ready (inv .0) (start l .pre .0 .numbers), work-rooms-kept (start l .pre .1 .0) (inv .2) (inv .3) (inv .4))
 
 slice-reshare-prefix-write-replies : tie.Need-slice-reshare-prefix-write-replies Inv-loop μ-loop
 slice-reshare-prefix-write-replies c = fits (served c)
