@@ -16,47 +16,42 @@ use Rattle.line_stream.specs.declared.Piece.the-variants.{Bytes}
 use Rattle.line_stream.specs.declared.InputText.{InputText}
 use Rattle.line_stream.proofs.ServingAll.{goes-on}
 
--- the line is the first bytes of the buffer, and the input is at its end
-module _ (buffer : List ℕ) (count left : ℕ) (less : count < length buffer) where
-  size : length (take count buffer) ≡ count
-  size = length-take-le count buffer (omega arith)
-
-  pub last-empty : count ≡ 0 → HoldsText (take count buffer) left buffer (record { count = count; end = count; left = left; more = false; failed = false })
-  last-empty zero = record {
-    count = sym size;
-    front = refl;
-    within = omega arith;
-    fits = omega arith;
+-- no more comes
+module _ {line buffer : List ℕ} {count : ℕ} (end left : ℕ) (failed : Bool) (size : count ≡ length line) (front : take count buffer ≡ line) where
+  pub text-ended : count ≤ end → end ≤ length buffer → drop count (take end buffer) ≡ cond failed [] (lastNewline line)
+      → HoldsText line left buffer (record { count = count; end = end; left = left; more = false; failed = failed })
+  text-ended le fits rest = record {
+    count = size;
+    front = front;
+    within = le;
+    fits = fits;
     some = λ e. absurd (false≢true e);
     fewer = λ e. absurd (false≢true e);
-    last = λ _. rw (eq-eqb (length (take count buffer)) 0 (size ∙ zero), zero);
+    last = λ _. rest;
   }
+
+-- where the read failed
+pub piece-failed : {line buffer : List ℕ} {count : ℕ} (left : ℕ) → count ≡ length line → take count buffer ≡ line → count ≤ length buffer
+    → HoldsText line left buffer (record { count = count; end = count; left = left; more = false; failed = true })
+piece-failed {line} {buffer} {count} left size front fits =
+    text-ended count left true size front (omega arith) fits (drop-of-length-le (take count buffer) {i = count} (omega (arith, length-take-le count buffer fits)))
+
+-- where the input is at its end, and the line is the first bytes of the buffer
+module _ (buffer : List ℕ) (count left : ℕ) (less : count < length buffer) where
+  size : count ≡ length (take count buffer)
+  size = sym (length-take-le count buffer (omega arith))
+
+  pub last-empty : count ≡ 0 → HoldsText (take count buffer) left buffer (record { count = count; end = count; left = left; more = false; failed = false })
+  last-empty zero = text-ended count left false size refl (omega arith) (omega arith) (rw (eq-eqb (length (take count buffer)) 0 (sym size ∙ zero), zero))
 
   pub last-ended : (count ≡ 0 → ⊥) → HoldsText (take count buffer) left (set buffer count newline) (record { count = count; end = count + 1; left = left; more = false; failed = false })
   last-ended some =
-      let put : take (count + 1) (set buffer count newline) ≡ take count buffer ++ (newline ∷ []) = rw add-one (take-suc-set buffer count newline less) in
-      record {
-        count = sym size;
-        front = sym (take-take count (count + 1) (set buffer count newline) (omega arith)) ∙ rw put (take-at (take count buffer) (newline ∷ []) count size);
-        within = omega arith;
-        fits = omega (arith, length-set buffer count newline);
-        some = λ e. absurd (false≢true e);
-        fewer = λ e. absurd (false≢true e);
-        last = λ _. rw (put, drop-at (take count buffer) (newline ∷ []) count size, ne-eqb (length (take count buffer)) 0 (λ z. some (sym size ∙ z)));
-      }
-
--- the read failed
-pub piece-failed : {line buffer : List ℕ} {count : ℕ} (left : ℕ) → count ≡ length line → take count buffer ≡ line → count ≤ length buffer
-    → HoldsText line left buffer (record { count = count; end = count; left = left; more = false; failed = true })
-piece-failed {line} {buffer} {count} left size front fits = record {
-  count = size;
-  front = front;
-  within = omega arith;
-  fits = fits;
-  some = λ e. absurd (false≢true e);
-  fewer = λ e. absurd (false≢true e);
-  last = λ _. drop-of-length-le (take count buffer) {i = count} (omega (arith, length-take-le count buffer fits));
-}
+      let l = take count buffer in
+      let b = set buffer count newline in
+      let put : take (count + 1) b ≡ l ++ (newline ∷ []) = rw add-one (take-suc-set buffer count newline less) in
+      let front : take count b ≡ l = sym (take-take count (count + 1) b (omega arith)) ∙ rw put (take-at l (newline ∷ []) count (sym size)) in
+      text-ended (count + 1) left false size front (omega arith) (omega (arith, length-set buffer count newline))
+      (rw (put, drop-at l (newline ∷ []) count (sym size), ne-eqb (length l) 0 (λ z. some (size ∙ z))))
 
 -- n bytes came
 pub bytes-fit : (count room left : ℕ) {n : ℕ} {r : Piece} → r ≡ Bytes n → PieceFits count room left r → (count + n ≤ room) × (n ≤ left)

@@ -1,5 +1,4 @@
 // What vecprobe prints for the lines of a text: for each its number, a tab, the reply and a newline.
-ghost use mathlib.Core.Path.{_≡_};
 ghost use Prim.Native.Nat.{_≤_};
 ghost use lib.ListN.{length};
 ghost use Rattle.promises.specs.Puts.{Puts};

@@ -83,7 +83,8 @@ fn serve_all(text: &[u8], held: HeldLine, decoded: &mut [u8], out: &mut [u8]) ->
     }
 }
 
-// Reads standard input piece by piece to its end, serves its lines, and answers whether it could be read.
+// Reads standard input piece by piece to its end, serves its lines, and answers whether it could be
+// read.
 fn run(input: &mut [u8], decoded: &mut [u8], out: &mut [u8]) -> bool
     requires { ⌜ length (now input) ≡ inputRoom vecdistLimit ⌝ }
     requires { ⌜ vecdistLimit ≤ 2 * length (now decoded) ⌝ }

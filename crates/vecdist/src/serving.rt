@@ -1,5 +1,4 @@
 // Replies to the lines of a text, put into a buffer.
-ghost use mathlib.Core.Path.{_≡_};
 ghost use Prim.Native.Nat.{_*_, _≤_};
 ghost use lib.ListN.{length};
 ghost use Rattle.promises.specs.Puts.{Puts};
@@ -16,7 +15,7 @@ use lines::text::put_malformed;
 use vecdist_lines::LIMIT;
 
 // Room for a numbered reply: twenty digits, a tab, the reply to a line, and a newline.
-const NUMBERED_REPLY: usize = 54;
+const NUMBERED_REPLY: usize = 32 + 22;
 
 // Puts the reply to a line at the start of out, and answers its length: X to one over the limit.
 fn answer(line: &[u8], decoded: &mut [u8], out: &mut [u8]) -> usize

@@ -115,7 +115,8 @@ fn serve_all(
     }
 }
 
-// Reads standard input piece by piece to its end, serves its lines, and answers whether it could be read.
+// Reads standard input piece by piece to its end, serves its lines, and answers whether it could be
+// read.
 fn run(
     input: &mut [u8],
     decoded: &mut [u8],

@@ -19,7 +19,8 @@ pub record Reads (count left : ℕ) (buffer buffer′ : List ℕ) (r : Piece) : 
   pub front : take count buffer′ ≡ take count buffer
   pub fits : PieceFits count (length buffer) left r
 
--- a text at the start of the buffer: a line, and behind it bytes that were read, of which `left` are allowed, or at the end of the input its newline, or nothing where a read failed
+-- a text at the start of the buffer: a line, and behind it bytes that were read, at most `left` of them;
+-- at the end of the input the newline of a line that has bytes, and nothing where a read failed
 pub record HoldsText (line : List ℕ) (left : ℕ) (buffer : List ℕ) (t : InputText) : Type 0 where
   pub count : t .count ≡ length line
   pub front : take (t .count) buffer ≡ line
