@@ -2,86 +2,87 @@
 use mathlib.Core.Path.{_≡_, refl, ap, _∙_, sym}
 use mathlib.Core.Bool.{Bool, true, false, cond}
 use mathlib.Core.List.{List, [], _∷_, _++_, append-assoc, append-nil}
-use Prim.Native.Nat.{ℕ, zero, suc, _+_, _<_, _≤_}
+use Prim.Native.Nat.{ℕ, zero, suc, _+_, _-_, _<_, _≤_}
 use native.Mathlib.Omega.{arith}
 use native.Mathlib.Decide.{decLt}
 use borrow.Author.Tests.{lt-ltb}
 use lib.Dec.{eqb}
-use lib.ListN.{length, take, drop, take-append-drop}
+use lib.ListN.{length, take, drop, length-append, length-drop, take-append-drop}
 use lib.Seq.{take-all, take-take, take-append-le, take-length, length-take-le}
 use Rattle.bytes.specs.Bytes.{indexOf, indexAfter}
+use Rattle.promises.proofs.Onto.{tail-lent}
 use Rattle.lines.specs.Text.{newline}
 use Rattle.lines.specs.Printed.{limited, numberedReplies}
-use Rattle.line_stream.specs.inner.Stream.{endedIn, unfinished}
+use Rattle.line_stream.specs.inner.Stream.{endedLines, unfinishedLine}
 
 -- a text cut in two
-pub ended-append : (l s t : List ℕ) → endedIn l (s ++ t) ≡ endedIn l s ++ endedIn (unfinished l s) t
-unfolding endedIn unfinished
+pub ended-append : (l s t : List ℕ) → endedLines l (s ++ t) ≡ endedLines l s ++ endedLines (unfinishedLine l s) t
+unfolding endedLines unfinishedLine
 ended-append l [] t = refl
 ended-append l (b ∷ s) t = go (eqb b newline) (ended-append [] s t) (ended-append (l ++ (b ∷ [])) s t)
   where
-    go : (e : Bool) → endedIn [] (s ++ t) ≡ endedIn [] s ++ endedIn (unfinished [] s) t
-        → endedIn (l ++ (b ∷ [])) (s ++ t) ≡ endedIn (l ++ (b ∷ [])) s ++ endedIn (unfinished (l ++ (b ∷ [])) s) t
-        → cond e (l ∷ endedIn [] (s ++ t)) (endedIn (l ++ (b ∷ [])) (s ++ t))
-        ≡ cond e (l ∷ endedIn [] s) (endedIn (l ++ (b ∷ [])) s) ++ endedIn (cond e (unfinished [] s) (unfinished (l ++ (b ∷ [])) s)) t
+    go : (e : Bool) → endedLines [] (s ++ t) ≡ endedLines [] s ++ endedLines (unfinishedLine [] s) t
+        → endedLines (l ++ (b ∷ [])) (s ++ t) ≡ endedLines (l ++ (b ∷ [])) s ++ endedLines (unfinishedLine (l ++ (b ∷ [])) s) t
+        → cond e (l ∷ endedLines [] (s ++ t)) (endedLines (l ++ (b ∷ [])) (s ++ t))
+        ≡ cond e (l ∷ endedLines [] s) (endedLines (l ++ (b ∷ [])) s) ++ endedLines (cond e (unfinishedLine [] s) (unfinishedLine (l ++ (b ∷ [])) s)) t
     go true p q = ap (λ (ls : List (List ℕ)). l ∷ ls) p
     go false p q = q
 
-pub unfinished-append : (l s t : List ℕ) → unfinished l (s ++ t) ≡ unfinished (unfinished l s) t
-unfolding unfinished
+pub unfinished-append : (l s t : List ℕ) → unfinishedLine l (s ++ t) ≡ unfinishedLine (unfinishedLine l s) t
+unfolding unfinishedLine
 unfinished-append l [] t = refl
 unfinished-append l (b ∷ s) t = go (eqb b newline) (unfinished-append [] s t) (unfinished-append (l ++ (b ∷ [])) s t)
   where
-    go : (e : Bool) → unfinished [] (s ++ t) ≡ unfinished (unfinished [] s) t → unfinished (l ++ (b ∷ [])) (s ++ t) ≡ unfinished (unfinished (l ++ (b ∷ [])) s) t
-        → cond e (unfinished [] (s ++ t)) (unfinished (l ++ (b ∷ [])) (s ++ t)) ≡ unfinished (cond e (unfinished [] s) (unfinished (l ++ (b ∷ [])) s)) t
+    go : (e : Bool) → unfinishedLine [] (s ++ t) ≡ unfinishedLine (unfinishedLine [] s) t → unfinishedLine (l ++ (b ∷ [])) (s ++ t) ≡ unfinishedLine (unfinishedLine (l ++ (b ∷ [])) s) t
+        → cond e (unfinishedLine [] (s ++ t)) (unfinishedLine (l ++ (b ∷ [])) (s ++ t)) ≡ unfinishedLine (cond e (unfinishedLine [] s) (unfinishedLine (l ++ (b ∷ [])) s)) t
     go true p q = p
     go false p q = q
 
 -- the bytes up to the first newline belong to one line
-pub before-newline : (l s : List ℕ) → (endedIn l (take (indexOf newline s) s) ≡ []) × (unfinished l (take (indexOf newline s) s) ≡ l ++ take (indexOf newline s) s)
-unfolding endedIn unfinished indexOf
+pub before-newline : (l s : List ℕ) → (endedLines l (take (indexOf newline s) s) ≡ []) × (unfinishedLine l (take (indexOf newline s) s) ≡ l ++ take (indexOf newline s) s)
+unfolding endedLines unfinishedLine indexOf
 before-newline l [] = (refl, sym (append-nil l))
 before-newline l (x ∷ s) = go (eqb x newline) refl (before-newline (l ++ (x ∷ [])) s)
   where
     go : (e : Bool) → eqb x newline ≡ e
-        → (endedIn (l ++ (x ∷ [])) (take (indexOf newline s) s) ≡ []) × (unfinished (l ++ (x ∷ [])) (take (indexOf newline s) s) ≡ (l ++ (x ∷ [])) ++ take (indexOf newline s) s)
-        → (endedIn l (take (indexAfter e (indexOf newline s)) (x ∷ s)) ≡ []) × (unfinished l (take (indexAfter e (indexOf newline s)) (x ∷ s)) ≡ l ++ take (indexAfter e (indexOf newline s)) (x ∷ s))
+        → (endedLines (l ++ (x ∷ [])) (take (indexOf newline s) s) ≡ []) × (unfinishedLine (l ++ (x ∷ [])) (take (indexOf newline s) s) ≡ (l ++ (x ∷ [])) ++ take (indexOf newline s) s)
+        → (endedLines l (take (indexAfter e (indexOf newline s)) (x ∷ s)) ≡ []) × (unfinishedLine l (take (indexAfter e (indexOf newline s)) (x ∷ s)) ≡ l ++ take (indexAfter e (indexOf newline s)) (x ∷ s))
     go true e p = (refl, sym (append-nil l))
     go false e p = rw (e) (p .0, p .1 ∙ append-assoc l (x ∷ []) _)
 
 -- and with the newline they are that line
-pub with-newline : (l s : List ℕ) → let p = take (indexOf newline s) s in (endedIn l (p ++ (newline ∷ [])) ≡ (l ++ p) ∷ []) × (unfinished l (p ++ (newline ∷ [])) ≡ [])
-unfolding endedIn unfinished
+pub with-newline : (l s : List ℕ) → let p = take (indexOf newline s) s in (endedLines l (p ++ (newline ∷ [])) ≡ (l ++ p) ∷ []) × (unfinishedLine l (p ++ (newline ∷ [])) ≡ [])
+unfolding endedLines unfinishedLine
 with-newline l s =
     let p = take (indexOf newline s) s in
     let o = before-newline l s in
     (ended-append l p (newline ∷ []) ∙ rw (o .0, o .1), unfinished-append l p (newline ∷ []))
 
 -- a text in which no newline is found
-pub none-ended : (l s : List ℕ) → indexOf newline s ≡ length s → (endedIn l s ≡ []) × (unfinished l s ≡ l ++ s)
+pub none-ended : (l s : List ℕ) → indexOf newline s ≡ length s → (endedLines l s ≡ []) × (unfinishedLine l s ≡ l ++ s)
 none-ended l s e =
     let all : take (indexOf newline s) s ≡ s = rw e (take-length s) in
     rw all at (before-newline l s)
 
 -- in a text that ends no line no newline is found, nor in the first bytes of a longer text
-pub found-later : (l s : List ℕ) (k : ℕ) → k ≤ length s → endedIn l (take k s) ≡ [] → k + indexOf newline (drop k s) ≡ indexOf newline s
-unfolding endedIn indexOf indexAfter
+pub found-later : (l s : List ℕ) (k : ℕ) → k ≤ length s → endedLines l (take k s) ≡ [] → k + indexOf newline (drop k s) ≡ indexOf newline s
+unfolding endedLines indexOf indexAfter
 found-later l s zero le e = omega arith
 found-later l [] (suc k) le e = absurd (omega arith)
 found-later l (x ∷ s) (suc k) le e = go (eqb x newline) e (λ p. found-later (l ++ (x ∷ [])) s k (omega arith) p)
   where
-    go : (t : Bool) → cond t (l ∷ endedIn [] (take k s)) (endedIn (l ++ (x ∷ [])) (take k s)) ≡ [] → (endedIn (l ++ (x ∷ [])) (take k s) ≡ [] → k + indexOf newline (drop k s) ≡ indexOf newline s)
+    go : (t : Bool) → cond t (l ∷ endedLines [] (take k s)) (endedLines (l ++ (x ∷ [])) (take k s)) ≡ [] → (endedLines (l ++ (x ∷ [])) (take k s) ≡ [] → k + indexOf newline (drop k s) ≡ indexOf newline s)
         → suc k + indexOf newline (drop k s) ≡ indexAfter t (indexOf newline s)
     go true e p = let z : _≡_ {A = ℕ} 0 1 = cc in absurd (omega arith)
     go false e p = omega (arith, p e)
 
-pub bare : (l s : List ℕ) → endedIn l s ≡ [] → unfinished l s ≡ l ++ s
-unfolding endedIn unfinished
-bare l [] e = sym (append-nil l)
-bare l (x ∷ s) e = go (eqb x newline) e (λ p. bare (l ++ (x ∷ [])) s p ∙ append-assoc l (x ∷ []) s)
+pub unfinished-whole : (l s : List ℕ) → endedLines l s ≡ [] → unfinishedLine l s ≡ l ++ s
+unfolding endedLines unfinishedLine
+unfinished-whole l [] e = sym (append-nil l)
+unfinished-whole l (x ∷ s) e = go (eqb x newline) e (λ p. unfinished-whole (l ++ (x ∷ [])) s p ∙ append-assoc l (x ∷ []) s)
   where
-    go : (t : Bool) → cond t (l ∷ endedIn [] s) (endedIn (l ++ (x ∷ [])) s) ≡ [] → (endedIn (l ++ (x ∷ [])) s ≡ [] → unfinished (l ++ (x ∷ [])) s ≡ l ++ (x ∷ s))
-        → cond t (unfinished [] s) (unfinished (l ++ (x ∷ [])) s) ≡ l ++ (x ∷ s)
+    go : (t : Bool) → cond t (l ∷ endedLines [] s) (endedLines (l ++ (x ∷ [])) s) ≡ [] → (endedLines (l ++ (x ∷ [])) s ≡ [] → unfinishedLine (l ++ (x ∷ [])) s ≡ l ++ (x ∷ s))
+        → cond t (unfinishedLine [] s) (unfinishedLine (l ++ (x ∷ [])) s) ≡ l ++ (x ∷ s)
     go true e p = let z : _≡_ {A = ℕ} 0 1 = cc in absurd (omega arith)
     go false e p = p e
 
@@ -89,26 +90,26 @@ nil-front : (a b : List (List ℕ)) → a ++ b ≡ [] → a ≡ []
 nil-front [] b e = refl
 nil-front (x ∷ a) b e = let z : _≡_ {A = ℕ} 0 1 = cc in absurd (omega arith)
 
-pub bare-take : (l s : List ℕ) (k : ℕ) → endedIn l s ≡ [] → endedIn l (take k s) ≡ []
-bare-take l s k e = nil-front (endedIn l (take k s)) _ (sym (ended-append l (take k s) (drop k s)) ∙ rw take-append-drop e)
+pub none-ended-take : (l s : List ℕ) (k : ℕ) → endedLines l s ≡ [] → endedLines l (take k s) ≡ []
+none-ended-take l s k e = nil-front (endedLines l (take k s)) _ (sym (ended-append l (take k s) (drop k s)) ∙ rw take-append-drop e)
 
 -- what is left unfinished ends no line
-pub bare-unfinished : (l s : List ℕ) → endedIn [] l ≡ [] → endedIn [] (unfinished l s) ≡ []
-unfolding endedIn unfinished
-bare-unfinished l [] e = e
-bare-unfinished l (b ∷ s) e = go (eqb b newline) refl (bare-unfinished [] s refl) (bare-unfinished (l ++ (b ∷ [])) s)
+pub none-ended-unfinished : (l s : List ℕ) → endedLines [] l ≡ [] → endedLines [] (unfinishedLine l s) ≡ []
+unfolding endedLines unfinishedLine
+none-ended-unfinished l [] e = e
+none-ended-unfinished l (b ∷ s) e = go (eqb b newline) refl (none-ended-unfinished [] s refl) (none-ended-unfinished (l ++ (b ∷ [])) s)
   where
-    go : (t : Bool) → eqb b newline ≡ t → endedIn [] (unfinished [] s) ≡ [] → (endedIn [] (l ++ (b ∷ [])) ≡ [] → endedIn [] (unfinished (l ++ (b ∷ [])) s) ≡ [])
-        → endedIn [] (cond t (unfinished [] s) (unfinished (l ++ (b ∷ [])) s)) ≡ []
+    go : (t : Bool) → eqb b newline ≡ t → endedLines [] (unfinishedLine [] s) ≡ [] → (endedLines [] (l ++ (b ∷ [])) ≡ [] → endedLines [] (unfinishedLine (l ++ (b ∷ [])) s) ≡ [])
+        → endedLines [] (cond t (unfinishedLine [] s) (unfinishedLine (l ++ (b ∷ [])) s)) ≡ []
     go true eq p q = p
     go false eq p q = q (ended-append [] l (b ∷ []) ∙ rw (e, eq))
 
 -- an unfinished line and the bytes after it, as one text
-pub ended-line : (l s : List ℕ) → endedIn [] l ≡ [] → endedIn [] (l ++ s) ≡ endedIn l s
-ended-line l s e = ended-append [] l s ∙ rw (e, bare [] l e)
+pub ended-line : (l s : List ℕ) → endedLines [] l ≡ [] → endedLines [] (l ++ s) ≡ endedLines l s
+ended-line l s e = ended-append [] l s ∙ rw (e, unfinished-whole [] l e)
 
-pub unfinished-line : (l s : List ℕ) → endedIn [] l ≡ [] → unfinished [] (l ++ s) ≡ unfinished l s
-unfinished-line l s e = unfinished-append [] l s ∙ rw (bare [] l e)
+pub unfinished-line : (l s : List ℕ) → endedLines [] l ≡ [] → unfinishedLine [] (l ++ s) ≡ unfinishedLine l s
+unfinished-line l s e = unfinished-append [] l s ∙ rw (unfinished-whole [] l e)
 
 -- of a line that grows, the first k bytes depend on its first k only
 cut-more : (k : ℕ) (l x : List ℕ) → take k (take k l ++ x) ≡ take k (l ++ x)
@@ -122,46 +123,46 @@ cut-more k l x = elim (decLt k (length l)) [ yes over ↦ full over | no under �
     all : length l ≤ k → take k (take k l ++ x) ≡ take k (l ++ x)
     all under = rw (take-all k l under)
 
-pub cut-unfinished : (k : ℕ) (l s : List ℕ) → take k (unfinished (take k l) s) ≡ take k (unfinished l s)
-unfolding unfinished
+pub cut-unfinished : (k : ℕ) (l s : List ℕ) → take k (unfinishedLine (take k l) s) ≡ take k (unfinishedLine l s)
+unfolding unfinishedLine
 cut-unfinished k l [] = take-take k k l (omega arith)
 cut-unfinished k l (b ∷ s) = go (eqb b newline) (cut-unfinished k (take k l ++ (b ∷ [])) s) (cut-unfinished k (l ++ (b ∷ [])) s)
   where
-    go : (e : Bool) → take k (unfinished (take k (take k l ++ (b ∷ []))) s) ≡ take k (unfinished (take k l ++ (b ∷ [])) s)
-        → take k (unfinished (take k (l ++ (b ∷ []))) s) ≡ take k (unfinished (l ++ (b ∷ [])) s)
-        → take k (cond e (unfinished [] s) (unfinished (take k l ++ (b ∷ [])) s)) ≡ take k (cond e (unfinished [] s) (unfinished (l ++ (b ∷ [])) s))
+    go : (e : Bool) → take k (unfinishedLine (take k (take k l ++ (b ∷ []))) s) ≡ take k (unfinishedLine (take k l ++ (b ∷ [])) s)
+        → take k (unfinishedLine (take k (l ++ (b ∷ []))) s) ≡ take k (unfinishedLine (l ++ (b ∷ [])) s)
+        → take k (cond e (unfinishedLine [] s) (unfinishedLine (take k l ++ (b ∷ [])) s)) ≡ take k (cond e (unfinishedLine [] s) (unfinishedLine (l ++ (b ∷ [])) s))
     go true p q = refl
-    go false p q = sym p ∙ ap (λ (m : List ℕ). take k (unfinished m s)) (cut-more k l (b ∷ [])) ∙ q
+    go false p q = sym p ∙ ap (λ (m : List ℕ). take k (unfinishedLine m s)) (cut-more k l (b ∷ [])) ∙ q
 
 -- how many lines end does not depend on what came of the first
-pub count-same : (l m s : List ℕ) → length (endedIn l s) ≡ length (endedIn m s)
-unfolding endedIn
+pub count-same : (l m s : List ℕ) → length (endedLines l s) ≡ length (endedLines m s)
+unfolding endedLines
 count-same l m [] = refl
 count-same l m (b ∷ s) = go (eqb b newline) (count-same (l ++ (b ∷ [])) (m ++ (b ∷ [])) s)
   where
-    go : (e : Bool) → length (endedIn (l ++ (b ∷ [])) s) ≡ length (endedIn (m ++ (b ∷ [])) s)
-        → length (cond e (l ∷ endedIn [] s) (endedIn (l ++ (b ∷ [])) s)) ≡ length (cond e (m ∷ endedIn [] s) (endedIn (m ++ (b ∷ [])) s))
+    go : (e : Bool) → length (endedLines (l ++ (b ∷ [])) s) ≡ length (endedLines (m ++ (b ∷ [])) s)
+        → length (cond e (l ∷ endedLines [] s) (endedLines (l ++ (b ∷ [])) s)) ≡ length (cond e (m ∷ endedLines [] s) (endedLines (m ++ (b ∷ [])) s))
     go true p = refl
     go false p = p
 
 -- no more lines end than there are bytes
-pub count-le : (l s : List ℕ) → length (endedIn l s) ≤ length s
-unfolding endedIn
+pub count-le : (l s : List ℕ) → length (endedLines l s) ≤ length s
+unfolding endedLines
 count-le l [] = omega arith
 count-le l (b ∷ s) = go (eqb b newline) (count-le [] s) (count-le (l ++ (b ∷ [])) s)
   where
-    go : (e : Bool) → length (endedIn [] s) ≤ length s → length (endedIn (l ++ (b ∷ [])) s) ≤ length s
-        → length (cond e (l ∷ endedIn [] s) (endedIn (l ++ (b ∷ [])) s)) ≤ suc (length s)
+    go : (e : Bool) → length (endedLines [] s) ≤ length s → length (endedLines (l ++ (b ∷ [])) s) ≤ length s
+        → length (cond e (l ∷ endedLines [] s) (endedLines (l ++ (b ∷ [])) s)) ≤ suc (length s)
     go true p q = omega arith
     go false p q = omega arith
 
 -- a reply that depends on the first k bytes of a line
-abbrev pub Short : (List ℕ → List ℕ) → ℕ → Type 0
-Short reply k = (l : List ℕ) → reply (take k l) ≡ reply l
+abbrev pub DependsOnFirst : (List ℕ → List ℕ) → ℕ → Type 0
+DependsOnFirst reply k = (l : List ℕ) → reply (take k l) ≡ reply l
 
 -- whether a line is over the limit shows in one byte more than the limit
-pub limited-short : (limit : ℕ) (reply : List ℕ → List ℕ) → Short (limited limit reply) (limit + 1)
-limited-short limit reply l = elim (decLt limit (length l)) [ yes over ↦ long over | no under ↦ all (omega (arith, under)) ]
+pub limited-depends-on-first : (limit : ℕ) (reply : List ℕ → List ℕ) → DependsOnFirst (limited limit reply) (limit + 1)
+limited-depends-on-first limit reply l = elim (decLt limit (length l)) [ yes over ↦ long over | no under ↦ all (omega (arith, under)) ]
   where
     long : limit < length l → limited limit reply (take (limit + 1) l) ≡ limited limit reply l
     long over =
@@ -179,13 +180,33 @@ module _ (reply : List ℕ → List ℕ) where
       let k : n + 1 + length a ≡ n + suc (length a) = omega arith in
       rw (replies-append (n + 1) a b, append-assoc, k)
 
-  pub cut-replies : (k : ℕ) → Short reply k → (n : ℕ) (l s : List ℕ) → numberedReplies reply n (endedIn (take k l) s) ≡ numberedReplies reply n (endedIn l s)
-  unfolding endedIn numberedReplies
-  cut-replies k short n l [] = refl
-  cut-replies k short n l (b ∷ s) = go (eqb b newline) (cut-replies k short n (take k l ++ (b ∷ [])) s) (cut-replies k short n (l ++ (b ∷ [])) s)
+  pub cut-replies : (k : ℕ) → DependsOnFirst reply k → (n : ℕ) (l s : List ℕ) → numberedReplies reply n (endedLines (take k l) s) ≡ numberedReplies reply n (endedLines l s)
+  unfolding endedLines numberedReplies
+  cut-replies k depends n l [] = refl
+  cut-replies k depends n l (b ∷ s) = go (eqb b newline) (cut-replies k depends n (take k l ++ (b ∷ [])) s) (cut-replies k depends n (l ++ (b ∷ [])) s)
     where
-      go : (e : Bool) → numberedReplies reply n (endedIn (take k (take k l ++ (b ∷ []))) s) ≡ numberedReplies reply n (endedIn (take k l ++ (b ∷ [])) s)
-          → numberedReplies reply n (endedIn (take k (l ++ (b ∷ []))) s) ≡ numberedReplies reply n (endedIn (l ++ (b ∷ [])) s)
-          → numberedReplies reply n (cond e (take k l ∷ endedIn [] s) (endedIn (take k l ++ (b ∷ [])) s)) ≡ numberedReplies reply n (cond e (l ∷ endedIn [] s) (endedIn (l ++ (b ∷ [])) s))
-      go true p q = rw (short l)
-      go false p q = sym p ∙ ap (λ (m : List ℕ). numberedReplies reply n (endedIn m s)) (cut-more k l (b ∷ [])) ∙ q
+      go : (e : Bool) → numberedReplies reply n (endedLines (take k (take k l ++ (b ∷ []))) s) ≡ numberedReplies reply n (endedLines (take k l ++ (b ∷ [])) s)
+          → numberedReplies reply n (endedLines (take k (l ++ (b ∷ []))) s) ≡ numberedReplies reply n (endedLines (l ++ (b ∷ [])) s)
+          → numberedReplies reply n (cond e (take k l ∷ endedLines [] s) (endedLines (take k l ++ (b ∷ [])) s)) ≡ numberedReplies reply n (cond e (l ∷ endedLines [] s) (endedLines (l ++ (b ∷ [])) s))
+      go true p q = rw (depends l)
+      go false p q = sym p ∙ ap (λ (m : List ℕ). numberedReplies reply n (endedLines m s)) (cut-more k l (b ∷ [])) ∙ q
+
+-- the bytes of lines with their newlines
+pub lineBytes : List (List ℕ) → ℕ
+lineBytes [] = 0
+lineBytes (l ∷ ls) = length l + 1 + lineBytes ls
+
+pub text-length : (l s : List ℕ) → length l + length s ≡ lineBytes (endedLines l s) + length (unfinishedLine l s)
+unfolding endedLines unfinishedLine lineBytes
+text-length l [] = omega arith
+text-length l (b ∷ s) = go (eqb b newline) (text-length [] s) (text-length (l ++ (b ∷ [])) s)
+  where
+    go : (e : Bool) → length {A = ℕ} [] + length s ≡ lineBytes (endedLines [] s) + length (unfinishedLine [] s)
+        → length (l ++ (b ∷ [])) + length s ≡ lineBytes (endedLines (l ++ (b ∷ [])) s) + length (unfinishedLine (l ++ (b ∷ [])) s)
+        → length l + suc (length s) ≡ lineBytes (cond e (l ∷ endedLines [] s) (endedLines (l ++ (b ∷ [])) s)) + length (cond e (unfinishedLine [] s) (unfinishedLine (l ++ (b ∷ [])) s))
+    go true p q = omega arith
+    go false p q = omega (arith, length-append l (b ∷ []))
+
+-- what follows a place of a text, as it is lent
+pub rest-lent : (at : ℕ) (text : List ℕ) → length (take (length text - at) (drop at text)) ≡ length text - at
+rest-lent at text = rw (tail-lent at text) (length-drop at text)

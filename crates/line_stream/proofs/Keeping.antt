@@ -14,16 +14,16 @@ use Rattle.promises.proofs.Puts.{puts-same, prefix-puts}
 use Rattle.line_stream.specs.inner.Stream.{keptOf}
 
 -- i of the bytes of l from `from` on are moved; o is l then
-pub record Shifted (from n : ℕ) (l o : List ℕ) (i : ℕ) : Type 0 where
+pub record BytesMoved (from n : ℕ) (l o : List ℕ) (i : ℕ) : Type 0 where
   pub within : i ≤ n
   pub left : o ≡ onto (take i (drop from l)) l
   pub long : length o ≡ length l
 
-pub shifted-none : (from n : ℕ) (l : List ℕ) → Shifted from n l l 0
-shifted-none from n l = record { within = omega arith; left = refl; long = refl }
+pub moved-none : (from n : ℕ) (l : List ℕ) → BytesMoved from n l l 0
+moved-none from n l = record { within = omega arith; left = refl; long = refl }
 
-pub shifted-next : (from n : ℕ) (l o : List ℕ) (i : ℕ) → Shifted from n l o i → i < n → from + n ≤ length l → Shifted from n l (set o i (getD o (from + i) 0)) (i + 1)
-shifted-next from n l o i s less fits =
+pub moved-next : (from n : ℕ) (l o : List ℕ) (i : ℕ) → BytesMoved from n l o i → i < n → from + n ≤ length l → BytesMoved from n l (set o i (getD o (from + i) 0)) (i + 1)
+moved-next from n l o i s less fits =
     let w = take i (drop from l) in
     let size : length w ≡ i = length-take-le i (drop from l) (omega (arith, length-drop from l)) in
     let place : from + i ≡ length w + from = omega arith in
@@ -70,3 +70,7 @@ module _ (l : List ℕ) (from end most n : ℕ) (size : n ≡ min most (end - fr
   kept-there e =
       let same : take n (drop from l) ≡ take n l = rw e in
       puts-same (sym (text ∙ same)) (prefix-puts n l (omega arith))
+
+pub kept-few : (most : ℕ) (line : List ℕ) → length (keptOf most line) ≤ most
+unfolding keptOf
+kept-few most line = omega (arith, length-take most line)

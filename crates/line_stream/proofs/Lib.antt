@@ -1,10 +1,9 @@
 -- Laws of an input in pieces, for the loops of the programs
 pub mod Keeping
 pub mod Cutting
+pub mod NumberedReply
 pub mod Serving
-pub mod Passing
+pub mod ServingAll
+pub mod ReadingText
+pub mod InputRead
 pub mod InPieces
-pub mod Coming
-pub mod Replying
-pub mod Determined
-pub mod Ending

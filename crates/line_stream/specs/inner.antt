@@ -2,3 +2,4 @@
 pub mod Stream
 pub mod Reading
 pub mod Serving
+pub mod Rooms

@@ -1,5 +1,5 @@
 -- Inputs with what vecdist prints for them, the customer's first, which antt computes.
-use mathlib.Core.Path.{_≡_, refl}
+use mathlib.Core.Path.{refl}
 use mathlib.Core.List.{List, [], _∷_}
 use lib.Ieee.{add, sub, mul, div, neg, eq, lt, ofInt, ofBits, toBits}
 use Rattle.float_laws.specs.Running.{running, total}

@@ -3,29 +3,25 @@ mod serving;
 
 ghost use mathlib.Core.Path.{_≡_};
 ghost use mathlib.Core.Bool.{true};
-ghost use mathlib.Core.List.{[], _∷_};
-ghost use Prim.Native.Nat.{_+_, _*_, _≤_};
-ghost use lib.ListN.{length, take};
-ghost use Rattle.lines.specs.Parts.{lastUnlessEmpty};
-ghost use Rattle.line_stream.specs.inner.Serving.{Ready, Passes, Ending};
+ghost use Prim.Native.Nat.{_*_, _/_, _≤_};
+ghost use lib.ListN.{length};
+ghost use Rattle.line_stream.specs.inner.Rooms.{numberedRoom, inputRoom};
+ghost use Rattle.line_stream.specs.inner.Serving.{TextReady, ServesAll};
 ghost use Rattle.vecdist_lines.specs.Limits.{vecdistLimit};
-ghost use Rattle.vecdist.specs.inner.Rooms.{longestReply, inputRoom, decodedRoom};
-use line_stream::Done;
-use line_stream::Held;
-use line_stream::Piece;
-use line_stream::keep;
-use line_stream::read_behind;
+use line_stream::HeldLine;
+use line_stream::ServedText;
+use line_stream::next_text;
 use serving::serve;
 use vecdist_lines::LIMIT;
 
 // As many bytes of a line as are kept: one more than it may have, so that a longer one is seen.
-const MOST: usize = LIMIT + 1;
+const MOST_KEPT: usize = LIMIT + 1;
 
 // Room for the line that is kept, and for a piece of the input behind it.
-const INPUT: usize = MOST + 65536;
+const INPUT: usize = MOST_KEPT + 65536;
 
 fn input_room() -> [u8; INPUT]
-    ensures { λ r. ⌜ inputRoom ≡ length r ⌝ }
+    ensures { λ r. ⌜ inputRoom vecdistLimit ≡ length r ⌝ }
 {
     [0; INPUT]
 }
@@ -34,7 +30,7 @@ fn input_room() -> [u8; INPUT]
 const DECODED: usize = LIMIT / 2;
 
 fn decoded_room() -> [u8; DECODED]
-    ensures { λ r. ⌜ decodedRoom ≡ length r ⌝ }
+    ensures { λ r. ⌜ vecdistLimit / 2 ≡ length r ⌝ }
 {
     [0; DECODED]
 }
@@ -46,105 +42,83 @@ fn cannot_read() {
     );
 }
 
-fn cannot_write() {
+// Writes replies, and answers whether all of them were written.
+fn write_replies(replies: &[u8]) -> bool {
+    if io::write_all(libc::STDOUT_FILENO, replies) {
+        return true;
+    }
     io::write_all(
         libc::STDERR_FILENO,
         b"vecdist: standard output cannot be written\n",
     );
+    false
 }
 
 // Serves all lines of a text that starts with the line held, and writes the replies.
-fn serve_all(text: &[u8], held: Held, decoded: &mut [u8], out: &mut [u8]) -> Done
-    requires { ⌜ Ready (now text) held ⌝ }
+fn serve_all(text: &[u8], held: HeldLine, decoded: &mut [u8], out: &mut [u8]) -> ServedText
+    requires { ⌜ TextReady (now text) held ⌝ }
     requires { ⌜ vecdistLimit ≤ 2 * length (now decoded) ⌝ }
-    requires { ⌜ longestReply ≤ length (now out) ⌝ }
-    ensures { λ r. ⌜ (r .fine ≡ true → Passes (now (text .entry)) (held .before) r) ⌝ }
+    requires { ⌜ numberedRoom 32 ≤ length (now out) ⌝ }
+    ensures { λ r. ⌜ (r .written ≡ true → ServesAll (now (text .entry)) (held .before) r) ⌝ }
 {
     let mut line = held;
     let mut at = 0;
     let mut more = true;
+    let mut written = true;
     while more {
         let served = serve(&text[at..], line, decoded, out);
-        let said = served.said;
-        if !io::write_all(libc::STDOUT_FILENO, &out[..said]) {
-            cannot_write();
-            return Done {
-                at,
-                before: line.before,
-                fine: false,
-            };
-        }
+        let filled = served.filled;
+        written = write_replies(&out[..filled]);
         at += served.at;
-        line = Held {
+        line = HeldLine {
             count: 0,
             before: served.before,
         };
-        more = served.more;
+        more = served.more & written;
     }
-    Done {
+    ServedText {
         at,
         before: line.before,
-        fine: true,
+        written,
     }
 }
 
-// At the end of the input: a line that has bytes gets its newline, and is served.
-fn serve_end(input: &mut [u8], held: Held, decoded: &mut [u8], out: &mut [u8]) -> Done
-    requires { ⌜ Ending (now input) held ⌝ }
+// Reads standard input piece by piece to its end, serves its lines, and answers whether it could be
+// read.
+fn run(input: &mut [u8], decoded: &mut [u8], out: &mut [u8]) -> bool
+    requires { ⌜ length (now input) ≡ inputRoom vecdistLimit ⌝ }
     requires { ⌜ vecdistLimit ≤ 2 * length (now decoded) ⌝ }
-    requires { ⌜ longestReply ≤ length (now out) ⌝ }
-    ensures { λ r. ⌜ (r .fine ≡ true → r .before ≡ held .before + length (lastUnlessEmpty (take (held .count) (now (input .entry)) ∷ []))) ⌝ }
+    requires { ⌜ numberedRoom 32 ≤ length (now out) ⌝ }
 {
-    let count = held.count;
-    if count == 0 {
-        return Done {
-            at: 0,
-            before: held.before,
-            fine: true,
-        };
-    }
-    input[count] = b'\n';
-    serve_all(&input[..count + 1], held, decoded, out)
-}
-
-// Reads standard input piece by piece to its end, and serves its lines.
-fn run(input: &mut [u8], decoded: &mut [u8], out: &mut [u8])
-    requires { ⌜ length (now input) ≡ inputRoom ⌝ }
-    requires { ⌜ vecdistLimit ≤ 2 * length (now decoded) ⌝ }
-    requires { ⌜ longestReply ≤ length (now out) ⌝ }
-{
-    let mut held = Held {
-        count: 0,
-        before: 0,
-    };
+    let mut at = 0;
+    let mut end = 0;
+    let mut before = 0;
     // as many bytes of input as the numbers of lines can count
-    let mut left: u64 = 0x8000_0000_0000_0000;
-    while INPUT as u64 <= left {
-        let piece = read_behind(input, held.count);
-        let Piece::Bytes(n) = piece else {
-            cannot_read();
-            return;
+    let mut left = 0x8000_0000_0000_0000;
+    let mut more = true;
+    let mut failed = false;
+    while more {
+        let text = next_text(input, at, end, MOST_KEPT, left);
+        end = text.end;
+        let held = HeldLine {
+            count: text.count,
+            before,
         };
-        if n == 0 {
-            break;
-        }
-        left -= n as u64;
-        let end = held.count + n;
-        let done = serve_all(&input[..end], held, decoded, out);
-        if !done.fine {
-            return;
-        }
-        held = Held {
-            count: keep(input, done.at, end, MOST),
-            before: done.before,
-        };
+        let served = serve_all(&input[..end], held, decoded, out);
+        at = served.at;
+        before = served.before;
+        left = text.left;
+        more = text.more & served.written;
+        failed = text.failed;
     }
-    serve_end(input, held, decoded, out);
+    !failed
 }
 
 fn main() {
     let mut input = input_room();
     let mut decoded = decoded_room();
     let mut out = io::large_buffer();
-    run(&mut input, &mut decoded, &mut out);
+    if !run(&mut input, &mut decoded, &mut out) {
+        cannot_read();
+    }
 }

@@ -1,22 +1,21 @@
 // Replies to the lines of a text, put into a buffer.
-ghost use mathlib.Core.Path.{_≡_};
 ghost use Prim.Native.Nat.{_*_, _≤_};
 ghost use lib.ListN.{length};
 ghost use Rattle.promises.specs.Puts.{Puts};
 ghost use Rattle.lines.specs.Printed.{numberedReply};
-ghost use Rattle.line_stream.specs.inner.Serving.{Ready, Serves, Stops};
+ghost use Rattle.line_stream.specs.inner.Rooms.{numberedRoom};
+ghost use Rattle.line_stream.specs.inner.Serving.{TextReady, Serves};
 ghost use Rattle.vecdist_lines.specs.Limits.{vecdistLimit};
 ghost use Rattle.vecdist.specs.Printed.{replyTo};
-ghost use Rattle.vecdist.specs.inner.Rooms.{longestReply};
 use bytes::scan::find;
-use line_stream::Held;
-use line_stream::Served;
+use line_stream::HeldLine;
+use line_stream::ServedLines;
 use lines::text::put_head;
 use lines::text::put_malformed;
 use vecdist_lines::LIMIT;
 
-// The longest reply: twenty digits, a tab, room for the reply to a line, and a newline.
-pub(crate) const LONGEST: usize = 54;
+// Room for a numbered reply: twenty digits, a tab, the reply to a line, and a newline.
+const NUMBERED_REPLY: usize = 32 + 22;
 
 // Puts the reply to a line at the start of out, and answers its length: X to one over the limit.
 fn answer(line: &[u8], decoded: &mut [u8], out: &mut [u8]) -> usize
@@ -33,48 +32,38 @@ fn answer(line: &[u8], decoded: &mut [u8], out: &mut [u8]) -> usize
 // Puts the number of a line, a tab, the reply to it and a newline.
 fn reply(number: u64, line: &[u8], decoded: &mut [u8], out: &mut [u8]) -> usize
     requires { ⌜ vecdistLimit ≤ 2 * length (now decoded) ⌝ }
-    requires { ⌜ longestReply ≤ length (now out) ⌝ }
+    requires { ⌜ numberedRoom 32 ≤ length (now out) ⌝ }
     ensures { λ r. ⌜ Puts (numberedReply number (replyTo (now (line .entry)))) (now (out .entry)) r (now (out .exit)) ⌝ }
 {
     let head = put_head(number, out);
     let last = out.len() - 1;
-    let said = answer(line, decoded, &mut out[head..last]);
-    let end = head + said;
+    let length = answer(line, decoded, &mut out[head..last]);
+    let end = head + length;
     out[end] = b'\n';
     end + 1
 }
 
-// Serves the lines of a text that starts with the line held, as far as there is room for the replies,
-// which are put at the start of out.
-pub(crate) fn serve(text: &[u8], held: Held, decoded: &mut [u8], out: &mut [u8]) -> Served
-    requires { ⌜ Ready (now text) held ⌝ }
+// Serves the lines of a text that starts with the line held, each if there is room for its reply; the
+// replies are put at the start of out.
+pub(crate) fn serve(text: &[u8], held: HeldLine, decoded: &mut [u8], out: &mut [u8]) -> ServedLines
+    requires { ⌜ TextReady (now text) held ⌝ }
     requires { ⌜ vecdistLimit ≤ 2 * length (now decoded) ⌝ }
-    requires { ⌜ longestReply ≤ length (now out) ⌝ }
-    ensures { λ r. ⌜ Serves replyTo (now (text .entry)) (held .before) (now (out .entry)) (now (out .exit)) (r .at) (r .before) (r .said) ⌝ }
-    ensures { λ r. ⌜ Stops (now (text .entry)) r ⌝ }
+    ensures { λ r. ⌜ Serves replyTo (numberedRoom 32) (now (text .entry)) (held .before) (now (out .entry)) (now (out .exit)) r ⌝ }
 {
     let mut at = 0;
     let mut number = held.before;
-    let mut said = 0;
+    let mut filled = 0;
     let mut end = find(text, held.count, text.len(), b'\n');
-    while end < text.len() {
-        if out.len() - said < LONGEST {
-            return Served {
-                at,
-                before: number,
-                said,
-                more: true,
-            };
-        }
+    while end < text.len() && NUMBERED_REPLY <= out.len() - filled {
         number += 1;
-        said += reply(number, &text[at..end], decoded, &mut out[said..]);
+        filled += reply(number, &text[at..end], decoded, &mut out[filled..]);
         at = end + 1;
         end = find(text, at, text.len(), b'\n');
     }
-    Served {
+    ServedLines {
         at,
         before: number,
-        said,
-        more: false,
+        filled,
+        more: end < text.len(),
     }
 }

@@ -3,13 +3,13 @@ use mathlib.Core.Path.{_≡_}
 use mathlib.Core.List.{List, flatten}
 use Prim.Native.Nat.{ℕ}
 use lib.Dec.{lit<}
-use Rattle.line_stream.specs.inner.Stream.{begun, after, finished}
-use Rattle.line_stream.proofs.Cutting.{limited-short}
+use Rattle.line_stream.specs.inner.Rooms.{mostKept}
+use Rattle.line_stream.specs.inner.Stream.{writtenFor}
+use Rattle.line_stream.proofs.Cutting.{limited-depends-on-first}
 use Rattle.line_stream.proofs.InPieces.{written-whole}
 use Rattle.probe_lines.specs.Line.{vecprobeReply}
 use Rattle.probe_lines.specs.Limits.{vecprobeLimit}
 use Rattle.vecprobe.specs.Printed.{replyTo, printed}
-use Rattle.vecprobe.specs.inner.Rooms.{mostKept}
 
-pub written-printed : (pieces : List (List ℕ)) → finished replyTo mostKept (after replyTo mostKept begun pieces) ≡ printed (flatten pieces)
-written-printed pieces = written-whole replyTo mostKept (limited-short vecprobeLimit vecprobeReply) (lit< tt) pieces
+pub written-printed : (pieces : List (List ℕ)) → writtenFor replyTo (mostKept vecprobeLimit) pieces ≡ printed (flatten pieces)
+written-printed pieces = written-whole replyTo (mostKept vecprobeLimit) (limited-depends-on-first vecprobeLimit vecprobeReply) (lit< tt) pieces

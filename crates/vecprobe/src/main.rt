@@ -1,37 +1,33 @@
 // Replies to the lines of standard input, for service staff and for differential runs: reads it piece
 // by piece, and writes the replies.
-mod serving;
-
 ghost use mathlib.Core.Path.{_≡_};
 ghost use mathlib.Core.Bool.{true};
-ghost use mathlib.Core.List.{[], _∷_};
-ghost use Prim.Native.Nat.{_+_, _≤_};
-ghost use lib.ListN.{length, take};
-ghost use Rattle.lines.specs.Parts.{lastUnlessEmpty};
-ghost use Rattle.line_stream.specs.inner.Serving.{Ready, Passes, Ending};
+ghost use Prim.Native.Nat.{_≤_};
+ghost use lib.ListN.{length};
+ghost use Rattle.line_stream.specs.inner.Rooms.{numberedRoom, inputRoom};
+ghost use Rattle.line_stream.specs.inner.Serving.{TextReady, ServesAll};
 ghost use Rattle.probe_blobs.specs.Limits.{scratchRoom, blobRoom};
-ghost use Rattle.probe_lines.specs.Limits.{decodedRoom};
-ghost use Rattle.vecprobe.specs.inner.Rooms.{longestReply, inputRoom, replyRoom, Rooms};
-use line_stream::Done;
-use line_stream::Held;
-use line_stream::Piece;
-use line_stream::keep;
-use line_stream::read_behind;
+ghost use Rattle.probe_lines.specs.Limits.{vecprobeLimit, decodedRoom};
+ghost use Rattle.probe_replies.specs.inner.WorkRooms.{WorkRooms};
+ghost use Rattle.vecprobe.specs.inner.Rooms.{outputRoom};
+use line_stream::HeldLine;
+use line_stream::ServedText;
+use line_stream::next_text;
 use probe_lines::BLOB;
 use probe_lines::DECODED;
 use probe_lines::LIMIT;
 use probe_lines::SCRATCH;
-use serving::LONGEST;
-use serving::serve;
+use probe_replies::NUMBERED_REPLY;
+use probe_replies::serve;
 
 // As many bytes of a line as are kept: one more than it may have, so that a longer one is seen.
-const MOST: usize = LIMIT + 1;
+const MOST_KEPT: usize = LIMIT + 1;
 
 // Room for the line that is kept, and for a piece of the input behind it.
-const INPUT: usize = MOST + 65536;
+const INPUT: usize = MOST_KEPT + 65536;
 
 fn input_room() -> [u8; INPUT]
-    ensures { λ r. ⌜ inputRoom ≡ length r ⌝ }
+    ensures { λ r. ⌜ inputRoom vecprobeLimit ≡ length r ⌝ }
 {
     [0; INPUT]
 }
@@ -56,12 +52,12 @@ fn blob_room() -> [u8; BLOB]
 }
 
 // Room for replies that are not written yet.
-const OUT: usize = LONGEST + 65536;
+const OUTPUT: usize = NUMBERED_REPLY + 65536;
 
-fn reply_room() -> [u8; OUT]
-    ensures { λ r. ⌜ replyRoom ≡ length r ⌝ }
+fn output_room() -> [u8; OUTPUT]
+    ensures { λ r. ⌜ outputRoom ≡ length r ⌝ }
 {
-    [0; OUT]
+    [0; OUTPUT]
 }
 
 fn cannot_read() {
@@ -71,114 +67,89 @@ fn cannot_read() {
     );
 }
 
-fn cannot_write() {
+// Writes replies, and answers whether all of them were written.
+fn write_replies(replies: &[u8]) -> bool {
+    if io::write_all(libc::STDOUT_FILENO, replies) {
+        return true;
+    }
     io::write_all(
         libc::STDERR_FILENO,
         b"vecprobe: standard output cannot be written\n",
     );
+    false
 }
 
 // Serves all lines of a text that starts with the line held, and writes the replies.
 fn serve_all(
     text: &[u8],
-    held: Held,
+    held: HeldLine,
     decoded: &mut [u8],
     scratch: &mut [u8],
     made: &mut [u8],
     out: &mut [u8],
-) -> Done
-    requires { ⌜ Ready (now text) held ⌝ }
-    requires { ⌜ Rooms (now decoded) (now scratch) (now made) ⌝ }
-    requires { ⌜ longestReply ≤ length (now out) ⌝ }
-    ensures { λ r. ⌜ (r .fine ≡ true → Passes (now (text .entry)) (held .before) r) ⌝ }
+) -> ServedText
+    requires { ⌜ TextReady (now text) held ⌝ }
+    requires { ⌜ WorkRooms (now decoded) (now scratch) (now made) ⌝ }
+    requires { ⌜ numberedRoom vecprobeLimit ≤ length (now out) ⌝ }
+    ensures { λ r. ⌜ (r .written ≡ true → ServesAll (now (text .entry)) (held .before) r) ⌝ }
 {
     let mut line = held;
     let mut at = 0;
     let mut more = true;
+    let mut written = true;
     while more {
         let served = serve(&text[at..], line, decoded, scratch, made, out);
-        let said = served.said;
-        if !io::write_all(libc::STDOUT_FILENO, &out[..said]) {
-            cannot_write();
-            return Done {
-                at,
-                before: line.before,
-                fine: false,
-            };
-        }
+        let filled = served.filled;
+        written = write_replies(&out[..filled]);
         at += served.at;
-        line = Held {
+        line = HeldLine {
             count: 0,
             before: served.before,
         };
-        more = served.more;
+        more = served.more & written;
     }
-    Done {
+    ServedText {
         at,
         before: line.before,
-        fine: true,
+        written,
     }
 }
 
-// At the end of the input: a line that has bytes gets its newline, and is served.
-fn serve_end(
+// Reads standard input piece by piece to its end, serves its lines, and answers whether it could be
+// read.
+fn run(
     input: &mut [u8],
-    held: Held,
     decoded: &mut [u8],
     scratch: &mut [u8],
     made: &mut [u8],
     out: &mut [u8],
-) -> Done
-    requires { ⌜ Ending (now input) held ⌝ }
-    requires { ⌜ Rooms (now decoded) (now scratch) (now made) ⌝ }
-    requires { ⌜ longestReply ≤ length (now out) ⌝ }
-    ensures { λ r. ⌜ (r .fine ≡ true → r .before ≡ held .before + length (lastUnlessEmpty (take (held .count) (now (input .entry)) ∷ []))) ⌝ }
+) -> bool
+    requires { ⌜ length (now input) ≡ inputRoom vecprobeLimit ⌝ }
+    requires { ⌜ WorkRooms (now decoded) (now scratch) (now made) ⌝ }
+    requires { ⌜ numberedRoom vecprobeLimit ≤ length (now out) ⌝ }
 {
-    let count = held.count;
-    if count == 0 {
-        return Done {
-            at: 0,
-            before: held.before,
-            fine: true,
-        };
-    }
-    input[count] = b'\n';
-    serve_all(&input[..count + 1], held, decoded, scratch, made, out)
-}
-
-// Reads standard input piece by piece to its end, and serves its lines.
-fn run(input: &mut [u8], decoded: &mut [u8], scratch: &mut [u8], made: &mut [u8], out: &mut [u8])
-    requires { ⌜ length (now input) ≡ inputRoom ⌝ }
-    requires { ⌜ Rooms (now decoded) (now scratch) (now made) ⌝ }
-    requires { ⌜ longestReply ≤ length (now out) ⌝ }
-{
-    let mut held = Held {
-        count: 0,
-        before: 0,
-    };
+    let mut at = 0;
+    let mut end = 0;
+    let mut before = 0;
     // as many bytes of input as the numbers of lines can count
-    let mut left: u64 = 0x8000_0000_0000_0000;
-    while INPUT as u64 <= left {
-        let piece = read_behind(input, held.count);
-        let Piece::Bytes(n) = piece else {
-            cannot_read();
-            return;
+    let mut left = 0x8000_0000_0000_0000;
+    let mut more = true;
+    let mut failed = false;
+    while more {
+        let text = next_text(input, at, end, MOST_KEPT, left);
+        end = text.end;
+        let held = HeldLine {
+            count: text.count,
+            before,
         };
-        if n == 0 {
-            break;
-        }
-        left -= n as u64;
-        let end = held.count + n;
-        let done = serve_all(&input[..end], held, decoded, scratch, made, out);
-        if !done.fine {
-            return;
-        }
-        held = Held {
-            count: keep(input, done.at, end, MOST),
-            before: done.before,
-        };
+        let served = serve_all(&input[..end], held, decoded, scratch, made, out);
+        at = served.at;
+        before = served.before;
+        left = text.left;
+        more = text.more & served.written;
+        failed = text.failed;
     }
-    serve_end(input, held, decoded, scratch, made, out);
+    !failed
 }
 
 fn main() {
@@ -186,6 +157,8 @@ fn main() {
     let mut decoded = decoded_room();
     let mut scratch = scratch_room();
     let mut made = blob_room();
-    let mut out = reply_room();
-    run(&mut input, &mut decoded, &mut scratch, &mut made, &mut out);
+    let mut out = output_room();
+    if !run(&mut input, &mut decoded, &mut scratch, &mut made, &mut out) {
+        cannot_read();
+    }
 }

@@ -3,21 +3,21 @@ use Prim.Native.Nat.{_-_}
 use mathlib.Core.Path.{_≡_, _∙_}
 use native.Mathlib.Omega.{arith}
 use borrow.Author.Needs.{needs}
-use Rattle.line_stream.proofs.Keeping.{Shifted, shifted-none, shifted-next}
+use Rattle.line_stream.proofs.Keeping.{BytesMoved, moved-none, moved-next}
 use Rattle.line_stream.proofs.shift.Statement.{statement}
 use Rattle.line_stream.proofs.shift.Tie as tie
 
 abbrev Inv-loop : tie.InvT-loop
-Inv-loop buffer₀ from n i₀ buffer i = Shifted from n buffer₀ buffer i
+Inv-loop buffer₀ from n i₀ buffer i = BytesMoved from n buffer₀ buffer i
 
 abbrev μ-loop : tie.MeasureT-loop
 μ-loop buffer₀ from n i₀ buffer i = n - i
 
 loop-holds : tie.Need-loop-holds Inv-loop μ-loop
-loop-holds c = shifted-none _ _ _
+loop-holds c = moved-none _ _ _
 
 loop-again : tie.Need-loop-again Inv-loop μ-loop
-loop-again c = shifted-next _ _ _ _ _ (c .before .before .loop .inv) (c .before .loop-test .taken) (c .before .before .before .pre)
+loop-again c = moved-next _ _ _ _ _ (c .before .before .loop .inv) (c .before .loop-test .taken) (c .before .before .before .pre)
 
 returns : tie.Need-returns Inv-loop μ-loop
 returns c =

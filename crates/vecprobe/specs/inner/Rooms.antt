@@ -1,28 +1,8 @@
 -- The rooms of vecprobe.
-use Prim.Native.Nat.{ℕ, _+_, _*_, _≤_}
-use mathlib.Core.Path.{_≡_}
-use mathlib.Core.List.{List}
-use lib.ListN.{length}
-use Rattle.probe_blobs.specs.Limits.{scratchRoom, blobRoom}
+use Prim.Native.Nat.{ℕ, _+_}
+use Rattle.line_stream.specs.inner.Rooms.{numberedRoom}
 use Rattle.probe_lines.specs.Limits.{vecprobeLimit}
 
--- the longest numbered reply: twenty digits, a tab, room for the reply to a line, and a newline
-abbrev pub longestReply : ℕ
-longestReply = vecprobeLimit + 22
-
--- as many bytes of a line as are kept
-abbrev pub mostKept : ℕ
-mostKept = vecprobeLimit + 1
-
--- room for the line that is kept and for a piece behind it, and for replies that are not written yet
-abbrev pub inputRoom : ℕ
-inputRoom = mostKept + 65536
-
-abbrev pub replyRoom : ℕ
-replyRoom = longestReply + 65536
-
--- room to work in: for the bytes that a line is decoded to, for a conversion, and for the blob made
-pub record Rooms (decoded scratch made : List ℕ) : Type 0 where
-  pub bytes : vecprobeLimit ≤ 2 * length decoded
-  pub dense : length scratch ≡ scratchRoom
-  pub blob : length made ≡ blobRoom
+-- for replies that are not written yet
+abbrev pub outputRoom : ℕ
+outputRoom = numberedRoom vecprobeLimit + 65536

@@ -8,7 +8,9 @@ returns : tie.Need-returns
 returns c = rw (lt-ltb _ _ (c .before .before .before .before .if1 .taken)) (c .before .before .put-malformed .ensures)
 
 returns-2 : tie.Need-returns-2
-returns-2 c = rw (le-ltb _ _ (c .before .before .before .before .before .before .before .if1 .left)) (c .before .before .before .before .answer .ensures)
+returns-2 c =
+    let r = c .before .before .before .before in
+    rw (le-ltb _ _ (r .before .before .before .if1 .left)) (r .answer .ensures)
 
 pub answer-spec : {M : Type 1} → statement M
 answer-spec =

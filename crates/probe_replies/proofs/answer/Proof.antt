@@ -1,14 +1,16 @@
 -- `answer` meets its contract, on either side of the limit.
 use borrow.Author.Tests.{lt-ltb, le-ltb}
 use borrow.Author.Needs.{needs}
-use Rattle.vecprobe.proofs.serving.answer.Statement.{statement}
-use Rattle.vecprobe.proofs.serving.answer.Tie as tie
+use Rattle.probe_replies.proofs.answer.Statement.{statement}
+use Rattle.probe_replies.proofs.answer.Tie as tie
 
 returns : tie.Need-returns
 returns c = rw (lt-ltb _ _ (c .before .before .before .before .if1 .taken)) (c .before .before .put-malformed .ensures)
 
 returns-2 : tie.Need-returns-2
-returns-2 c = rw (le-ltb _ _ (c .before .before .before .before .before .before .before .before .before .before .before .before .before .if1 .left)) (c .before .before .before .before .before .before .before .before .answer .ensures)
+returns-2 c =
+    let r = c .before .before .before .before .before .before .before .before in
+    rw (le-ltb _ _ (r .before .before .before .before .before .if1 .left)) (r .answer .ensures)
 
 pub answer-spec : {M : Type 1} → statement M
 answer-spec =

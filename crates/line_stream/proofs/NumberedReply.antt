@@ -11,15 +11,15 @@ use Rattle.promises.specs.Puts.{Puts}
 use Rattle.promises.proofs.Onto.{onto-part, onto-front, length-onto}
 use Rattle.promises.proofs.Puts.{puts-same, puts-byte, puts-within}
 
-pub record Replied (v w l o ys : List ℕ) (b h n k : ℕ) : Type 0 where
+pub record NumberedReplyPut (v w l o ys : List ℕ) (b h n k : ℕ) : Type 0 where
   pub within : h + n ≤ k
   pub long : length (putMid h (k - h) o ys) ≡ length l
   pub puts : Puts (v ++ (w ++ (b ∷ []))) l (h + n + 1) (set (putMid h (k - h) o ys) (h + n) b)
 
 -- v is put at the start of l, w to the bytes from h up to k, and b after it
-pub replied : {v w l o ys : List ℕ} {b h n k : ℕ} → Puts v l h o → length o ≡ length l → h ≤ k → k < length l
-    → Puts w (take (k - h) (drop h o)) n ys → length ys ≡ length (take (k - h) (drop h o)) → Replied v w l o ys b h n k
-replied {v} {w} {l} {o} {ys} {b} {h} {n} {k} p same le less q back =
+pub numbered-reply-put : {v w l o ys : List ℕ} {b h n k : ℕ} → Puts v l h o → length o ≡ length l → h ≤ k → k < length l
+    → Puts w (take (k - h) (drop h o)) n ys → length ys ≡ length (take (k - h) (drop h o)) → NumberedReplyPut v w l o ys b h n k
+numbered-reply-put {v} {w} {l} {o} {ys} {b} {h} {n} {k} p same le less q back =
     let part = drop h o in
     let room : k - h ≤ length part = omega (arith, length-drop h o) in
     let size = length-take-le (k - h) part room in

@@ -1,0 +1,141 @@
+-- `serve` meets its contract. The loop's invariant: the lines up to `at` are served, and `end` is the end of the next one.
+use mathlib.Core.Path.{_≡_, refl, _∙_}
+use mathlib.Core.Logic.{⊎-elim, inl, inr}
+use mathlib.Core.List.{List}
+use Prim.Native.Nat.{ℕ, _+_, _-_, _≤_}
+use native.Mathlib.Omega.{arith}
+use borrow.Author.Tests.{leb-true, leb-false}
+use lib.ListN.{length, length-drop}
+use borrow.Rule.Slice.PartMut.{putMid, same-len-mid}
+use Rattle.promises.proofs.Onto.{tail-lent}
+use Rattle.lines.specs.Printed.{limited}
+use Rattle.line_stream.specs.inner.Rooms.{numberedRoom}
+use Rattle.line_stream.proofs.Serving.{LineEnd, first-line-end, next-line-end, LinesServed, lines-served-none, lines-served-next, ServedBounds, served-bounds, serves-stopped}
+use Rattle.probe_lines.specs.Limits.{vecprobeLimit}
+use Rattle.probe_lines.specs.Line.{vecprobeReply}
+use Rattle.probe_replies.proofs.WorkRooms.{work-rooms-kept}
+use borrow.Author.Needs.{needs}
+use Rattle.probe_replies.proofs.serve.Statement.{statement}
+use Rattle.probe_replies.proofs.serve.Tie as tie
+
+abbrev replyTo : List ℕ → List ℕ
+replyTo line = limited vecprobeLimit vecprobeReply line
+
+abbrev longest : ℕ
+longest = numberedRoom vecprobeLimit
+
+abbrev Inv-loop : tie.InvT-loop
+Inv-loop text decoded₀ scratch₀ made₀ out₀ at₀ number₀ filled₀ end₀ decoded scratch made out at number filled end =
+    LinesServed replyTo longest text number₀ out₀ out at number filled × LineEnd text at end
+    × (length decoded ≡ length decoded₀) × (length scratch ≡ length scratch₀) × (length made ≡ length made₀) × (length out ≡ length out₀)
+
+abbrev μ-loop : tie.MeasureT-loop
+μ-loop text decoded₀ scratch₀ made₀ out₀ at₀ number₀ filled₀ end₀ decoded scratch made out at number filled end = length text - at
+
+-- the start of the function and of a turn, and the reply in it
+abbrev start : tie.At-loop Inv-loop μ-loop → tie.Start Inv-loop μ-loop
+start c = c .before .before .before .before .before .before .before
+
+abbrev turn : tie.Then1 Inv-loop μ-loop → tie.At-loop Inv-loop μ-loop
+turn c = c .before .before
+
+abbrev answered : tie.After-reply Inv-loop μ-loop → tie.Then1 Inv-loop μ-loop
+answered c = c .before .before .before .before .before .before
+
+abbrev put : tie.After-slice-known8 Inv-loop μ-loop → tie.After-reply Inv-loop μ-loop
+put c = c .before .before .before .before .before .before .before .before
+
+bounds : (c : tie.At-loop Inv-loop μ-loop) → ServedBounds replyTo longest (start c .args .held .before) (start c .args .out .now) (c .loop .at) (c .loop .number) (c .loop .filled)
+bounds c = served-bounds replyTo longest (c .loop .inv .0) (c .loop .inv .5)
+
+fits : (c : tie.At-loop Inv-loop μ-loop) → c .loop .filled ≤ length (c .loop .out)
+fits c = omega (arith, bounds c .fits, c .loop .inv .5)
+
+room : (c : tie.Then1 Inv-loop μ-loop) → longest ≤ length (turn c .loop .out) - turn c .loop .filled
+room c = omega (arith, leb-true, c .if1 .taken)
+
+-- what out is after the reply, and the lines that are served then
+abbrev after : (c : tie.After-reply Inv-loop μ-loop) → List ℕ
+after c = let l = turn (answered c) .loop in putMid (l .filled) (length (l .out) - l .filled) (l .out) (c .reply .last .1 .1 .1 .1 .1 .0)
+
+long : (c : tie.After-reply Inv-loop μ-loop) → length (after c) ≡ length (start (turn (answered c)) .args .out .now)
+long c =
+    let l = turn (answered c) .loop in
+    same-len-mid (l .filled) (length (l .out) - l .filled) (l .out) (c .reply .last .1 .1 .1 .1 .1 .0) (c .reply .kept .1 .1 .1 .1 .1 .0) ∙ l .inv .5
+
+next : (c : tie.After-reply Inv-loop μ-loop) → let a = start (turn (answered c)) .args in let l = turn (answered c) .loop in
+    LinesServed replyTo longest (a .text .now) (a .held .before) (a .out .now) (after c) (l .end + 1) (l .number + 1) (l .filled + c .reply .result)
+next c =
+    let t = answered c in
+    let l = turn t .loop in
+    lines-served-next replyTo longest (l .inv .0) (l .inv .1) (t .before .loop-test .taken) (l .inv .5) (room t) (c .reply .ensures)
+
+loop-holds : tie.Need-loop-holds Inv-loop μ-loop
+loop-holds c =
+    let pre = c .before .before .before .before .before .before .pre .0 in
+    (lines-served-none replyTo longest _ _ _, first-line-end _ _ _ (pre .inside) (pre .line) (c .find .ensures .0), refl, refl, refl, refl)
+
+add-number : tie.Need-add-number Inv-loop μ-loop
+add-number c = let l = turn c in omega (arith, bounds l .numbered, l .loop .inv .0 .within, start l .pre .0 .numbers, l .loop .inv .1 .place, c .before .loop-test .taken)
+
+sub-reply : tie.Need-sub-reply Inv-loop μ-loop
+sub-reply c = omega (arith, turn (c .before) .loop .inv .1 .place)
+
+reply-requires : tie.Need-reply-requires Inv-loop μ-loop
+reply-requires c κs =
+    let t = c .before .before .before .before .before in
+    let l = turn t .loop in
+    (work-rooms-kept (start (turn t) .pre .1) (l .inv .2) (l .inv .3) (l .inv .4), rw (tail-lent (l .filled) (l .out)) (omega (arith, room t, length-drop (l .filled) (l .out))))
+
+add-filled : tie.Need-add-filled Inv-loop μ-loop
+add-filled c = let r = put c in omega (arith, served-bounds replyTo longest (next r) (long r) .fits, start (turn (answered r)) .good)
+
+add-at : tie.Need-add-at Inv-loop μ-loop
+add-at c = let r = put c in omega (arith, next r .within, start (turn (answered r)) .good)
+
+find-requires-2 : tie.Need-find-requires-2 Inv-loop μ-loop
+find-requires-2 c κs = (next (put c) .within, omega arith)
+
+loop-less : tie.Need-loop-less Inv-loop μ-loop
+loop-less c = let r = put (c .before) in omega (arith, turn (answered r) .loop .inv .1 .place, next r .within)
+
+loop-again : tie.Need-loop-again Inv-loop μ-loop
+loop-again c =
+    let r = put (c .before) in
+    let inv = turn (answered r) .loop .inv in
+    let kept = r .reply .kept .1 .1 in
+    (next r, next-line-end _ _ _ (c .find2 .ensures .0), kept .0 ∙ inv .2, kept .1 .0 ∙ inv .3, kept .1 .1 .0 ∙ inv .4, long r)
+
+-- the loop ends where no newline is found, or where there is no room
+returns : tie.Need-returns Inv-loop μ-loop
+returns c =
+    let inv = c .before .loop .inv in
+    serves-stopped replyTo longest _ (inv .0) (inv .1) (⊎-elim (λ w. inr (omega (arith, leb-false, w .1 .left, inv .5))) (λ w. inl (w .left)) (c .loop-test .came))
+
+pub serve-spec : {M : Type 1} → statement M
+serve-spec =
+    tie.close
+    (tie.spec
+    Inv-loop
+    μ-loop
+    (λ c κs. search needs)
+    loop-holds
+    (λ c. fits (c .before))
+    add-number
+    (λ c. fits (turn c))
+    (λ c. fits (turn c))
+    (λ c. search needs)
+    sub-reply
+    (λ c. search needs)
+    (λ c. search needs)
+    reply-requires
+    add-filled
+    add-at
+    find-requires-2
+    loop-less
+    loop-again
+    (λ c. search needs)
+    (λ c. search needs)
+    (λ c. search needs)
+    (λ c. search needs)
+    returns)
