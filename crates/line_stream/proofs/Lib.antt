@@ -3,6 +3,7 @@ pub mod Keeping
 pub mod Cutting
 pub mod NumberedReply
 pub mod Serving
+pub mod Determined
 pub mod ServingAll
 pub mod ReadingText
 pub mod InputRead

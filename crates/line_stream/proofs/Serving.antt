@@ -1,6 +1,6 @@
 -- Laws of the lines of a text that are answered, one after another: the turns of the programs' loops, over what they reply to a line.
-use mathlib.Core.Path.{_≡_, refl, ap, ap₂, _∙_, sym}
-use mathlib.Core.Bool.{Bool, true, false}
+use mathlib.Core.Path.{_≡_, refl, ap, _∙_, sym}
+use mathlib.Core.Bool.{true, false}
 use mathlib.Core.Logic.{_⊎_, inl, inr}
 use mathlib.Core.List.{List, [], _∷_, _++_, append-nil, append-assoc}
 use Prim.Native.Nat.{ℕ, _+_, _-_, _<_, _≤_}
@@ -14,14 +14,14 @@ use lib.ListN.{length, take, drop, length-append, length-drop, take-append-drop}
 use lib.Seq.{length-take-le, take-add, drop-drop}
 use Rattle.bytes.specs.Bytes.{indexOf, slice}
 use Rattle.promises.specs.Puts.{Puts}
-use Rattle.promises.proofs.Puts.{puts-same, puts-none, puts-then, puts-within, puts-determined}
+use Rattle.promises.proofs.Puts.{puts-same, puts-none, puts-then, puts-within}
 use Rattle.lines.specs.Text.{newline}
 use Rattle.lines.specs.Printed.{numberedReply, numberedReplies}
 use Rattle.lines.proofs.Parting.{slice-from, index-le, index-at}
 use Rattle.line_stream.specs.inner.Stream.{endedLines, unfinishedLine}
 use Rattle.line_stream.specs.inner.Serving.{answeredLines, Serves}
 use Rattle.line_stream.specs.declared.ServedLines.{ServedLines}
-use Rattle.line_stream.proofs.Cutting.{ended-append, unfinished-append, with-newline, none-ended, found-later, count-le, text-length, lineBytes, replies-append}
+use Rattle.line_stream.proofs.Cutting.{ended-append, unfinished-append, with-newline, none-ended, found-later, count-le, replies-append}
 
 -- where `bytes::find` found a newline: at the end of the line that starts at `at`
 pub record LineEnd (text : List ℕ) (at end : ℕ) : Type 0 where
@@ -77,12 +77,6 @@ lines-left text at end found le start =
       | yes less ↦ lt-ltb end (length text) less ∙ sym (lt-ltb done all (omega (arith, sum, ap length (lines-ahead text at end found le less))))
       | no over ↦ le-ltb end (length text) (omega (arith, over)) ∙ sym (le-ltb done all (omega (arith, sum, ap length (no-line-ahead text at end found le (omega (arith, over))))))
     ]
-
-served-same : {o o′ : List ℕ} {r r′ : ServedLines} → r .at ≡ r′ .at → r .before ≡ r′ .before → r .more ≡ r′ .more → _≡_ {A = ℕ × List ℕ} (r .filled, o) (r′ .filled, o′)
-    → _≡_ {A = ServedLines × List ℕ} (r, o) (r′, o′)
-served-same at before more put =
-    ap₂ (λ (p : ℕ × (ℕ × Bool)) (q : ℕ × List ℕ). (record { at = p .0; before = p .1 .0; filled = q .0; more = p .1 .1 }, q .1))
-    (ap₂ (λ (x : ℕ) (y : ℕ × Bool). (x, y)) at (ap₂ (λ (x : ℕ) (y : Bool). (x, y)) before more)) put
 
 module _ (reply : List ℕ → List ℕ) (longest : ℕ) where
   answered-some : (n room : ℕ) (l : List ℕ) (ls : List (List ℕ)) → longest ≤ room
@@ -192,19 +186,3 @@ module _ (reply : List ℕ → List ℕ) (longest : ℕ) where
         let t = take (r .at) text in
         let more = ltb-true (length (endedLines [] t)) (length (endedLines [] text)) (sym (s .more) ∙ e) in
         omega (arith, first-answered (endedLines [] text) fits (omega (arith, more)), ap length (s .lines), count-le [] t, length-take-le (r .at) text (s .within))
-
-  -- the contract of a loop determines its outcome: the lines that are answered fix the place at which it stops
-  module _ {text : List ℕ} {before : ℕ} {out : List ℕ} where
-    stopped-at : {o : List ℕ} {r : ServedLines} → Serves reply longest text before out o r → r .at ≡ lineBytes (answeredLines reply longest (before + 1) (length out) (endedLines [] text))
-    stopped-at {r = r} s =
-        let t = take (r .at) text in
-        let none : length (unfinishedLine [] t) ≡ 0 = ap length (s .start) in
-        omega (arith, text-length [] t, none, length-take-le (r .at) text (s .within), ap lineBytes (s .lines))
-
-    pub serves-determined : {o o′ : List ℕ} {r r′ : ServedLines} → Serves reply longest text before out o r → Serves reply longest text before out o′ r′
-        → _≡_ {A = ServedLines × List ℕ} (r, o) (r′, o′)
-    serves-determined {r = r} {r′} s s′ =
-        let at : r .at ≡ r′ .at = stopped-at s ∙ sym (stopped-at s′) in
-        let done : ℕ → List (List ℕ) = λ n. endedLines [] (take n text) in
-        served-same at (s .numbered ∙ ap (λ (n : ℕ). before + length (done n)) at ∙ sym (s′ .numbered))
-        (s .more ∙ ap (λ (n : ℕ). ltb (length (done n)) (length (endedLines [] text))) at ∙ sym (s′ .more)) (puts-determined (rw at at (s .replies)) (s′ .replies))

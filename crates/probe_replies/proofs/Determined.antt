@@ -7,7 +7,7 @@ use Rattle.promises.specs.Determined.{Determined}
 use Rattle.lines.specs.Printed.{limited}
 use Rattle.line_stream.specs.inner.Rooms.{numberedRoom}
 use Rattle.line_stream.specs.declared.ServedLines.{ServedLines}
-use Rattle.line_stream.proofs.Serving.{serves-determined}
+use Rattle.line_stream.proofs.Determined.{serves-determined}
 use Rattle.probe_lines.specs.Limits.{vecprobeLimit}
 use Rattle.probe_lines.specs.Line.{vecprobeReply}
 use Rattle.probe_replies.proofs.serve.Reads as serve

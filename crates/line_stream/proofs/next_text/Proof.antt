@@ -18,8 +18,8 @@ start c = c .before .before .before
 abbrev kept : tie.After-read-behind → tie.After-keep
 kept c = c .before .before .before .before
 
-abbrev came : tie.After-piece → tie.After-read-behind
-came c = c .before .before .before .before
+abbrev read : tie.After-piece → tie.After-read-behind
+read c = c .before .before .before .before
 
 few : (c : tie.After-keep) → c .keep .result ≤ start c .args .most
 few c = let a = start c .args in omega (arith, c .keep .ensures .size, kept-few (a .most) (drop (a .at) (take (a .end) (a .buffer .now))))
@@ -29,10 +29,10 @@ line : (c : tie.After-read-behind) → let a = start (kept c) .args in
 line c = c .read-behind .ensures .front ∙ puts-prefix (kept c .keep .ensures)
 
 -- the bytes that came have room
-fits : (c : tie.After-piece) → let r = came c in let n = c .piece .given .0 .0 in
+fits : (c : tie.After-piece) → let r = read c in let n = c .piece .given .0 .0 in
     (kept r .keep .result + n ≤ length (r .read-behind .last .0)) × (n ≤ start (kept r) .args .left)
 fits c =
-    let r = came c in
+    let r = read c in
     let k = kept r .keep in
     let p = bytes-fit (k .result) (length (k .last .0)) (start (kept r) .args .left) (c .piece .given .1) (r .read-behind .ensures .fits) in
     (omega (arith, p .0, r .read-behind .kept .0), p .1)
@@ -48,17 +48,17 @@ returns c =
 
 last-text-requires : tie.Need-last-text-requires
 last-text-requires c κs =
-    let r = came (c .before .before .before) in
+    let r = read (c .before .before .before) in
     let k = kept r in
     omega (arith, few k, k .keep .kept .0, r .read-behind .kept .0, start k .pre)
 
 returns-2 : tie.Need-returns-2
 returns-2 c =
     let last = c .before .before in
-    rw (line (came (last .before .before .before .before))) at (last .last-text .ensures)
+    rw (line (read (last .before .before .before .before))) at (last .last-text .ensures)
 
 add-end : tie.Need-add-end
-add-end c = let p = c .before .before in omega (arith, fits p .0, came p .read-behind .kept .0, kept (came p) .keep .kept .0, start (kept (came p)) .good)
+add-end c = let p = c .before .before in omega (arith, fits p .0, read p .read-behind .kept .0, kept (read p) .keep .kept .0, start (kept (read p)) .good)
 
 sub-left : tie.Need-sub-left
 sub-left c = fits (c .before .before) .1
@@ -66,7 +66,7 @@ sub-left c = fits (c .before .before) .1
 returns-3 : tie.Need-returns-3
 returns-3 c =
     let p = c .before .before in
-    piece-held _ _ (kept (came p) .keep .ensures .size) (line (came p)) (fits p .0) (fits p .1) (c .if1 .left)
+    piece-held _ _ (kept (read p) .keep .ensures .size) (line (read p)) (fits p .0) (fits p .1) (c .if1 .left)
 
 pub next-text-spec : {M : Type 1} → statement M
 next-text-spec =

@@ -27,11 +27,11 @@ returns-3 c =
     let a = start read .args in
     let b = putMid (a .count) (length (a .buffer .now) - a .count) (a .buffer .now) (r .last .1 .0) in
     let long : length b ≡ length (a .buffer .now) = same-len-mid (a .count) (length (a .buffer .now) - a .count) (a .buffer .now) (r .last .1 .0) (r .kept .1 .0) in
-    let came = c .count .ensures .0 .0 in
+    let bytes = c .count .ensures .0 .0 in
     let rest = rest-lent (a .count) b in
     record {
       front = front-kept _ _ _ (start read .pre);
-      fits = (omega (arith, came, rest, long, start read .pre), omega (arith, came, rest, long, read .before .before .if1 .left));
+      fits = (omega (arith, bytes, rest, long, start read .pre), omega (arith, bytes, rest, long, read .before .before .if1 .left));
     }
 
 pub read-behind-spec : {M : Type 1} → statement M

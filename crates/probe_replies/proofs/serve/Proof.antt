@@ -39,11 +39,11 @@ start c = c .before .before .before .before .before .before .before
 abbrev turn : tie.Then1 Inv-loop μ-loop → tie.At-loop Inv-loop μ-loop
 turn c = c .before .before
 
-abbrev answered : tie.After-reply Inv-loop μ-loop → tie.Then1 Inv-loop μ-loop
-answered c = c .before .before .before .before .before .before
+abbrev tested : tie.After-reply Inv-loop μ-loop → tie.Then1 Inv-loop μ-loop
+tested c = c .before .before .before .before .before .before
 
-abbrev put : tie.After-slice-known8 Inv-loop μ-loop → tie.After-reply Inv-loop μ-loop
-put c = c .before .before .before .before .before .before .before .before
+abbrev replied : tie.After-slice-known8 Inv-loop μ-loop → tie.After-reply Inv-loop μ-loop
+replied c = c .before .before .before .before .before .before .before .before
 
 bounds : (c : tie.At-loop Inv-loop μ-loop) → ServedBounds replyTo longest (start c .args .held .before) (start c .args .out .now) (c .loop .at) (c .loop .number) (c .loop .filled)
 bounds c = served-bounds replyTo longest (c .loop .inv .0) (c .loop .inv .5)
@@ -56,17 +56,17 @@ room c = omega (arith, leb-true, c .if1 .taken)
 
 -- what out is after the reply, and the lines that are served then
 abbrev after : (c : tie.After-reply Inv-loop μ-loop) → List ℕ
-after c = let l = turn (answered c) .loop in putMid (l .filled) (length (l .out) - l .filled) (l .out) (c .reply .last .1 .1 .1 .1 .1 .0)
+after c = let l = turn (tested c) .loop in putMid (l .filled) (length (l .out) - l .filled) (l .out) (c .reply .last .1 .1 .1 .1 .1 .0)
 
-long : (c : tie.After-reply Inv-loop μ-loop) → length (after c) ≡ length (start (turn (answered c)) .args .out .now)
+long : (c : tie.After-reply Inv-loop μ-loop) → length (after c) ≡ length (start (turn (tested c)) .args .out .now)
 long c =
-    let l = turn (answered c) .loop in
+    let l = turn (tested c) .loop in
     same-len-mid (l .filled) (length (l .out) - l .filled) (l .out) (c .reply .last .1 .1 .1 .1 .1 .0) (c .reply .kept .1 .1 .1 .1 .1 .0) ∙ l .inv .5
 
-next : (c : tie.After-reply Inv-loop μ-loop) → let a = start (turn (answered c)) .args in let l = turn (answered c) .loop in
+next : (c : tie.After-reply Inv-loop μ-loop) → let a = start (turn (tested c)) .args in let l = turn (tested c) .loop in
     LinesServed replyTo longest (a .text .now) (a .held .before) (a .out .now) (after c) (l .end + 1) (l .number + 1) (l .filled + c .reply .result)
 next c =
-    let t = answered c in
+    let t = tested c in
     let l = turn t .loop in
     lines-served-next replyTo longest (l .inv .0) (l .inv .1) (t .before .loop-test .taken) (l .inv .5) (room t) (c .reply .ensures)
 
@@ -88,21 +88,21 @@ reply-requires c κs =
     (work-rooms-kept (start (turn t) .pre .1) (l .inv .2) (l .inv .3) (l .inv .4), rw (tail-lent (l .filled) (l .out)) (omega (arith, room t, length-drop (l .filled) (l .out))))
 
 add-filled : tie.Need-add-filled Inv-loop μ-loop
-add-filled c = let r = put c in omega (arith, served-bounds replyTo longest (next r) (long r) .fits, start (turn (answered r)) .good)
+add-filled c = let r = replied c in omega (arith, served-bounds replyTo longest (next r) (long r) .fits, start (turn (tested r)) .good)
 
 add-at : tie.Need-add-at Inv-loop μ-loop
-add-at c = let r = put c in omega (arith, next r .within, start (turn (answered r)) .good)
+add-at c = let r = replied c in omega (arith, next r .within, start (turn (tested r)) .good)
 
 find-requires-2 : tie.Need-find-requires-2 Inv-loop μ-loop
-find-requires-2 c κs = (next (put c) .within, omega arith)
+find-requires-2 c κs = (next (replied c) .within, omega arith)
 
 loop-less : tie.Need-loop-less Inv-loop μ-loop
-loop-less c = let r = put (c .before) in omega (arith, turn (answered r) .loop .inv .1 .place, next r .within)
+loop-less c = let r = replied (c .before) in omega (arith, turn (tested r) .loop .inv .1 .place, next r .within)
 
 loop-again : tie.Need-loop-again Inv-loop μ-loop
 loop-again c =
-    let r = put (c .before) in
-    let inv = turn (answered r) .loop .inv in
+    let r = replied (c .before) in
+    let inv = turn (tested r) .loop .inv in
     let kept = r .reply .kept .1 .1 in
     (next r, next-line-end _ _ _ (c .find2 .ensures .0), kept .0 ∙ inv .2, kept .1 .0 ∙ inv .3, kept .1 .1 .0 ∙ inv .4, long r)
 
