@@ -67,41 +67,41 @@ pub length-floats : (f : Format) (e : ℕ → Float) (n : ℕ) → length (float
 length-floats f e n = length-pieces (λ i. floatBytes f (e i)) (width f) (λ i. length-bytesOf (width f) (toBits f (e i))) n
 
 -- ---- a loop of n turns: after i of them new i stands at the front of o, which was l
-pub record Filled (new : ℕ → List ℕ) (n : ℕ) (l o : List ℕ) (i : ℕ) : Type 0 where
+pub record FilledSoFar (new : ℕ → List ℕ) (n : ℕ) (l o : List ℕ) (i : ℕ) : Type 0 where
   pub within : i ≤ n
   pub written : o ≡ onto (new i) l
   pub long : length o ≡ length l
 
-pub filled : (new : ℕ → List ℕ) (n : ℕ) (l o : List ℕ) (i : ℕ) → i ≤ n → length (new i) ≤ length l → o ≡ onto (new i) l → Filled new n l o i
+pub filled : (new : ℕ → List ℕ) (n : ℕ) (l o : List ℕ) (i : ℕ) → i ≤ n → length (new i) ≤ length l → o ≡ onto (new i) l → FilledSoFar new n l o i
 filled new n l o i within room e = record { within = within; written = e; long = ap length e ∙ length-onto (new i) l room }
 
-pub fill-all : {new : ℕ → List ℕ} {n : ℕ} {l o : List ℕ} {i : ℕ} → Filled new n l o i → n ≤ i → o ≡ onto (new n) l
+pub fill-all : {new : ℕ → List ℕ} {n : ℕ} {l o : List ℕ} {i : ℕ} → FilledSoFar new n l o i → n ≤ i → o ≡ onto (new n) l
 fill-all {new} {n} {l} {o} {i} h ends = let all : n ≡ i = omega (arith, h .within) in rw all (h .written)
 
-pub fill-none : (g : ℕ → List ℕ) (n : ℕ) (l : List ℕ) → Filled (pieces g) n l l 0
+pub fill-none : (g : ℕ → List ℕ) (n : ℕ) (l : List ℕ) → FilledSoFar (pieces g) n l l 0
 unfolding pieces
 fill-none g n l = record { within = omega arith; written = refl; long = refl }
 
 -- a turn that puts a piece, a byte, a float
-pub fill-piece : (g : ℕ → List ℕ) (w : ℕ) → ((i : ℕ) → length (g i) ≡ w) → {n : ℕ} {l o : List ℕ} {i : ℕ} → Filled (pieces g) n l o i → i < n → w * n ≤ length l
-    → (o′ : List ℕ) → o′ ≡ put o (w * i) (g i) → Filled (pieces g) n l o′ (i + 1)
+pub fill-piece : (g : ℕ → List ℕ) (w : ℕ) → ((i : ℕ) → length (g i) ≡ w) → {n : ℕ} {l o : List ℕ} {i : ℕ} → FilledSoFar (pieces g) n l o i → i < n → w * n ≤ length l
+    → (o′ : List ℕ) → o′ ≡ put o (w * i) (g i) → FilledSoFar (pieces g) n l o′ (i + 1)
 fill-piece g w wide {n} {l} {o} {i} h less room o′ e =
     let size = length-pieces g w wide (i + 1) in
     let within : w * (i + 1) ≤ w * n = mul-le-mul-left w (omega arith) in
     filled (pieces g) n l o′ (i + 1) (omega arith) (omega arith) (e ∙ put-piece g w wide l o i (h .written))
 
-pub fill-byte : (b : ℕ → ℕ) {n : ℕ} {l o : List ℕ} {i : ℕ} → Filled (pieces (λ j. b j ∷ [])) n l o i → i < n → n ≤ length l
-    → (v : ℕ) → v ≡ b i → Filled (pieces (λ j. b j ∷ [])) n l (set o i v) (i + 1)
+pub fill-byte : (b : ℕ → ℕ) {n : ℕ} {l o : List ℕ} {i : ℕ} → FilledSoFar (pieces (λ j. b j ∷ [])) n l o i → i < n → n ≤ length l
+    → (v : ℕ) → v ≡ b i → FilledSoFar (pieces (λ j. b j ∷ [])) n l (set o i v) (i + 1)
 fill-byte b {n} {l} {o} {i} h less room v e =
     let size = length-bytes b (i + 1) in
     filled (pieces (λ j. b j ∷ [])) n l (set o i v) (i + 1) (omega arith) (omega arith) (rw e (set-byte b l o i (h .written) (omega arith)))
 
 -- a float by its pattern
-pub fill-pattern : (f : Format) (e : ℕ → Float) {n : ℕ} {l o : List ℕ} {i : ℕ} → Filled (floatsOf f e) n l o i → i < n → width f * n ≤ length l
-    → (o′ : List ℕ) (v : ℕ) → v ≡ toBits f (e i) → o′ ≡ put o (width f * i) (bytesOf (width f) v) → Filled (floatsOf f e) n l o′ (i + 1)
+pub fill-pattern : (f : Format) (e : ℕ → Float) {n : ℕ} {l o : List ℕ} {i : ℕ} → FilledSoFar (floatsOf f e) n l o i → i < n → width f * n ≤ length l
+    → (o′ : List ℕ) (v : ℕ) → v ≡ toBits f (e i) → o′ ≡ put o (width f * i) (bytesOf (width f) v) → FilledSoFar (floatsOf f e) n l o′ (i + 1)
 fill-pattern f e {n} {l} {o} {i} h less room o′ v same p =
     fill-piece (λ j. floatBytes f (e j)) (width f) (λ j. length-bytesOf (width f) (toBits f (e j))) h less room o′ (rw same at p)
 
-pub fill-float : (f : Format) (e : ℕ → Float) {n : ℕ} {l o : List ℕ} {i : ℕ} → Filled (floatsOf f e) n l o i → i < n → width f * n ≤ length l
-    → (o′ : List ℕ) (x : Float) → x ≡ e i → o′ ≡ put o (width f * i) (floatBytes f x) → Filled (floatsOf f e) n l o′ (i + 1)
+pub fill-float : (f : Format) (e : ℕ → Float) {n : ℕ} {l o : List ℕ} {i : ℕ} → FilledSoFar (floatsOf f e) n l o i → i < n → width f * n ≤ length l
+    → (o′ : List ℕ) (x : Float) → x ≡ e i → o′ ≡ put o (width f * i) (floatBytes f x) → FilledSoFar (floatsOf f e) n l o′ (i + 1)
 fill-float f e {n} {l} {o} {i} h less room o′ x same p = fill-pattern f e h less room o′ (toBits f x) (ap (toBits f) same) p

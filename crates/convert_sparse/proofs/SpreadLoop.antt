@@ -16,7 +16,7 @@ use Rattle.vector_types.specs.Layout.{indexAt, hasIndexOutside}
 use Rattle.vector_types.specs.declared.VectorType.the-variants.{Float32Sparse}
 use Rattle.bodies.specs.Entries.{storedCount}
 use Rattle.convert_parts.specs.Spread.{entryBytes, spread, spreadBody}
-use Rattle.convert_parts.proofs.Pieces.{Filled, filled, fill-all}
+use Rattle.convert_parts.proofs.Pieces.{FilledSoFar, filled, fill-all}
 use Rattle.convert_parts.proofs.Spread.{length-entry, entry-room, length-spread}
 
 -- bytes put within what was written, and as many bytes written over it
@@ -37,22 +37,22 @@ zeros f d = replicate (width f * d) 0
 module _ (f : Format) (d : ℕ) (body : List ℕ) (inside : hasIndexOutside Float32Sparse d body ≡ false) where
   -- the loop starts on l, which starts with zeros
   module _ (u l : List ℕ) (e : l ≡ onto (zeros f d) u) where
-    pub spread-none : Filled (spread f d body) (storedCount body) l l 0
+    pub spread-none : FilledSoFar (spread f d body) (storedCount body) l l 0
     unfolding spread
     spread-none = record { within = omega arith; written = rw e (sym (onto-again (zeros f d) (zeros f d) u refl)); long = refl }
 
-    pub spread-all : {o : List ℕ} {j : ℕ} → Filled (spread f d body) (storedCount body) l o j → storedCount body ≤ j → o ≡ onto (spreadBody f d body) u
+    pub spread-all : {o : List ℕ} {j : ℕ} → FilledSoFar (spread f d body) (storedCount body) l o j → storedCount body ≤ j → o ≡ onto (spreadBody f d body) u
     spread-all h ends =
         let same = length-spread f d body inside (storedCount body) (omega arith) ∙ sym (length-replicate {A = ℕ} (width f * d) 0) in
         fill-all h ends ∙ rw e (onto-again (spreadBody f d body) (zeros f d) u same)
 
-  module _ {l o : List ℕ} {j : ℕ} (h : Filled (spread f d body) (storedCount body) l o j) (less : j < storedCount body) where
+  module _ {l o : List ℕ} {j : ℕ} (h : FilledSoFar (spread f d body) (storedCount body) l o j) (less : j < storedCount body) where
     pub spread-room : (a : ℕ) → a ≡ indexAt body (storedCount body) j → width f * a + width f ≤ length o
     spread-room a place =
         rw place (omega (arith, h .long, entry-room f d body inside j less, length-spread f d body inside j (h .within), onto-within (spread f d body j) l o (h .written) (h .long)))
 
     pub spread-next : (o′ vs : List ℕ) (a : ℕ) → a ≡ indexAt body (storedCount body) j → vs ≡ entryBytes f body j → o′ ≡ put o (width f * a) vs
-        → Filled (spread f d body) (storedCount body) l o′ (j + 1)
+        → FilledSoFar (spread f d body) (storedCount body) l o′ (j + 1)
     unfolding spread
     spread-next o′ vs a place value e =
         let v = spread f d body j in

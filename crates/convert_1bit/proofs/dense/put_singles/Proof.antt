@@ -5,12 +5,12 @@ use lib.Ieee.{binary32}
 use Rattle.bodies.specs.Elements.{bitElement}
 use Rattle.convert_parts.specs.Dense.{floatsOf}
 use Rattle.convert_parts.specs.Result.{resultOf}
-use Rattle.convert_parts.proofs.Pieces.{Filled, fill-none, fill-float, fill-all}
+use Rattle.convert_parts.proofs.Pieces.{FilledSoFar, fill-none, fill-float, fill-all}
 use Rattle.convert_1bit.proofs.dense.put_singles.Statement.{statement}
 use Rattle.convert_1bit.proofs.dense.put_singles.Tie as tie
 
 abbrev Inv-loop : tie.InvT-loop
-Inv-loop dims body out₀ i₀ out i = Filled (floatsOf binary32 (bitElement body)) dims out₀ out i
+Inv-loop dims body out₀ i₀ out i = FilledSoFar (floatsOf binary32 (bitElement body)) dims out₀ out i
 
 abbrev μ-loop : tie.MeasureT-loop
 μ-loop dims body out₀ i₀ out i = dims - i

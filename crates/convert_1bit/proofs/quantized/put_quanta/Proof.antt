@@ -11,13 +11,13 @@ use Rattle.float_laws.specs.Zero.{plusZero}
 use Rattle.vector_types.specs.Layout.{bitAt}
 use Rattle.convert_parts.specs.Pieces.{pieces}
 use Rattle.convert_parts.specs.Quantized.{quantum}
-use Rattle.convert_parts.proofs.Pieces.{Filled, fill-none, fill-byte, fill-all, pieces-zeros}
+use Rattle.convert_parts.proofs.Pieces.{FilledSoFar, fill-none, fill-byte, fill-all, pieces-zeros}
 use Rattle.convert_1bit.proofs.Units.{two-bytes}
 use Rattle.convert_1bit.proofs.quantized.put_quanta.Statement.{statement}
 use Rattle.convert_1bit.proofs.quantized.put_quanta.Tie as tie
 
 abbrev Inv-loop : tie.InvT-loop
-Inv-loop dims body out₀ clear set bytes i₀ out i = Filled (pieces (λ k. getD bytes (bitAt body k) 0 ∷ [])) dims out₀ out i
+Inv-loop dims body out₀ clear set bytes i₀ out i = FilledSoFar (pieces (λ k. getD bytes (bitAt body k) 0 ∷ [])) dims out₀ out i
 
 abbrev μ-loop : tie.MeasureT-loop
 μ-loop dims body out₀ clear set bytes i₀ out i = dims - i

@@ -5,12 +5,12 @@ use lib.Ieee.{binary32, binary64}
 use Rattle.bodies.specs.Elements.{denseElement}
 use Rattle.convert_parts.specs.Dense.{floatsOf}
 use Rattle.convert_parts.specs.Result.{resultOf}
-use Rattle.convert_parts.proofs.Pieces.{Filled, fill-none, fill-pattern, fill-all}
+use Rattle.convert_parts.proofs.Pieces.{FilledSoFar, fill-none, fill-pattern, fill-all}
 use Rattle.convert_f32.proofs.dense.put_doubles.Statement.{statement}
 use Rattle.convert_f32.proofs.dense.put_doubles.Tie as tie
 
 abbrev Inv-loop : tie.InvT-loop
-Inv-loop dims body out₀ i₀ out i = Filled (floatsOf binary64 (denseElement binary32 body)) dims out₀ out i
+Inv-loop dims body out₀ i₀ out i = FilledSoFar (floatsOf binary64 (denseElement binary32 body)) dims out₀ out i
 
 abbrev μ-loop : tie.MeasureT-loop
 μ-loop dims body out₀ i₀ out i = dims - i

@@ -8,12 +8,12 @@ use Rattle.bodies.specs.Elements.{denseElement}
 use Rattle.convert_parts.specs.Pieces.{pieces}
 use Rattle.convert_parts.specs.Bits.{isPositive, packedByte}
 use Rattle.convert_parts.specs.Result.{resultOf}
-use Rattle.convert_parts.proofs.Pieces.{Filled, fill-none, fill-byte, fill-all}
+use Rattle.convert_parts.proofs.Pieces.{FilledSoFar, fill-none, fill-byte, fill-all}
 use Rattle.convert_f64.proofs.bits.put_bits.Statement.{statement}
 use Rattle.convert_f64.proofs.bits.put_bits.Tie as tie
 
 abbrev Inv-loop : tie.InvT-loop
-Inv-loop dims body out₀ size m₀ out m = Filled (pieces (λ k. packedByte (λ i. isPositive (denseElement binary64 body i)) dims k 8 ∷ [])) size out₀ out m
+Inv-loop dims body out₀ size m₀ out m = FilledSoFar (pieces (λ k. packedByte (λ i. isPositive (denseElement binary64 body i)) dims k 8 ∷ [])) size out₀ out m
 
 abbrev μ-loop : tie.MeasureT-loop
 μ-loop dims body out₀ size m₀ out m = size - m

@@ -6,12 +6,12 @@ use Rattle.rounding.specs.Narrow.{narrowed}
 use Rattle.bodies.specs.Elements.{denseElement}
 use Rattle.convert_parts.specs.Dense.{floatsOf}
 use Rattle.convert_parts.specs.Result.{resultOf}
-use Rattle.convert_parts.proofs.Pieces.{Filled, fill-none, fill-pattern, fill-all}
+use Rattle.convert_parts.proofs.Pieces.{FilledSoFar, fill-none, fill-pattern, fill-all}
 use Rattle.convert_f64.proofs.dense.put_singles.Statement.{statement}
 use Rattle.convert_f64.proofs.dense.put_singles.Tie as tie
 
 abbrev Inv-loop : tie.InvT-loop
-Inv-loop dims body out₀ i₀ out i = Filled (floatsOf binary32 (λ k. narrowed (denseElement binary64 body k))) dims out₀ out i
+Inv-loop dims body out₀ i₀ out i = FilledSoFar (floatsOf binary32 (λ k. narrowed (denseElement binary64 body k))) dims out₀ out i
 
 abbrev μ-loop : tie.MeasureT-loop
 μ-loop dims body out₀ i₀ out i = dims - i

@@ -11,12 +11,12 @@ use Rattle.rounding.specs.Narrow.{narrowed}
 use Rattle.bodies.specs.Elements.{denseElement}
 use Rattle.convert_parts.specs.Pieces.{pieces}
 use Rattle.convert_parts.specs.Quantized.{quantum}
-use Rattle.convert_parts.proofs.Pieces.{Filled, fill-none, fill-byte, fill-all, pieces-zeros}
+use Rattle.convert_parts.proofs.Pieces.{FilledSoFar, fill-none, fill-byte, fill-all, pieces-zeros}
 use Rattle.convert_f64.proofs.quantized.put_quanta.Statement.{statement}
 use Rattle.convert_f64.proofs.quantized.put_quanta.Tie as tie
 
 abbrev Inv-loop : tie.InvT-loop
-Inv-loop dims body scale out₀ i₀ out i = Filled (pieces (λ k. quantum scale (narrowed (denseElement binary64 body k)) ∷ [])) dims out₀ out i
+Inv-loop dims body scale out₀ i₀ out i = FilledSoFar (pieces (λ k. quantum scale (narrowed (denseElement binary64 body k)) ∷ [])) dims out₀ out i
 
 abbrev μ-loop : tie.MeasureT-loop
 μ-loop dims body scale out₀ i₀ out i = dims - i

@@ -5,12 +5,12 @@ use lib.Ieee.{binary64}
 use Rattle.bodies.specs.Elements.{float8Element}
 use Rattle.convert_parts.specs.Dense.{floatsOf}
 use Rattle.convert_parts.specs.Result.{resultOf}
-use Rattle.convert_parts.proofs.Pieces.{Filled, fill-none, fill-float, fill-all}
+use Rattle.convert_parts.proofs.Pieces.{FilledSoFar, fill-none, fill-float, fill-all}
 use Rattle.convert_float8.proofs.dense.put_doubles.Statement.{statement}
 use Rattle.convert_float8.proofs.dense.put_doubles.Tie as tie
 
 abbrev Inv-loop : tie.InvT-loop
-Inv-loop dims body out₀ wide i₀ out i = Filled (floatsOf binary64 (float8Element binary64 dims body)) dims out₀ out i
+Inv-loop dims body out₀ wide i₀ out i = FilledSoFar (floatsOf binary64 (float8Element binary64 dims body)) dims out₀ out i
 
 abbrev μ-loop : tie.MeasureT-loop
 μ-loop dims body out₀ wide i₀ out i = dims - i

@@ -5,12 +5,12 @@ use lib.Ieee.{binary32}
 use Rattle.bodies.specs.Elements.{float8Element}
 use Rattle.convert_parts.specs.Dense.{floatsOf}
 use Rattle.convert_parts.specs.Result.{resultOf}
-use Rattle.convert_parts.proofs.Pieces.{Filled, fill-none, fill-float, fill-all}
+use Rattle.convert_parts.proofs.Pieces.{FilledSoFar, fill-none, fill-float, fill-all}
 use Rattle.convert_float8.proofs.dense.put_singles.Statement.{statement}
 use Rattle.convert_float8.proofs.dense.put_singles.Tie as tie
 
 abbrev Inv-loop : tie.InvT-loop
-Inv-loop dims body out₀ scale i₀ out i = Filled (floatsOf binary32 (float8Element binary32 dims body)) dims out₀ out i
+Inv-loop dims body out₀ scale i₀ out i = FilledSoFar (floatsOf binary32 (float8Element binary32 dims body)) dims out₀ out i
 
 abbrev μ-loop : tie.MeasureT-loop
 μ-loop dims body out₀ scale i₀ out i = dims - i

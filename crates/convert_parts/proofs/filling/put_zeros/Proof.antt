@@ -4,12 +4,12 @@ use mathlib.Core.List.{[], _∷_}
 use Prim.Native.Nat.{_-_}
 use borrow.Author.Needs.{needs}
 use Rattle.convert_parts.specs.Pieces.{pieces}
-use Rattle.convert_parts.proofs.Pieces.{Filled, fill-none, fill-byte, fill-all, pieces-zeros}
+use Rattle.convert_parts.proofs.Pieces.{FilledSoFar, fill-none, fill-byte, fill-all, pieces-zeros}
 use Rattle.convert_parts.proofs.filling.put_zeros.Statement.{statement}
 use Rattle.convert_parts.proofs.filling.put_zeros.Tie as tie
 
 abbrev Inv-loop : tie.InvT-loop
-Inv-loop n out₀ i₀ out i = Filled (pieces (λ _. 0 ∷ [])) n out₀ out i
+Inv-loop n out₀ i₀ out i = FilledSoFar (pieces (λ _. 0 ∷ [])) n out₀ out i
 
 abbrev μ-loop : tie.MeasureT-loop
 μ-loop n out₀ i₀ out i = n - i

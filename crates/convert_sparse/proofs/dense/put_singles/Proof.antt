@@ -9,13 +9,13 @@ use Rattle.little_endian.specs.Bytes.{bytesOf}
 use Rattle.little_endian.proofs.Numbers.{bytesOf-numberAt}
 use Rattle.bodies.specs.Entries.{storedCount}
 use Rattle.convert_parts.specs.Spread.{spread}
-use Rattle.convert_parts.proofs.Pieces.{Filled}
+use Rattle.convert_parts.proofs.Pieces.{FilledSoFar}
 use Rattle.convert_sparse.proofs.SpreadLoop.{spread-none, spread-room, spread-next, spread-all}
 use Rattle.convert_sparse.proofs.dense.put_singles.Statement.{statement}
 use Rattle.convert_sparse.proofs.dense.put_singles.Tie as tie
 
 abbrev Inv-loop : tie.InvT-loop
-Inv-loop dims body out₀ count j₀ out j = Filled (spread binary32 dims body) (storedCount body) out₀ out j
+Inv-loop dims body out₀ count j₀ out j = FilledSoFar (spread binary32 dims body) (storedCount body) out₀ out j
 
 abbrev μ-loop : tie.MeasureT-loop
 μ-loop dims body out₀ count j₀ out j = storedCount body - j
