@@ -12,8 +12,8 @@ use lib.ListN.{length, getD, drop, drop-of-length-le}
 use lib.Seq.{drop-cons}
 use Rattle.bytes.specs.Bytes.{indexOf, indexAfter}
 use Rattle.lines.specs.Hex.{digitOf, numberFrom, patternOf}
-use Rattle.lines.specs.declared.hex.Found.{Found}
-use Rattle.lines.specs.declared.hex.Found.the-variants.{Number, Nothing}
+use Rattle.lines.specs.declared.hex.Parsed.{Parsed}
+use Rattle.lines.specs.declared.hex.Parsed.the-variants.{Number, Nothing}
 
 module _ (base n : ℕ) (s : List ℕ) (i : ℕ) where
   pub number-digit : {d : ℕ} → i < length s → d ≡ digitOf (getD s i 0) → d < base → numberFrom base n (drop i s) ≡ numberFrom base (n * base + d) (drop (i + 1) s)
@@ -35,11 +35,11 @@ digit-below base n d i h less =
     rw (add-one, pow-suc) (omega arith)
 
 -- what was found is a number, and which
-number : Found → ℕ
+number : Parsed → ℕ
 number (Number n) = n
 number Nothing = 0
 
-IsNumber : Found → Type 0
+IsNumber : Parsed → Type 0
 IsNumber (Number n) = Unit
 IsNumber Nothing = ⊥
 

@@ -6,8 +6,8 @@ use lib.Dec.{ltb, leb}
 use lib.ListN.{length}
 use Rattle.io.specs.Digits.{glyph}
 use Rattle.lines.specs.Hex.{numberFrom}
-use Rattle.lines.specs.declared.hex.Found.{Found}
-use Rattle.lines.specs.declared.hex.Found.the-variants.{Nothing}
+use Rattle.lines.specs.declared.hex.Parsed.{Parsed}
+use Rattle.lines.specs.declared.hex.Parsed.the-variants.{Nothing}
 
 -- n, which has at most d digits, with no zero in front
 unfoldable pub decimalIn : ℕ → ℕ → List ℕ
@@ -22,5 +22,5 @@ unfolding decimalIn
 decimalOf n = decimalIn (suc n) n
 
 -- the number that s is in 1 to most digits, which may have zeros in front
-unfoldable pub numeralOf : ℕ → List ℕ → Found
+unfoldable pub numeralOf : ℕ → List ℕ → Parsed
 numeralOf most s = cond (ltb 0 (length s) && leb (length s) most) (numberFrom 10 0 s) Nothing

@@ -6,8 +6,8 @@ use lib.Dec.{ltb, leb, eqb}
 use lib.ListN.{length}
 use Rattle.io.specs.Digits.{glyph}
 use Rattle.lines.specs.Text.{byte}
-use Rattle.lines.specs.declared.hex.Found.{Found}
-use Rattle.lines.specs.declared.hex.Found.the-variants.{Number, Nothing}
+use Rattle.lines.specs.declared.hex.Parsed.{Parsed}
+use Rattle.lines.specs.declared.hex.Parsed.the-variants.{Number, Nothing}
 
 -- whether b is one of the bytes from a to e
 abbrev pub among : ℕ → ℕ → ℕ → Bool
@@ -21,12 +21,12 @@ digitOf b =
     16)
 
 -- the number whose digits, each below base, are those of n and then s
-unfoldable pub numberFrom : ℕ → ℕ → List ℕ → Found
+unfoldable pub numberFrom : ℕ → ℕ → List ℕ → Parsed
 numberFrom base n [] = Number n
 numberFrom base n (b ∷ s) = cond (ltb (digitOf b) base) (numberFrom base (n * base + digitOf b) s) Nothing
 
 -- the number that s is in exactly width digits
-unfoldable pub patternOf : ℕ → List ℕ → Found
+unfoldable pub patternOf : ℕ → List ℕ → Parsed
 patternOf width s = cond (eqb (length s) width) (numberFrom 16 0 s) Nothing
 
 -- the byte that the digits a and b are; 256 where they are not both digits

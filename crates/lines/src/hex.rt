@@ -7,7 +7,7 @@ ghost use Rattle.lines.specs.Hex.{digitOf, numberFrom, patternOf, hexPai
 ghost use Rattle.promises.specs.Puts.{Puts};
 
 // A number that a text may be.
-pub enum Found {
+pub enum Parsed {
     Number(u64),
     Nothing,
 }
@@ -32,7 +32,7 @@ pub fn digit(b: u8) -> u64
 }
 
 // The number that s is in digits below base.
-pub(crate) fn number(base: u64, s: &[u8]) -> Found
+pub(crate) fn number(base: u64, s: &[u8]) -> Parsed
     requires { ⌜ base ^ length (now s) ≤ 2 ^ 64 ⌝ }
     ensures { λ r. ⌜ r ≡ numberFrom base 0 (now (s .entry)) ⌝ }
 {
@@ -41,21 +41,21 @@ pub(crate) fn number(base: u64, s: &[u8]) -> Found
     while i < s.len() {
         let d = digit(s[i]);
         if base <= d {
-            return Found::Nothing;
+            return Parsed::Nothing;
         }
         n = n * base + d;
         i += 1;
     }
-    Found::Number(n)
+    Parsed::Number(n)
 }
 
 // The number that s is in exactly `width` digits.
-pub fn pattern(width: usize, s: &[u8]) -> Found
+pub fn pattern(width: usize, s: &[u8]) -> Parsed
     requires { ⌜ width ≤ 16 ⌝ }
     ensures { λ r. ⌜ r ≡ patternOf width (now (s .entry)) ⌝ }
 {
     if s.len() != width {
-        return Found::Nothing;
+        return Parsed::Nothing;
     }
     number(16, s)
 }

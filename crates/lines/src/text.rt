@@ -8,7 +8,7 @@ ghost use Rattle.promises.specs.Puts.{Puts};
 ghost use Rattle.lines.specs.Decimal.{decimalOf, numeralOf};
 ghost use Rattle.lines.specs.Printed.{headOf};
 ghost use Rattle.lines.specs.Fields.{malformed};
-use crate::hex::Found;
+use crate::hex::Parsed;
 use crate::hex::number;
 
 // Where the first field of s ends: at its first tab, or with s.
@@ -20,15 +20,15 @@ pub fn field_end(s: &[u8]) -> usize
 }
 
 // The number that s is in 1 to `most` digits, which may have zeros in front.
-pub fn numeral(most: usize, s: &[u8]) -> Found
+pub fn numeral(most: usize, s: &[u8]) -> Parsed
     requires { ⌜ most ≤ 19 ⌝ }
     ensures { λ r. ⌜ r ≡ numeralOf most (now (s .entry)) ⌝ }
 {
     if s.len() == 0 {
-        return Found::Nothing;
+        return Parsed::Nothing;
     }
     if most < s.len() {
-        return Found::Nothing;
+        return Parsed::Nothing;
     }
     number(10, s)
 }

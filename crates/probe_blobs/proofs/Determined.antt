@@ -6,13 +6,9 @@ use mathlib.Core.List.{List}
 use denote.Ref.{now}
 use Rattle.promises.specs.Determined.{Determined}
 use Rattle.promises.proofs.Puts.{puts-determined}
-use Rattle.probe_blobs.proofs.put_refusal.Reads as put-refusal
 use Rattle.probe_blobs.proofs.kind_of.Reads as kind-of
 use Rattle.probe_blobs.proofs.read_line.Reads as read-line
 use Rattle.probe_blobs.proofs.convert_line.Reads as convert-line
-
-pub put-refusal-determined : (κs : _) (a : _) → Determined {Y = ℕ × List ℕ} (put-refusal.Post κs a) (λ r x. (r, now (x .1 .0)))
-put-refusal-determined κs a r r′ x x′ p q = puts-determined p q
 
 pub kind-of-determined : (κs : _) (a : _) → Determined (kind-of.Post κs a) (λ r x. r)
 kind-of-determined κs a r r′ x x′ p q = p ∙ sym q

@@ -4,45 +4,37 @@
 --     V|K|N|H    C|K|N|H    R|number
 -- where K is the kind, N the dims and H the body; or X where a field is none of these.
 use Prim.Native.Nat.{ℕ}
-use mathlib.Core.List.{List, _++_}
+use mathlib.Core.List.{List}
 use lib.ListN.{take}
 use Rattle.lines.specs.Text.{word}
-use Rattle.lines.specs.Hex.{hexOf}
 use Rattle.lines.specs.Fields.{malformed, fromHex}
-use Rattle.lines.specs.Printed.{headOf}
-use Rattle.lines.specs.Decimal.{decimalOf, numeralOf}
-use Rattle.lines.specs.declared.hex.Found.{Found}
-use Rattle.lines.specs.declared.hex.Found.the-variants.{Number, Nothing}
+use Rattle.lines.specs.Decimal.{numeralOf}
+use Rattle.lines.specs.declared.hex.Parsed.{Parsed}
+use Rattle.lines.specs.declared.hex.Parsed.the-variants.{Number, Nothing}
 use Rattle.vector_types.specs.Layout.{maxBlobLength, byteOf, byByte}
 use Rattle.vector_types.specs.declared.Named.{Named}
 use Rattle.vector_types.specs.declared.Named.the-variants.{Kind, Unsupported, Unknown}
-use Rattle.vector_types.specs.Answers.{readNumber}
 use Rattle.vector_types.specs.Read.{readOf, strictOf}
 use Rattle.vector_types.specs.declared.VectorType.{VectorType}
 use Rattle.vector_types.specs.declared.View.{View}
 use Rattle.vector_types.specs.declared.ReadAnswer.{ReadAnswer}
 use Rattle.vector_types.specs.declared.ReadAnswer.the-variants.{Accepted, Refused}
-use Rattle.convert.specs.Convert.{convertNumber, conversionOf}
+use Rattle.convert.specs.Convert.{conversionOf}
 use Rattle.convert.specs.declared.ConvertAnswer.{ConvertAnswer}
 use Rattle.convert.specs.declared.ConvertAnswer.the-variants.{Converted, Refused as Unconverted}
+use Rattle.probe_texts.specs.Texts.{refusalText, shownText}
 use Rattle.probe_blobs.specs.Limits.{scratchRoom}
 use Rattle.probe_blobs.specs.declared.Reader.{Reader}
 use Rattle.probe_blobs.specs.declared.Reader.the-variants.{Plain, Strict}
 
-abbrev pub refusalText : ℕ → List ℕ
-refusalText n = word "R\t" ++ decimalOf n
-
--- a kind and dims after a mark, and a body after these
-abbrev pub headerText : List ℕ → VectorType → ℕ → List ℕ
-headerText mark k d = mark ++ (headOf (byteOf k) ++ headOf d)
-
+-- a vector after a mark: its kind, dims and body
 abbrev pub vectorText : List ℕ → View → List ℕ → List ℕ
-vectorText mark v body = headerText mark (v .kind) (v .dims .0) ++ hexOf body
+vectorText mark v body = shownText mark (byteOf (v .kind)) (v .dims .0) body
 
 -- ---- read and strict: the answer about the blob s
 unfoldable pub readText : ReadAnswer → List ℕ → List ℕ
 readText (Accepted v) s = vectorText (word "V\t") v (take (v .length) s)
-readText (Refused r) s = refusalText (readNumber (Refused r))
+readText (Refused r) s = refusalText r
 
 abbrev pub readerOf : Reader → List ℕ → ReadAnswer
 readerOf Plain s = readOf s
@@ -56,7 +48,7 @@ unfolding readText fromHex
 readReply reader field = fromHex (readBlobText reader) field
 
 -- ---- the kind that K names, a type byte in one decimal digit
-abbrev pub kindFound : Found → Named
+abbrev pub kindFound : Parsed → Named
 kindFound (Number n) = byByte n
 kindFound Nothing = Unknown
 
@@ -67,7 +59,7 @@ kindOf field = kindFound (numeralOf 1 field)
 -- ---- conv: the answer about the body that the conversion makes
 unfoldable pub convertText : ConvertAnswer → List ℕ → List ℕ
 convertText (Converted v) body = vectorText (word "C\t") v body
-convertText (Unconverted r) body = refusalText (convertNumber (Unconverted r))
+convertText (Unconverted r) body = refusalText r
 
 -- of the blob s, in room for the most elements and for the longest blob
 abbrev pub convertBlobText : VectorType → List ℕ → List ℕ

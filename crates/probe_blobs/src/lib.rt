@@ -7,10 +7,12 @@ ghost use Rattle.lines.specs.Parts.{fieldsOf};
 ghost use Rattle.lines.specs.Fields.{exactly};
 ghost use Rattle.vector_types.specs.Layout.{maxBlobLength, byByte};
 ghost use Rattle.probe_blobs.specs.Limits.{replyRoom, scratchRoom, blobRoom};
-ghost use Rattle.probe_blobs.specs.Blobs.{refusalText, headerText, vectorText, readerOf, readBlobText, readReply, kindOf, convertBlobText, convertFoundReply, convertReply};
+ghost use Rattle.probe_blobs.specs.Blobs.{vectorText, readerOf, readBlobText, readReply, kindOf, convertBlobText, convertFoundReply, convertReply};
 use convert::ConvertAnswer;
-use lines::hex::Found;
+use lines::hex::Parsed;
 use lines::text::put_malformed;
+use probe_texts::put_refusal;
+use probe_texts::put_shown;
 use vector_types::Named;
 use vector_types::ReadAnswer;
 use vector_types::VectorType;
@@ -23,29 +25,7 @@ pub enum Reader {
     Strict,
 }
 
-// Puts R, a tab and the number of a refusal at the start of out, and answers their length.
-pub fn put_refusal(number: u8, out: &mut [u8]) -> usize
-    requires { ⌜ 22 ≤ length (now out) ⌝ }
-    ensures { λ r. ⌜ Puts (refusalText number) (now (out .entry)) r (now (out .exit)) ⌝ }
-{
-    let head = bytes::copy(b"R\t", out);
-    let digits = lines::text::put_decimal(number as u64, &mut out[head..]);
-    head + digits
-}
-
-// Puts what stands before a body at the start of out: a mark, the kind and the dims, separated by tabs.
-fn put_header(mark: &[u8], kind: VectorType, dims: usize, out: &mut [u8]) -> usize
-    requires { ⌜ length (now mark) ≡ 2 ⌝ }
-    requires { ⌜ 44 ≤ length (now out) ⌝ }
-    ensures { λ r. ⌜ Puts (headerText (now (mark .entry)) kind dims) (now (out .entry)) r (now (out .exit)) ⌝ }
-    ensures { λ r. ⌜ r ≤ 44 ⌝ }
-{
-    let marked = bytes::copy(mark, out);
-    let end = marked + lines::text::put_head(type_byte(kind) as u64, &mut out[marked..]);
-    end + lines::text::put_head(dims as u64, &mut out[end..])
-}
-
-// Puts a vector at the start of out: what stands before the body, and the body, the first of these bytes.
+// Puts a vector at the start of out: a mark, its kind and dims, and its body, the first of these bytes.
 fn put_vector(mark: &[u8], view: View, bytes: &[u8], out: &mut [u8]) -> usize
     requires { ⌜ length (now mark) ≡ 2 ⌝ }
     requires { ⌜ view .length ≤ length (now bytes) ⌝ }
@@ -56,9 +36,8 @@ fn put_vector(mark: &[u8], view: View, bytes: &[u8], out: &mut [u8]) -> usize
     let kind = view.kind;
     let dims = view.dims;
     let length = view.length;
-    let head = put_header(mark, kind, dims.0, out);
-    let digits = lines::hex::put_bytes(&bytes[..length], &mut out[head..]);
-    head + digits
+    let byte = type_byte(kind) as u64;
+    put_shown(mark, byte, dims.0 as u64, &bytes[..length], out)
 }
 
 fn read_by(reader: Reader, blob: &[u8]) -> ReadAnswer
@@ -77,7 +56,7 @@ fn put_read(reader: Reader, blob: &[u8], out: &mut [u8]) -> usize
 {
     match read_by(reader, blob) {
         ReadAnswer::Accepted(view) => put_vector(b"V\t", view, blob, out),
-        ReadAnswer::Refused(refusal) => put_refusal(refusal.number, out),
+        ReadAnswer::Refused(refusal) => put_refusal(refusal, out),
     }
 }
 
@@ -109,8 +88,8 @@ pub fn kind_of(field: &[u8]) -> Named
     ensures { λ r. ⌜ r ≡ kindOf (now (field .entry)) ⌝ }
 {
     match lines::text::numeral(1, field) {
-        Found::Number(number) => kind_by(number),
-        Found::Nothing => Named::Unknown,
+        Parsed::Number(number) => kind_by(number),
+        Parsed::Nothing => Named::Unknown,
     }
 }
 
@@ -129,7 +108,7 @@ fn put_converted(
 {
     match convert::convert(blob, target, scratch, made) {
         ConvertAnswer::Converted(view) => put_vector(b"C\t", view, made, out),
-        ConvertAnswer::Refused(refusal) => put_refusal(refusal.number, out),
+        ConvertAnswer::Refused(refusal) => put_refusal(refusal, out),
     }
 }
 

@@ -13,8 +13,8 @@ use Rattle.rounding.specs.Truncate.{truncated}
 use Rattle.lines.specs.Text.{word, same}
 use Rattle.lines.specs.Hex.{patternOf}
 use Rattle.lines.specs.Fields.{malformed}
-use Rattle.lines.specs.declared.hex.Found.{Found}
-use Rattle.lines.specs.declared.hex.Found.the-variants.{Number, Nothing}
+use Rattle.lines.specs.declared.hex.Parsed.{Parsed}
+use Rattle.lines.specs.declared.hex.Parsed.the-variants.{Number, Nothing}
 use Rattle.probe_floats.specs.declared.Work.{Work}
 use Rattle.probe_floats.specs.declared.Work.the-variants.{Root32, Root64, Narrow, Widen, Trunc}
 
@@ -38,7 +38,7 @@ abbrev pub floatText : ℕ → ℕ → List ℕ
 floatText width n = word "F\t" ++ digits 16 width n
 
 -- the reply of a row to what was found for F
-abbrev pub floatFoundText : FloatWork → Found → List ℕ
+abbrev pub floatFoundText : FloatWork → Parsed → List ℕ
 floatFoundText r (Number n) = floatText (r .gives) (r .result n)
 floatFoundText r Nothing = malformed
 

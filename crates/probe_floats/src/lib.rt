@@ -6,7 +6,7 @@ ghost use Rattle.promises.specs.Puts.{Puts};
 ghost use Rattle.lines.specs.Parts.{fieldsOf};
 ghost use Rattle.lines.specs.Fields.{exactly};
 ghost use Rattle.probe_floats.specs.Floats.{workOf, floatText, floatReply, rootReply};
-use lines::hex::Found;
+use lines::hex::Parsed;
 use lines::text::put_malformed;
 
 // What is asked of a float's pattern.
@@ -96,11 +96,11 @@ pub fn float_line(work: Work, field: &[u8], out: &mut [u8]) -> usize
     let w = widths(work);
     let found = lines::hex::pattern(w.takes, field);
     match found {
-        Found::Number(n) => {
+        Parsed::Number(n) => {
             let value = result(work, n);
             put_float(w.gives, value, out)
         }
-        Found::Nothing => put_malformed(out),
+        Parsed::Nothing => put_malformed(out),
     }
 }
 

@@ -9,8 +9,8 @@ use Rattle.lines.specs.Text.{tab}
 use Rattle.lines.specs.Decimal.{numeralOf}
 use Rattle.lines.specs.Parts.{fieldsOf}
 use Rattle.lines.specs.Fields.{exactly, malformed}
-use Rattle.lines.specs.declared.hex.Found.{Found}
-use Rattle.lines.specs.declared.hex.Found.the-variants.{Number, Nothing}
+use Rattle.lines.specs.declared.hex.Parsed.{Parsed}
+use Rattle.lines.specs.declared.hex.Parsed.the-variants.{Number, Nothing}
 use Rattle.lines.proofs.Fields.{afterField, from-hex-tab, fields-last-two}
 use Rattle.vector_types.specs.Layout.{maxBlobLength}
 use Rattle.blob_writer.specs.Write.{blobOf, writeOf, writeOutcome}
@@ -30,7 +30,7 @@ written-room k d body made n e =
     (omega (arith, writable k d body clear .short, size), left)
 
 -- H is the last field
-write-tab : (kind : Named) (number : Found) (s : List ℕ) → indexOf tab s < length s → writeFoundReply kind number s ≡ malformed
+write-tab : (kind : Named) (number : Parsed) (s : List ℕ) → indexOf tab s < length s → writeFoundReply kind number s ≡ malformed
 write-tab (Kind k) (Number d) s less = from-hex-tab (writeBodyText k d) s less
 write-tab (Kind k) Nothing s less = refl
 write-tab Unsupported number s less = refl

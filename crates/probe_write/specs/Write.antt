@@ -9,29 +9,29 @@ use Rattle.lines.specs.Text.{word}
 use Rattle.lines.specs.Hex.{hexOf}
 use Rattle.lines.specs.Fields.{malformed, fromHex}
 use Rattle.lines.specs.Decimal.{numeralOf}
-use Rattle.lines.specs.declared.hex.Found.{Found}
-use Rattle.lines.specs.declared.hex.Found.the-variants.{Number, Nothing}
+use Rattle.lines.specs.declared.hex.Parsed.{Parsed}
+use Rattle.lines.specs.declared.hex.Parsed.the-variants.{Number, Nothing}
 use Rattle.vector_types.specs.Layout.{maxBlobLength}
-use Rattle.blob_writer.specs.Answers.{writeNumber}
 use Rattle.blob_writer.specs.Write.{blobOf, writeOf}
 use Rattle.vector_types.specs.declared.VectorType.{VectorType}
 use Rattle.blob_writer.specs.declared.WriteAnswer.{WriteAnswer}
 use Rattle.blob_writer.specs.declared.WriteAnswer.the-variants.{Written, Refused}
-use Rattle.probe_blobs.specs.Blobs.{refusalText, kindOf}
+use Rattle.probe_texts.specs.Texts.{refusalText}
+use Rattle.probe_blobs.specs.Blobs.{kindOf}
 use Rattle.vector_types.specs.declared.Named.{Named}
 use Rattle.vector_types.specs.declared.Named.the-variants.{Kind, Unsupported, Unknown}
 
 -- the answer about the blob that is written
 unfoldable pub writeText : WriteAnswer → List ℕ → List ℕ
 writeText (Written n) blob = word "W\t" ++ hexOf blob
-writeText (Refused r) blob = refusalText (writeNumber (Refused r))
+writeText (Refused r) blob = refusalText r
 
 -- of a kind, dims and body, in room for the longest blob
 abbrev pub writeBodyText : VectorType → ℕ → List ℕ → List ℕ
 writeBodyText k d body = writeText (writeOf k d body maxBlobLength) (blobOf k d body)
 
 -- where K is a kind and N a number
-abbrev pub writeFoundReply : Named → Found → List ℕ → List ℕ
+abbrev pub writeFoundReply : Named → Parsed → List ℕ → List ℕ
 writeFoundReply (Kind k) (Number d) field = fromHex (writeBodyText k d) field
 writeFoundReply (Kind k) Nothing field = malformed
 writeFoundReply Unsupported n field = malformed

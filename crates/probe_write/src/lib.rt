@@ -8,10 +8,10 @@ ghost use Rattle.lines.specs.Fields.{exactly};
 ghost use Rattle.probe_blobs.specs.Limits.{replyRoom, blobRoom};
 ghost use Rattle.probe_write.specs.Write.{writeBodyText, writeFoundReply, writeReply};
 use blob_writer::WriteAnswer;
-use lines::hex::Found;
+use lines::hex::Parsed;
 use lines::text::put_malformed;
 use probe_blobs::kind_of;
-use probe_blobs::put_refusal;
+use probe_texts::put_refusal;
 use vector_types::Dims;
 use vector_types::Named;
 use vector_types::VectorType;
@@ -28,14 +28,14 @@ fn put_written(kind: VectorType, dims: usize, body: &[u8], made: &mut [u8], out:
             let digits = lines::hex::put_bytes(&made[..length], &mut out[head..]);
             head + digits
         }
-        WriteAnswer::Refused(refusal) => put_refusal(refusal.number, out),
+        WriteAnswer::Refused(refusal) => put_refusal(refusal, out),
     }
 }
 
 // The reply to write|K|N|H, of which K and N are found and this is H.
 fn write_found(
     kind: Named,
-    number: Found,
+    number: Parsed,
     field: &[u8],
     decoded: &mut [u8],
     made: &mut [u8],
@@ -49,7 +49,7 @@ fn write_found(
     let Named::Kind(known) = kind else {
         return put_malformed(out);
     };
-    let Found::Number(dims) = number else {
+    let Parsed::Number(dims) = number else {
         return put_malformed(out);
     };
     let count = lines::hex::bytes(field, decoded);

@@ -10,6 +10,7 @@ use Rattle.vector_types.proofs.kinds.is_same_kind.Reads as is-same-kind
 use Rattle.vector_types.proofs.kinds.kind_of_byte.Reads as kind-of-byte
 use Rattle.vector_types.proofs.Refusal.plain.Reads as plain
 use Rattle.vector_types.proofs.Refusal.needing.Reads as needing
+use Rattle.vector_types.proofs.Refusal.starting.Reads as starting
 use Rattle.vector_types.proofs.reading.align4.Reads as align4
 use Rattle.vector_types.proofs.reading.has_index_outside.Reads as has-index-outside
 use Rattle.vector_types.proofs.reading.read.Reads as read
@@ -36,6 +37,9 @@ plain-determined κs a r r′ x x′ p q = p ∙ sym q
 
 pub needing-determined : (κs : _) (a : _) → Determined (needing.Post κs a) (λ r x. r)
 needing-determined κs a r r′ x x′ p q = p ∙ sym q
+
+pub starting-determined : (κs : _) (a : _) → Determined (starting.Post κs a) (λ r x. r)
+starting-determined κs a r r′ x x′ p q = p ∙ sym q
 
 pub align4-determined : (κs : _) (a : _) → Determined (align4.Post κs a) (λ r x. r)
 align4-determined κs a r r′ x x′ p q = p ∙ sym q

@@ -5,7 +5,7 @@ use mathlib.Core.List.{List, [], _∷_}
 use lib.Dec.{ltb}
 use Rattle.vector_types.specs.declared.VectorType.{VectorType}
 use Rattle.vector_types.specs.declared.Dims.{Dims}
-use Rattle.vector_types.specs.declared.Detail.the-variants.{Nothing, Needs}
+use Rattle.vector_types.specs.declared.Detail.the-variants.{Nothing, Needs, Starts}
 use Rattle.vector_types.specs.declared.Refusal.{Refusal}
 use Rattle.vector_types.specs.declared.ReadAnswer.{ReadAnswer}
 use Rattle.vector_types.specs.declared.ReadAnswer.the-variants.{Accepted, Refused}
@@ -13,12 +13,15 @@ use Rattle.vector_types.specs.declared.ReadAnswer.the-variants.{Accepted
 abbrev pub dims : ℕ → Dims
 dims d = record { 0 = d }
 
--- a refusal by its number, and one that tells how long a buffer would have to be
+-- a refusal by its number, one that tells how long a buffer would have to be, and one that tells where a vector starts in its file
 abbrev pub refusal : ℕ → Refusal
 refusal n = record { number = n; detail = Nothing }
 
 abbrev pub needing : ℕ → ℕ → Refusal
 needing n need = record { number = n; detail = Needs need }
+
+abbrev pub starting : ℕ → ℕ → Refusal
+starting n place = record { number = n; detail = Starts place }
 
 -- a reader's answers: a view of kind, dims and body length, and a refusal
 abbrev pub acceptedAs : VectorType → ℕ → ℕ → ReadAnswer
@@ -47,6 +50,10 @@ test n b = record { holds = b; gives = refusal n }
 -- of a buffer of `room` bytes where `need` are needed
 abbrev pub testRoom : ℕ → ℕ → ℕ → Test
 testRoom n room need = record { holds = ltb room need; gives = needing n need }
+
+-- of a vector that starts at `place`, where `left` bytes are left of its file and `need` are needed
+abbrev pub testLeft : ℕ → ℕ → ℕ → ℕ → Test
+testLeft n place left need = record { holds = ltb left need; gives = starting n place }
 
 -- the first refusal of a list that is to be given, if any is
 pub data Given : Type 0 where

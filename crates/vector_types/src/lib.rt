@@ -5,7 +5,7 @@ mod reading;
 mod strictness;
 
 ghost use mathlib.Core.Path.{_≡_};
-ghost use Rattle.vector_types.specs.Answers.{refusal, needing};
+ghost use Rattle.vector_types.specs.Answers.{refusal, needing, starting};
 pub use kinds::is_same_kind;
 pub use kinds::kind_of_byte;
 pub use kinds::type_byte;
@@ -55,10 +55,12 @@ pub struct Refusal {
     pub detail: Detail,
 }
 
-// Needs: how long a buffer that is too short would have to be.
+// Needs: how many bytes a buffer that is too short would have to have. Starts: the place in a file where
+// the vector starts inside which the file ends.
 pub enum Detail {
     Nothing,
     Needs(usize),
+    Starts(usize),
 }
 
 impl Refusal {
@@ -79,6 +81,16 @@ impl Refusal {
         Refusal {
             number,
             detail: Detail::Needs(need),
+        }
+    }
+
+    // One that carries where a vector starts in its file.
+    pub fn starting(number: u8, place: usize) -> Self
+        ensures { λ r. ⌜ r ≡ starting number place ⌝ }
+    {
+        Refusal {
+            number,
+            detail: Detail::Starts(place),
         }
     }
 }

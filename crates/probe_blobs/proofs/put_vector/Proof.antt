@@ -1,38 +1,41 @@
--- `put_vector` meets its contract: the body is written after what stands before it.
-use mathlib.Core.Path.{_≡_, sym}
+-- `put_vector` meets its contract: kind and dims are put after the mark, and after these the body.
+use mathlib.Core.Path.{_≡_, refl, sym, ap}
+use Prim.Native.Nat.{ℕ}
 use lib.ListN.{length, take}
 use lib.Seq.{length-take-le}
-use Rattle.promises.proofs.Puts.{puts-then}
+use Rattle.probe_texts.specs.Texts.{shownText}
+use Rattle.promises.proofs.Puts.{puts-same}
 use borrow.Author.Needs.{needs}
 use native.Mathlib.Omega.{arith}
 use Rattle.probe_blobs.proofs.put_vector.Statement.{statement}
 use Rattle.probe_blobs.proofs.put_vector.Tie as tie
 
+-- the start, from where the kind's byte is known
+abbrev start : tie.After-type-byte → tie.Start
+start c = c .before .before .before .before .before
+
 -- how long the body is
-size : (c : tie.After-put-header) → let a = c .before .before .before .before .before .before .args in length (take (a .view .length) (a .bytes .now)) ≡ a .view .length
-size c = length-take-le _ _ (c .before .before .before .before .before .before .pre .1 .0)
+size : (c : tie.After-type-byte) → let a = start c .args in length (take (a .view .length) (a .bytes .now)) ≡ a .view .length
+size c = length-take-le _ _ (start c .pre .1 .0)
 
-slice-aggregate-put-bytes : tie.Need-slice-aggregate-put-bytes
-slice-aggregate-put-bytes c = sym (size (c .before .before .before))
+slice-aggregate-put-shown : tie.Need-slice-aggregate-put-shown
+slice-aggregate-put-shown c = sym (size (c .before))
 
-put-bytes-requires : tie.Need-put-bytes-requires
-put-bytes-requires c κs = omega (arith, size (c .before .before .before .before))
-
-add-result : tie.Need-add-result
-add-result c =
-    let put = c .before .before in
-    omega (arith, put .put-bytes .ensures .1, size (put .before .before .before .before .before))
+put-shown-requires : tie.Need-put-shown-requires
+put-shown-requires c κs =
+    let named = c .before .before in
+    (start named .pre .0, omega (arith, size named, start named .pre .1 .1 .0, start named .pre .1 .1 .1))
 
 returns : tie.Need-returns
 returns c =
     let put = c .before .before in
-    let headed = put .before .before .before .before .before in
-    puts-then (headed .put-header .ensures .0) (put .put-bytes .ensures .0)
+    let named = put .before .before .before in
+    let a = start named .args in
+    puts-same (ap (λ (n : ℕ). shownText (a .mark .now) n (a .view .dims .0) (take (a .view .length) (a .bytes .now))) (named .type-byte .ensures)) (put .put-shown .ensures)
 
 pub put-vector-spec : {M : Type 1} → statement M
 put-vector-spec =
     tie.close
     (tie.spec
-    (λ c κs. search needs)
-    slice-aggregate-put-bytes (λ c. search needs)
-    (λ c. search needs) (λ c. search needs) put-bytes-requires add-result (λ c. search needs) returns)
+    (λ c κs. search needs) (λ c. search needs) slice-aggregate-put-shown put-shown-requires (λ c. search needs)
+    returns)

@@ -3,7 +3,7 @@ use mathlib.Core.Path.{_≡_, sym, ap, ap₂, _∙_}
 use Prim.Native.Nat.{ℕ}
 use native.Mathlib.Omega.{arith}
 use Rattle.lines.specs.Hex.{patternOf}
-use Rattle.lines.specs.declared.hex.Found.the-variants.{Number}
+use Rattle.lines.specs.declared.hex.Parsed.the-variants.{Number}
 use Rattle.lines.proofs.Digits.{pattern-below}
 use Rattle.promises.proofs.Puts.{puts-same}
 use Rattle.probe_floats.specs.Floats.{workOf, floatText, floatFoundText, floatReply}

@@ -8,7 +8,7 @@ use lib.Seq.{length-take-le}
 use Rattle.bytes.specs.Bytes.{indexOf}
 use Rattle.lines.specs.Text.{tab}
 use Rattle.lines.specs.Parts.{fieldsOf}
-use Rattle.lines.specs.declared.hex.Found.{Found}
+use Rattle.lines.specs.declared.hex.Parsed.{Parsed}
 use Rattle.promises.proofs.Puts.{puts-same}
 use Rattle.lines.specs.Fields.{exactly}
 use Rattle.lines.proofs.Fields.{afterField, fields-few, fields-first}
@@ -67,7 +67,7 @@ returns-3 c =
     let two = n .before .before .before in
     let f = two .field-end2 in
     let field = afterField (f .result) (more two) in
-    let found : writeFoundReply (two .before .before .kind-of .result) (n .numeral .result) field ≡ writeReply (kind two) (take (f .result) (more two)) field = ap₂ (λ (x : Named) (y : Found). writeFoundReply x y field) (two .before .before .kind-of .ensures) (n .numeral .ensures) in
+    let found : writeFoundReply (two .before .before .kind-of .result) (n .numeral .result) field ≡ writeReply (kind two) (take (f .result) (more two)) field = ap₂ (λ (x : Named) (y : Parsed). writeFoundReply x y field) (two .before .before .kind-of .ensures) (n .numeral .ensures) in
     let fields = write-fields (kind two) (more two) (f .result) (f .ensures .0) (lt-of-le-ne (f .ensures .1) (n .before .before .if2 .left)) in
     puts-same (found ∙ fields ∙ by-more two) (put .write-found .ensures)
 

@@ -1,0 +1,2 @@
+-- That the public contracts determine their outcomes
+pub mod Determined

@@ -1,0 +1,33 @@
+-- `put_detail` meets its contract: nothing, or what `put_marked` puts.
+use Rattle.promises.proofs.Puts.{puts-none}
+use Rattle.probe_texts.specs.Texts.{detailText}
+use borrow.Author.Needs.{needs}
+use native.Mathlib.Omega.{arith}
+use Rattle.probe_texts.proofs.put_detail.Statement.{statement}
+use Rattle.probe_texts.proofs.put_detail.Tie as tie
+
+returns : tie.Need-returns
+unfolding detailText
+returns c = rw (c .enum-told .given .1) (puts-none _, omega arith)
+
+returns-2 : tie.Need-returns-2
+unfolding detailText
+returns-2 c =
+    let put = c .before .before in
+    let arm = put .before .before .before .before in
+    rw (arm .detail .given .1) (put .put-marked .ensures)
+
+returns-3 : tie.Need-returns-3
+unfolding detailText
+returns-3 c =
+    let put = c .before .before in
+    let arm = put .before .before .before .before in
+    rw (arm .detail2 .given .1) (put .put-marked2 .ensures)
+
+pub put-detail-spec : {M : Type 1} → statement M
+put-detail-spec =
+    tie.close
+    (tie.spec
+    (λ c. search needs) (λ c. search needs) (λ c. search needs) (λ c κs. search needs) (λ c. search needs)
+    (λ c. search needs) (λ c κs. search needs) returns (λ c. search needs) returns-2 (λ c. search needs)
+    returns-3)
