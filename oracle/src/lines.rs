@@ -1,9 +1,10 @@
 //! What a line of `vecdist` or `vecprobe` asks, and how its answer is printed.
 
-use crate::differences::{bits_32, bits_64};
+use crate::differences::{bits_32, bits_64, MOST_LENGTH};
 use crate::hex;
-use crate::oracle::{Oracle, Refused};
+use crate::oracle::{Oracle, Refused, Shown};
 use crate::rules::{Kind, Measure, Refusal, View};
+use crate::vecs::RefusedWith;
 
 #[derive(Clone, Copy)]
 pub enum Program {
@@ -63,7 +64,7 @@ fn vecprobe(fields: &[&[u8]], oracle: &mut Oracle) -> Option<String> {
             shown('C', oracle.convert(&blob, target))
         }
         [b"write", to, count, body] => {
-            let (to, dims, body) = (kind(to)?, dims(count)?, hex::decode(body)?);
+            let (to, dims, body) = (kind(to)?, decimal(count)?, hex::decode(body)?);
             match oracle.write(to, dims, &body) {
                 Ok(blob) => format!("W\t{}", hex::encode(&blob)),
                 Err(number) => format!("R\t{number}"),
@@ -74,6 +75,21 @@ fn vecprobe(fields: &[&[u8]], oracle: &mut Oracle) -> Option<String> {
             match oracle.nearer(measure(name)?, blobs.each_ref().map(Vec::as_slice)) {
                 Ok((which, distance)) => format!("N\t{which}\t{:016x}", distance.to_bits()),
                 Err(refused) => named(refused),
+            }
+        }
+        [b"fvecs", place, file] => {
+            let (place, file) = (decimal(place)?, hex::decode(file)?);
+            found(oracle.fvecs(&file, place))
+        }
+        [b"bvecs", place, file] => {
+            let (place, file) = (decimal(place)?, hex::decode(file)?);
+            found(oracle.bvecs(&file, place))
+        }
+        [b"append", fill, lent, blob] => {
+            let (fill, mut lent, blob) = (decimal(fill)?, buffer(lent)?, hex::decode(blob)?);
+            match oracle.append(&blob, &mut lent, fill) {
+                Ok(fill) => format!("A\t{fill}\t{}", hex::encode(&lent)),
+                Err(refused) => carrying(refused),
             }
         }
         _ => return None,
@@ -98,6 +114,23 @@ fn named(Refused { number, blob }: Refused) -> String {
     format!("R\t{number}\t{blob}")
 }
 
+fn found(answer: Result<Option<Shown>, RefusedWith>) -> String {
+    match answer {
+        Ok(Some(Shown { dims, body, next })) => {
+            format!("I\t{next}\t{dims}\t{}", hex::encode(&body))
+        }
+        Ok(None) => "E".to_string(),
+        Err(refused) => carrying(refused),
+    }
+}
+
+fn carrying(RefusedWith { number, carried }: RefusedWith) -> String {
+    match carried {
+        Some(carried) => format!("R\t{number}\t{carried}"),
+        None => format!("R\t{number}"),
+    }
+}
+
 fn measure(name: &[u8]) -> Option<Measure> {
     match name {
         b"cos" => Some(Measure::Cos),
@@ -114,15 +147,20 @@ fn kind(digits: &[u8]) -> Option<Kind> {
         .find(|&kind| [b'0' + kind as u8] == digits)
 }
 
+/// The buffer of an `append` line, no longer than the longest blob.
+fn buffer(digits: &[u8]) -> Option<Vec<u8>> {
+    hex::decode(digits).filter(|buffer| buffer.len() <= MOST_LENGTH)
+}
+
 /// One to ten decimal digits.
-fn dims(digits: &[u8]) -> Option<usize> {
+fn decimal(digits: &[u8]) -> Option<usize> {
     let decimal = (1..=10).contains(&digits.len()) && digits.iter().all(u8::is_ascii_digit);
     decimal.then(|| {
         let digit = |&byte: &u8| usize::from(byte - b'0');
         digits
             .iter()
             .map(digit)
-            .fold(0, |dims, digit| 10 * dims + digit)
+            .fold(0, |number, digit| 10 * number + digit)
     })
 }
 
@@ -222,6 +260,101 @@ mod tests {
     }
 
     #[test]
+    fn files_of_vectors() {
+        let fvecs = "fvecs|{N}|01000000 0000803f 02000000 00000000 000000c0".replace(' ', "");
+        let bvecs = "bvecs|{N}|03000000 00ff80 00000000 02000000 07".replace(' ', "");
+        let at = |line: &str, place: &str, answer: &str| {
+            let asked = line.replace("{N}", place);
+            format!("{asked} = {answer}")
+        };
+        let lines = [
+            "fvecs|0| = E",
+            "fvecs|9999999999| = E",
+            "fvecs|0|01 = R|19|0",
+            "fvecs|0|0102 = R|19|0",
+            "fvecs|0|010203 = R|19|0",
+            "fvecs|0|01000000 = R|19|0",
+            "fvecs|0|00000000 = I|4|0|",
+            "fvecs|0|00000100 = R|19|0",
+            "fvecs|0|01000100 = R|9",
+            "fvecs|0|00000080 = R|9",
+            "fvecs|0|ffffffff = R|9",
+            "fvecs|0|ffffff = R|19|0",
+            "fvecs|1|00ffffffff = R|9",
+            &at(&fvecs, "0", "I|8|1|0000803f"),
+            &at(&fvecs, "0000000008", "I|20|2|00000000000000c0"),
+            &at(&fvecs, "20", "E"),
+            &at(&fvecs, "21", "E"),
+            &at(&fvecs, "4294967304", "E"),
+            &at(&fvecs, "9999999999", "E"),
+            &at(&fvecs, "4", "R|9"),
+            &at(&fvecs, "12", "I|16|0|"),
+            &at(&fvecs, "17", "R|19|17"),
+            &at(&bvecs, "0", "I|7|3|0000000000007f4300000043"),
+            &at(&bvecs, "7", "I|11|0|"),
+            &at(&bvecs, "11", "R|19|11"),
+            &at(&bvecs, "16", "E"),
+            "bvecs|0| = E",
+            "bvecs|0|00000080 = R|9",
+        ];
+        ask(Program::Vecprobe, &lines);
+    }
+
+    #[test]
+    fn appends() {
+        let lines = [
+            "append|0|ffffffffffffffff|0000803f = A|8|010000000000803f",
+            "append|0|ffffffffffffffff|0000803f01 = A|8|010000000000803f",
+            "append|1|aaffffffffffffffffbb|0000803f = A|9|aa010000000000803fbb",
+            "append|2|ffffffffffffffffff|0000803f = R|15|8",
+            "append|8|ffffffffffffffff|0000803f = R|15|8",
+            "append|9|ffffffffffffffff|0000803f = R|15|8",
+            "append|9999999999|ffffffffffffffff|0000803f = R|15|8",
+            "append|0||0000803f = R|15|8",
+            "append|0|| = R|15|4",
+            "append|0|ffffffff| = A|4|00000000",
+            "append|0000000001|aaffffffff|01 = A|5|aa00000000",
+            "append|0||05 = R|2",
+            "append|0||0000 = R|7",
+            "append|0||aa0803 = R|13",
+            "append|0|ffffffffffffffff|0000000009 = R|13",
+        ];
+        ask(Program::Vecprobe, &lines);
+    }
+
+    #[test]
+    fn the_longest_buffer() {
+        let zeros = |length: usize| "00".repeat(length);
+        for blob in ["", "05"] {
+            let answer = if blob.is_empty() { "R|15|4" } else { "R|2" };
+            let longest = format!("append|524293|{}|{blob} = {answer}", zeros(524_293));
+            let longer = format!("append|524293|{}|{blob} = X", zeros(524_294));
+            ask(Program::Vecprobe, &[&longest, &longer]);
+        }
+        let before = zeros(524_285);
+        let asked = format!("append|524285|{before}ffffffffffffffff|0000803f");
+        let answer = format!("A|524293|{before}010000000000803f");
+        ask(Program::Vecprobe, &[&format!("{asked} = {answer}")]);
+    }
+
+    /// A file may be longer than a blob: only its line has a limit.
+    #[test]
+    fn the_longest_file() {
+        let file = "00".repeat(549_993);
+        for mode in ["fvecs", "bvecs"] {
+            let longest = format!("{mode}|549988|{file}");
+            assert_eq!(longest.len(), Program::Vecprobe.longest() - 1);
+            let lines = [
+                format!("{longest} = I|549992|0|"),
+                format!("{mode}|549992|{file} = R|19|549992"),
+                format!("{mode}|549993|{file} = E"),
+                format!("{longest}00 = X"),
+            ];
+            ask(Program::Vecprobe, &lines.each_ref().map(String::as_str));
+        }
+    }
+
+    #[test]
     fn lines_of_no_shape() {
         ask(
             Program::Vecdist,
@@ -247,6 +380,28 @@ mod tests {
                 "write|1|| = X",
                 "write|1|+0| = X",
                 "write|1|00000000000| = X",
+                "fvecs|0 = X",
+                "fvecs|0|| = X",
+                "fvecs|| = X",
+                "fvecs|00000000000| = X",
+                "fvecs|-1| = X",
+                "fvecs|1f| = X",
+                "fvecs|0|0 = X",
+                "fvecs|0|0G = X",
+                "fvecs|0|0A = X",
+                "bvecs| = X",
+                "bvecs|+0| = X",
+                "bvecs|0|000 = X",
+                "ivecs|0| = X",
+                "append|0| = X",
+                "append|0||| = X",
+                "append||| = X",
+                "append|12345678901|| = X",
+                "append|0x|| = X",
+                "append|0|0| = X",
+                "append|0||0 = X",
+                "append|0|FF| = X",
+                "append|0||FF = X",
             ],
         );
     }

@@ -9,6 +9,7 @@ mod oracle;
 mod original;
 mod rules;
 mod stand_ins;
+mod vecs;
 
 /// The six files as published: the build copies them here and changes nothing.
 #[rustfmt::skip]
@@ -34,7 +35,8 @@ use lines::Program;
 use oracle::Oracle;
 
 const USAGE: &str = "usage: oracle answer vecdist|vecprobe < lines
-       oracle gen dist|read|strict|write|conv|near|rounding|short SEED COUNT";
+       oracle gen MODE SEED COUNT, with MODE one of
+           dist read strict write conv near fvecs bvecs append rounding short";
 
 fn main() -> ExitCode {
     let arguments: Vec<String> = std::env::args().skip(1).collect();

@@ -3,6 +3,7 @@
 use std::fmt::Debug;
 
 use crate::rules::{self, Kind, Measure, Refusal, View};
+use crate::vecs::{self, RefusedWith};
 use crate::{differences, original};
 
 /// Stands where the rules expect a value and the Rust has none; a finding says why.
@@ -12,6 +13,13 @@ const NO_ANSWER: Refusal = 0;
 pub struct Refused {
     pub number: Refusal,
     pub blob: char,
+}
+
+/// A vector that a file shows: its Float32Dense body, and the place after it.
+pub struct Shown {
+    pub dims: usize,
+    pub body: Vec<u8>,
+    pub next: usize,
 }
 
 /// A blob that was read, beside what was seen of it.
@@ -88,6 +96,43 @@ impl Oracle {
         Ok((which, if which == 1 { first } else { second }))
     }
 
+    /// The vector at a place of an fvecs file; none at the end. The Rust reads its body as a blob.
+    pub fn fvecs(&mut self, file: &[u8], place: usize) -> Result<Option<Shown>, RefusedWith> {
+        let Some(found) = vecs::vector_at(4, file, place)? else {
+            return Ok(None);
+        };
+        let (dims, next) = (found.dims, found.next);
+        let body = found.elements.to_vec();
+        self.hold(&Ok(dense(dims, &body)), &original::read(&body));
+        Ok(Some(Shown { dims, body, next }))
+    }
+
+    /// The vector at a place of a bvecs file; none at the end. The Rust converts its bytes as those
+    /// of a Float8 blob with alpha 1 and shift 0, of which there is none of dims 0.
+    pub fn bvecs(&mut self, file: &[u8], place: usize) -> Result<Option<Shown>, RefusedWith> {
+        let Some(found) = vecs::vector_at(1, file, place)? else {
+            return Ok(None);
+        };
+        let (dims, next) = (found.dims, found.next);
+        let body = vecs::floats(found.elements);
+        if dims > 0 {
+            let rust = original::convert(&float8(found.elements), Kind::Float32Dense);
+            self.hold(&Ok(dense(dims, &body)), &rust);
+        }
+        Ok(Some(Shown { dims, body, next }))
+    }
+
+    /// Appends a blob to the fvecs file that fills the buffer so far; the new fill.
+    pub fn append(
+        &mut self,
+        blob: &[u8],
+        buffer: &mut [u8],
+        fill: usize,
+    ) -> Result<usize, RefusedWith> {
+        let view = self.read(blob)?;
+        vecs::append(&view, buffer, fill)
+    }
+
     fn see<'a>(&mut self, blob: &'a [u8], name: char) -> Result<Seen<'a>, Refused> {
         match self.read(blob) {
             Ok(view) => Ok(Seen { blob, view }),
@@ -119,6 +164,21 @@ impl Oracle {
             self.findings.push(finding);
         }
     }
+}
+
+fn dense(dims: usize, body: &[u8]) -> View {
+    let (kind, body) = (Kind::Float32Dense, body.to_vec());
+    View { kind, dims, body }
+}
+
+/// The Float8 blob whose elements are its bytes.
+fn float8(bytes: &[u8]) -> Vec<u8> {
+    let padding = bytes.len().next_multiple_of(4) - bytes.len();
+    let mut blob = bytes.to_vec();
+    blob.resize(bytes.len() + padding, 0);
+    blob.extend([1f32, 0.0].into_iter().flat_map(f32::to_le_bytes));
+    blob.extend([0, padding as u8, Kind::Float8 as u8]);
+    blob
 }
 
 fn unnamed(number: Refusal) -> Refused {

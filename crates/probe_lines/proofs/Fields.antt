@@ -10,9 +10,10 @@ use Rattle.lines.specs.Parts.{fieldsOf}
 use Rattle.lines.specs.Fields.{malformed, exactly}
 use Rattle.lines.proofs.Fields.{afterField}
 use Rattle.lines.proofs.Parting.{parts-at, parts-last}
-use Rattle.probe_lines.specs.Line.{verbOf, verbReply, fieldsReply, vecprobeReply}
-use Rattle.probe_lines.specs.declared.Verb.{Verb}
-use Rattle.probe_lines.specs.declared.Verb.the-variants.{Root, Float, Read, Write, Convert, Near, Other}
+use Rattle.probe_verbs.specs.Verbs.{verbOf}
+use Rattle.probe_verbs.specs.declared.Verb.{Verb}
+use Rattle.probe_verbs.specs.declared.Verb.the-variants.{Root, Float, Read, Write, Convert, Near, File, Append, Other}
+use Rattle.probe_lines.specs.Line.{verbReply, fieldsReply, vecprobeReply}
 
 -- a line that is its first field alone, and one that has more
 pub reply-few : (line : List ℕ) → indexOf tab line ≡ length line → vecprobeReply line ≡ malformed
@@ -26,6 +27,8 @@ reply-few line all = rw (parts-last tab line all) (go (verbOf line))
     go Write = refl
     go Convert = refl
     go Near = refl
+    go (File k) = refl
+    go Append = refl
     go Other = refl
 
 pub reply-fields : (line : List ℕ) (end : ℕ) → end ≡ indexOf tab line → end < length line

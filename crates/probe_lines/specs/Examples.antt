@@ -1,4 +1,4 @@
--- Examples: lines about floats, about blobs and about candidates with their replies, and one statement about all of them, which antt computes.
+-- Examples: lines about floats, blobs, candidates and files of vectors with their replies, and one statement about all of them, which antt computes.
 use mathlib.Core.Path.{refl}
 use mathlib.Core.List.{List, [], _∷_}
 use lib.Ieee.{toBits, ofBits, ofInt, add, sub, mul, div, neg, eq, lt, le, isNan}
@@ -14,11 +14,14 @@ use Rattle.little_endian.specs.Bytes.{bytesOf, numberAt, put}
 use Rattle.convert.specs.Convert.{conversionOf}
 use Rattle.bodies.specs.Merged.{merged}
 use Rattle.nearer.specs.Nearer.{nearerOf}
+use Rattle.vecs.specs.Vecs.{vectorAt, elementsAt}
+use Rattle.vecs.specs.Append.{appendOutcome}
 use Rattle.lines.specs.Text.{same}
 use Rattle.lines.specs.Hex.{digitOf, numberFrom, patternOf, hexPair, hexBytes, hexOf}
 use Rattle.lines.specs.Decimal.{decimalOf, numeralOf}
 use Rattle.lines.specs.Parts.{partsOf}
 use Rattle.lines.specs.Examples.{Example, example, RepliesAs}
+use Rattle.probe_texts.specs.Texts.{detailText}
 use Rattle.probe_lines.specs.Line.{vecprobeReply}
 
 abbrev pub floats : List Example
@@ -87,8 +90,42 @@ nearest =
     ∷ example "near\tcos\t\t\t\t" "X"
     ∷ []
 
-pub examples-hold : RepliesAs vecprobeReply floats × RepliesAs vecprobeReply blobs × RepliesAs vecprobeReply conversions × RepliesAs vecprobeReply nearest
-unfolding partsOf same vecprobeReply decimalOf numeralOf patternOf numberFrom digitOf hexPair hexBytes hexOf
+-- a vector, the end, a vector cut short, and a count over the limit, of fvecs and of bvecs; a place of no digit and of eleven
+abbrev pub files : List Example
+files =
+    example "fvecs\t0\t010000000000803f02000000" "I\t8\t1\t0000803f"
+    ∷ example "fvecs\t8\t010000000000803f02000000" "R\t19\t8"
+    ∷ example "fvecs\t12\t010000000000803f02000000" "E"
+    ∷ example "fvecs\t0\t01000100" "R\t9"
+    ∷ example "fvecs\t0\t" "E"
+    ∷ example "bvecs\t0\t0200000001ff" "I\t6\t2\t0000803f00007f43"
+    ∷ example "bvecs\t0\t02000000ff" "R\t19\t0"
+    ∷ example "bvecs\t9999999999\t0200000001ff" "E"
+    ∷ example "bvecs\t0\tffffffff" "R\t9"
+    ∷ example "fvecs\t\t00000000" "X"
+    ∷ example "fvecs\t00000000000\t00000000" "X"
+    ∷ example "bvecs\t0\t0000000" "X"
+    ∷ example "bvecs\t0" "X"
+    ∷ []
+
+-- a vector appended, one of no elements behind a fill; a refusal of the reader, another kind, too little room, a fill past the end
+abbrev pub appended : List Example
+appended =
+    example "append\t0\teeeeeeeeeeeeeeeeee\t0000803f" "A\t8\t010000000000803fee"
+    ∷ example "append\t1\teeeeeeeeee\t" "A\t5\tee00000000"
+    ∷ example "append\t0\tee\t07" "R\t3"
+    ∷ example "append\t0\tee\t02" "R\t13"
+    ∷ example "append\t2\teeeeeeeeeeeeeeeeee\t0000803f" "R\t15\t8"
+    ∷ example "append\t9999999999\t\t" "R\t15\t4"
+    ∷ example "append\t0\tEE\t" "X"
+    ∷ example "append\t0\tee\t0" "X"
+    ∷ example "append\t0\tee" "X"
+    ∷ []
+
+pub examples-hold :
+    RepliesAs vecprobeReply floats × RepliesAs vecprobeReply blobs × RepliesAs vecprobeReply conversions × RepliesAs vecprobeReply nearest
+    × RepliesAs vecprobeReply files × RepliesAs vecprobeReply appended
+unfolding partsOf same vecprobeReply detailText decimalOf numeralOf patternOf numberFrom digitOf hexPair hexBytes hexOf
     root narrowed truncated toBits readOf strictOf writeOf firstFrom bodyOf
-    conversionOf bytesOf numberAt put nearerOf running total merged ofBits ofInt add sub mul div neg eq lt le isNan
-examples-hold = (refl, refl, refl, refl)
+    conversionOf bytesOf numberAt put nearerOf vectorAt elementsAt appendOutcome running total merged ofBits ofInt add sub mul div neg eq lt le isNan
+examples-hold = (refl, refl, refl, refl, refl, refl)

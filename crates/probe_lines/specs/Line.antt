@@ -1,40 +1,35 @@
 -- What vecprobe replies to a line. With | for a tab, the lines are
 --     root|W|F    narrow|F    widen|F    trunc|F
 --     read|H    strict|H    write|K|N|H    conv|K|H    near|D|P|A|B
+--     fvecs|N|H    bvecs|N|H    append|N|A|H
 -- The crates of each subject have the replies: `Floats` those about one float, `Blobs` those that show a vector, `Write` those
--- that write a blob, and `Near` those about a probe and two candidates. The reply to any other line is X.
+-- that write a blob, `Near` those about a probe and two candidates, `Files` those about a file of vectors, and `Appending` those that
+-- append to one. The reply to any other line is X.
 use Prim.Native.Nat.{ℕ}
 use mathlib.Core.List.{List, [], _∷_}
-use Rattle.lines.specs.Text.{word}
 use Rattle.lines.specs.Parts.{fieldsOf}
-use Rattle.lines.specs.Fields.{malformed, exactly, firstNamed}
+use Rattle.lines.specs.Fields.{malformed, exactly}
 use Rattle.probe_floats.specs.Floats.{floatReply, rootReply}
-use Rattle.probe_floats.specs.declared.Work.the-variants.{Narrow, Widen, Trunc}
 use Rattle.probe_blobs.specs.Blobs.{readReply, convertReply}
-use Rattle.probe_blobs.specs.declared.Reader.the-variants.{Plain, Strict}
 use Rattle.probe_write.specs.Write.{writeReply}
 use Rattle.probe_near.specs.Near.{nearReply}
-use Rattle.probe_lines.specs.declared.Verb.{Verb}
-use Rattle.probe_lines.specs.declared.Verb.the-variants.{Root, Float, Read, Write, Convert, Near, Other}
-
--- what a line asks for, by its first field
-abbrev pub verbWords : List (List ℕ × Verb)
-verbWords =
-    (word "root", Root) ∷ (word "narrow", Float Narrow) ∷ (word "widen", Float Widen) ∷ (word "trunc", Float Trunc)
-    ∷ (word "read", Read Plain) ∷ (word "strict", Read Strict) ∷ (word "write", Write) ∷ (word "conv", Convert) ∷ (word "near", Near) ∷ []
-
-unfoldable pub verbOf : List ℕ → Verb
-verbOf first = firstNamed verbWords Other first
+use Rattle.probe_vecs.specs.Files.{fileReply}
+use Rattle.probe_append.specs.Appending.{appendReply}
+use Rattle.probe_verbs.specs.Verbs.{verbOf}
+use Rattle.probe_verbs.specs.declared.Verb.{Verb}
+use Rattle.probe_verbs.specs.declared.Verb.the-variants.{Root, Float, Read, Write, Convert, Near, File, Append, Other}
 
 -- the reply to the other fields
 unfoldable pub verbReply : Verb → List (List ℕ) → List ℕ
-unfolding exactly floatReply rootReply readReply writeReply convertReply nearReply
+unfolding exactly floatReply rootReply readReply writeReply convertReply nearReply fileReply appendReply
 verbReply Root fields = exactly 2 rootReply fields
 verbReply (Float work) fields = exactly 1 (floatReply work) fields
 verbReply (Read reader) fields = exactly 1 (readReply reader) fields
 verbReply Write fields = exactly 3 writeReply fields
 verbReply Convert fields = exactly 2 convertReply fields
 verbReply Near fields = exactly 4 nearReply fields
+verbReply (File kind) fields = exactly 2 (fileReply kind) fields
+verbReply Append fields = exactly 3 appendReply fields
 verbReply Other fields = malformed
 
 unfoldable pub fieldsReply : List (List ℕ) → List ℕ

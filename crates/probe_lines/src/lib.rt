@@ -6,54 +6,10 @@ ghost use Rattle.promises.specs.Puts.{Puts};
 ghost use Rattle.lines.specs.Parts.{fieldsOf};
 ghost use Rattle.probe_blobs.specs.Limits.{scratchRoom, blobRoom};
 ghost use Rattle.probe_lines.specs.Limits.{vecprobeLimit};
-ghost use Rattle.probe_lines.specs.Line.{vecprobeReply, verbReply, verbOf};
+ghost use Rattle.probe_lines.specs.Line.{vecprobeReply, verbReply};
 use lines::text::put_malformed;
-use probe_blobs::Reader;
-use probe_floats::Work;
-
-// What a line asks for, by its first field.
-enum Verb {
-    Root,
-    Float(Work),
-    Read(Reader),
-    Write,
-    Convert,
-    Near,
-    Other,
-}
-
-fn verb_of(word: &[u8]) -> Verb
-    ensures { λ r. ⌜ r ≡ verbOf (now (word .entry)) ⌝ }
-{
-    if check::same(word, b"root") {
-        return Verb::Root;
-    }
-    if check::same(word, b"narrow") {
-        return Verb::Float(Work::Narrow);
-    }
-    if check::same(word, b"widen") {
-        return Verb::Float(Work::Widen);
-    }
-    if check::same(word, b"trunc") {
-        return Verb::Float(Work::Trunc);
-    }
-    if check::same(word, b"read") {
-        return Verb::Read(Reader::Plain);
-    }
-    if check::same(word, b"strict") {
-        return Verb::Read(Reader::Strict);
-    }
-    if check::same(word, b"write") {
-        return Verb::Write;
-    }
-    if check::same(word, b"conv") {
-        return Verb::Convert;
-    }
-    if check::same(word, b"near") {
-        return Verb::Near;
-    }
-    Verb::Other
-}
+use probe_verbs::Verb;
+use probe_verbs::verb_of;
 
 // As many bytes as a line may have before its newline; no reply has more.
 pub const LIMIT: usize = 1100000;
@@ -88,6 +44,8 @@ fn answer_to(
         Verb::Write => probe_write::write_line(rest, decoded, made, out),
         Verb::Convert => probe_blobs::convert_line(rest, decoded, scratch, made, out),
         Verb::Near => probe_near::near_line(rest, decoded, out),
+        Verb::File(kind) => probe_vecs::file_line(kind, rest, decoded, scratch, out),
+        Verb::Append => probe_append::append_line(rest, decoded, made, out),
         Verb::Other => put_malformed(out),
     }
 }

@@ -92,7 +92,7 @@ impl Random {
     }
 
     /// Bytes that nothing tests: zero as the writer has them, or odd.
-    fn padding(&mut self, count: usize) -> Vec<u8> {
+    pub fn padding(&mut self, count: usize) -> Vec<u8> {
         if self.one_in(3) {
             self.bytes(count)
         } else {

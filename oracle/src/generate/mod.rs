@@ -1,6 +1,7 @@
 //! Lines to be answered, each run named by a mode and a seed.
 
 mod blobs;
+mod files;
 mod floats;
 mod random;
 mod requests;
@@ -19,6 +20,9 @@ pub fn lines(mode: &str, seed: u64) -> Option<Box<dyn Iterator<Item = Vec<u8>>>>
         "write" => Random::writing_line,
         "conv" => Random::conversion_line,
         "near" => Random::nearer_line,
+        "fvecs" => |random| random.file_line("fvecs", 4),
+        "bvecs" => |random| random.file_line("bvecs", 1),
+        "append" => Random::append_line,
         "rounding" => return Some(Box::new(rounding::lines(Random::new(seed)))),
         "short" => return Some(Box::new(short::lines().skip(seed as usize))),
         _ => return None,

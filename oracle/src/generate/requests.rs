@@ -159,6 +159,6 @@ impl Random {
     }
 }
 
-fn line(fields: &[&str]) -> Vec<u8> {
+pub fn line(fields: &[&str]) -> Vec<u8> {
     fields.join("\t").into_bytes()
 }

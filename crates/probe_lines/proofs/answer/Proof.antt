@@ -8,8 +8,8 @@ use Rattle.lines.specs.Text.{tab}
 use Rattle.lines.specs.Parts.{fieldsOf}
 use Rattle.promises.proofs.Puts.{puts-same}
 use Rattle.lines.proofs.Fields.{afterField}
+use Rattle.probe_verbs.specs.declared.Verb.{Verb}
 use Rattle.probe_lines.specs.Line.{verbReply}
-use Rattle.probe_lines.specs.declared.Verb.{Verb}
 use Rattle.probe_lines.proofs.Fields.{reply-few, reply-fields}
 use borrow.Author.Needs.{needs}
 use Rattle.probe_lines.proofs.answer.Statement.{statement}

@@ -6,9 +6,9 @@ use Rattle.lines.specs.Parts.{fieldsOf}
 use Rattle.promises.proofs.Puts.{puts-same}
 use Rattle.probe_floats.proofs.Fields.{float-last}
 use Rattle.probe_blobs.proofs.BlobTexts.{read-last}
+use Rattle.probe_verbs.specs.declared.Verb.{Verb}
+use Rattle.probe_verbs.specs.declared.Verb.the-variants.{Root, Float, Read, Write, Convert, Near, File, Append, Other}
 use Rattle.probe_lines.specs.Line.{verbReply}
-use Rattle.probe_lines.specs.declared.Verb.{Verb}
-use Rattle.probe_lines.specs.declared.Verb.the-variants.{Root, Float, Read, Write, Convert, Near, Other}
 use borrow.Author.Needs.{needs}
 use Rattle.probe_lines.proofs.answer_to.Statement.{statement}
 use Rattle.probe_lines.proofs.answer_to.Tie as tie
@@ -66,17 +66,38 @@ returns-6 c =
 returns-7 : tie.Need-returns-7
 unfolding verbReply
 returns-7 c =
+    let put = c .before .before .before .before .before .before in
+    let arm = put .before .before .before .before .before in
+    let rest = arm .before .before .before .before .before .before .before .args .rest .now in
+    let given = arm .verb3 .given in
+    puts-same (by-verb (File (given .0 .0)) rest (given .1)) (put .file-line .ensures)
+
+returns-8 : tie.Need-returns-8
+unfolding verbReply
+returns-8 c =
+    let put = c .before .before .before .before .before .before in
+    let arm = put .before .before .before .before in
+    let rest = arm .before .before .before .before .before .before .before .args .rest .now in
+    puts-same (by-verb Append rest (arm .enum-told5 .given .1)) (put .append-line .ensures)
+
+returns-9 : tie.Need-returns-9
+unfolding verbReply
+returns-9 c =
     let arm = c .before .before .before .before in
     let rest = arm .before .before .before .before .before .before .before .args .rest .now in
-    puts-same (by-verb Other rest (arm .enum-told5 .given .1)) (c .before .before .put-malformed .ensures)
+    puts-same (by-verb Other rest (arm .enum-told6 .given .1)) (c .before .before .put-malformed .ensures)
 
 pub answer-to-spec : {M : Type 1} → statement M
 answer-to-spec =
     tie.close
     (tie.spec
     (λ c. search needs) (λ c κs. search needs) (λ c. search needs) (λ c κs. search needs) (λ c. search needs)
-    (λ c κs. search needs) (λ c. search needs) (λ c κs. search needs) (λ c. search needs) (λ c κs. search needs)
-    (λ c. search needs) (λ c κs. search needs) (λ c. search needs) (λ c κs. search needs) (λ c. search needs) returns
-    (λ c. search needs) returns-2 (λ c. search needs) (λ c. search needs) returns-3 (λ c. search needs)
-    (λ c. search needs) (λ c. search needs) returns-4 (λ c. search needs) (λ c. search needs) (λ c. search needs)
-    (λ c. search needs) returns-5 (λ c. search needs) (λ c. search needs) returns-6 (λ c. search needs) returns-7)
+    (λ c κs. search needs) (λ c. search needs) (λ c κs. search needs) (λ c. search needs)
+    (λ c κs. search needs) (λ c. search needs) (λ c κs. search needs) (λ c. search needs)
+    (λ c κs. search needs) (λ c. search needs) (λ c κs. search needs) (λ c. search needs)
+    (λ c κs. search needs) (λ c. search needs) returns (λ c. search needs) returns-2 (λ c. search needs)
+    (λ c. search needs) returns-3 (λ c. search needs) (λ c. search needs) (λ c. search needs) returns-4
+    (λ c. search needs) (λ c. search needs) (λ c. search needs) (λ c. search needs) returns-5
+    (λ c. search needs) (λ c. search needs) returns-6 (λ c. search needs) (λ c. search needs)
+    (λ c. search needs) returns-7 (λ c. search needs) (λ c. search needs) (λ c. search needs) returns-8
+    (λ c. search needs) returns-9)

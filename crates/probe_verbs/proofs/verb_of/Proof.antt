@@ -6,12 +6,12 @@ use Prim.Native.Nat.{ℕ}
 use lib.ListN.{drop}
 use Rattle.lines.specs.Fields.{firstNamed}
 use Rattle.lines.proofs.Fields.{word-tested}
-use Rattle.probe_lines.specs.Line.{verbWords, verbOf}
-use Rattle.probe_lines.specs.declared.Verb.{Verb}
-use Rattle.probe_lines.specs.declared.Verb.the-variants.{Other}
+use Rattle.probe_verbs.specs.Verbs.{verbWords, verbOf}
+use Rattle.probe_verbs.specs.declared.Verb.{Verb}
+use Rattle.probe_verbs.specs.declared.Verb.the-variants.{Other}
 use borrow.Author.Needs.{needs}
-use Rattle.probe_lines.proofs.verb_of.Statement.{statement}
-use Rattle.probe_lines.proofs.verb_of.Tie as tie
+use Rattle.probe_verbs.proofs.verb_of.Statement.{statement}
+use Rattle.probe_verbs.proofs.verb_of.Tie as tie
 
 -- what the rows of the table from the n-th on say of a word
 abbrev from : ℕ → List ℕ → Verb
@@ -67,6 +67,24 @@ asked8 c = asked7 (c .before .before .before)
 past8 : (c : tie.Else8) → verbOf (asked8 c) ≡ from 8 (asked8 c)
 past8 c = past7 (c .before .before .before) ∙ word-tested false (c .before .same8 .ensures) (c .if8 .left) _ _
 
+abbrev asked9 : tie.Else9 → List ℕ
+asked9 c = asked8 (c .before .before .before)
+
+past9 : (c : tie.Else9) → verbOf (asked9 c) ≡ from 9 (asked9 c)
+past9 c = past8 (c .before .before .before) ∙ word-tested false (c .before .same9 .ensures) (c .if9 .left) _ _
+
+abbrev asked10 : tie.Else10 → List ℕ
+asked10 c = asked9 (c .before .before .before)
+
+past10 : (c : tie.Else10) → verbOf (asked10 c) ≡ from 10 (asked10 c)
+past10 c = past9 (c .before .before .before) ∙ word-tested false (c .before .same10 .ensures) (c .if10 .left) _ _
+
+abbrev asked11 : tie.Else11 → List ℕ
+asked11 c = asked10 (c .before .before .before)
+
+past11 : (c : tie.Else11) → verbOf (asked11 c) ≡ from 11 (asked11 c)
+past11 c = past10 (c .before .before .before) ∙ word-tested false (c .before .same11 .ensures) (c .if11 .left) _ _
+
 returns : tie.Need-returns
 unfolding verbOf
 returns c = sym (word-tested true (c .before .same .ensures) (c .if1 .taken) _ _)
@@ -96,7 +114,16 @@ returns-9 : tie.Need-returns-9
 returns-9 c = sym (past8 (c .before .before .before) ∙ word-tested true (c .before .same9 .ensures) (c .if9 .taken) _ _)
 
 returns-10 : tie.Need-returns-10
-returns-10 c = sym (past8 (c .before .before .before) ∙ word-tested false (c .before .same9 .ensures) (c .if9 .left) _ _)
+returns-10 c = sym (past9 (c .before .before .before) ∙ word-tested true (c .before .same10 .ensures) (c .if10 .taken) _ _)
+
+returns-11 : tie.Need-returns-11
+returns-11 c = sym (past10 (c .before .before .before) ∙ word-tested true (c .before .same11 .ensures) (c .if11 .taken) _ _)
+
+returns-12 : tie.Need-returns-12
+returns-12 c = sym (past11 (c .before .before .before) ∙ word-tested true (c .before .same12 .ensures) (c .if12 .taken) _ _)
+
+returns-13 : tie.Need-returns-13
+returns-13 c = sym (past11 (c .before .before .before) ∙ word-tested false (c .before .same12 .ensures) (c .if12 .left) _ _)
 
 pub verb-of-spec : {M : Type 1} → statement M
 verb-of-spec =
@@ -106,4 +133,6 @@ verb-of-spec =
     (λ c. search needs) (λ c κs. search needs) returns-3 (λ c. search needs) (λ c κs. search needs) returns-4
     (λ c. search needs) (λ c κs. search needs) returns-5 (λ c. search needs) (λ c κs. search needs) returns-6
     (λ c. search needs) (λ c κs. search needs) returns-7 (λ c. search needs) (λ c κs. search needs) returns-8
-    (λ c. search needs) (λ c κs. search needs) returns-9 returns-10)
+    (λ c. search needs) (λ c κs. search needs) returns-9 (λ c. search needs) (λ c κs. search needs) returns-10
+    (λ c. search needs) (λ c κs. search needs) returns-11 (λ c. search needs) (λ c κs. search needs) returns-12
+    returns-13)

@@ -1,0 +1,3 @@
+-- Laws of the replies that append
+pub mod AppendTexts
+pub mod Determined

@@ -1,0 +1,2 @@
+-- That the contract determines its answer
+pub mod Determined
