@@ -1,4 +1,5 @@
-/* Fulandewu: vector blobs read, written, converted, measured and compared, each by a proved function.
+/* Fulandewu: vector blobs read, written, converted, measured and compared, and files of vectors read and
+ * filled, each by a proved function.
  *
  * Link with libfulandewu.a (`rt staticlib fulandewu` makes target/staticlib/libfulandewu.a, x86-64):
  *
@@ -11,7 +12,7 @@
  * - Values are handed out in one struct that the caller lends, `struct fulandewu_answer`. A call writes
  *   the fields that its answer or its refusal has, as its function says, and leaves every bit of the
  *   others: look at the result first. No refusal changes a byte of `out` or `scratch`.
- * - A blob, body or buffer is a pointer and a length in bytes. Bytes need no alignment; the answer needs
+ * - A blob, body, file or buffer is a pointer and a length in bytes. Bytes need no alignment; the answer needs
  *   that of its type. Where the length is 0 nothing is read or written through the pointer, and it may
  *   be NULL. `answer` may never be NULL.
  *
@@ -21,7 +22,7 @@
  * - Nothing that is lent changes until the call returns, by a thread, a signal handler or a device:
  *   indices are tested, and then used.
  * - What is written (`out`, `scratch`, `answer`) overlaps nothing else that the same call is lent. What
- *   is only read (blobs, a body) may overlap or be the same.
+ *   is only read (blobs, a body, a file) may overlap or be the same.
  * - The floating-point environment is the default one: rounding to nearest, subnormals kept, exceptions
  *   masked. A program that is linked with -ffast-math, or loads a library that is, may not have it: the
  *   start-up code then flushes subnormals to zero.
@@ -74,12 +75,14 @@ enum fulandewu_refusal {
     FULANDEWU_SPARSE_ORDER = 10,            /* strict: sparse indices not in order */
     FULANDEWU_UNUSED_BIT_SET = 11,          /* strict: an unused bit of the last 1-bit byte is set */
     FULANDEWU_DIMS_DIFFER = 12,             /* the two vectors' dims differ */
-    FULANDEWU_KINDS_DIFFER = 13,            /* the two vectors' kinds differ */
+    FULANDEWU_KINDS_DIFFER = 13,            /* the two vectors' kinds differ; append: the blob is not
+                                               Float32Dense */
     FULANDEWU_L2_OF_FLOAT1BIT = 14,         /* L2 of 1-bit vectors */
     FULANDEWU_OUTPUT_TOO_SHORT = 15,        /* output buffer shorter than needed */
     FULANDEWU_WRITER_DIMS_0 = 16,           /* writer: dims 0 in 1-bit or Float8 */
     FULANDEWU_SCRATCH_TOO_SHORT = 17,       /* scratch shorter than needed */
-    FULANDEWU_BOTH_DISTANCES_NAN = 18       /* nearer of two: both distances NaN */
+    FULANDEWU_BOTH_DISTANCES_NAN = 18,      /* nearer of two: both distances NaN */
+    FULANDEWU_FILE_ENDS_INSIDE = 19         /* a file of vectors ends inside one, its count included */
 };
 
 /* Which blob a refusal is about, and which candidate is the nearer. */
@@ -101,16 +104,18 @@ struct fulandewu_answer {
     uint64_t kind;   /* an enum fulandewu_kind */
     uint64_t dims;   /* the number of elements */
     uint64_t length; /* of a body, or of a blob that is written, in bytes */
-    uint64_t needed; /* how long a buffer has to be that is too short, in bytes */
+    uint64_t needed; /* how long a buffer has to be that is too short, in bytes; append: after the fill */
     uint64_t which;  /* an enum fulandewu_which: the blob that a refusal is about */
     uint64_t nearer; /* FULANDEWU_FIRST or FULANDEWU_SECOND: the nearer candidate */
     uint64_t entry;
     uint64_t readings;
     uint64_t other_readings;
-    uint64_t start;
-    uint64_t next;
-    uint64_t place;
-    uint64_t reserved[19];
+    uint64_t start; /* of a vector in a file: where its elements start */
+    uint64_t next;  /* of a vector in a file: where its elements end and the next vector starts */
+    uint64_t place; /* where the vector starts inside which a file ends */
+    uint64_t found; /* 1 for a vector in a file, 0 at the end of the file */
+    uint64_t fill;  /* up to where a buffer is filled with vectors, in bytes */
+    uint64_t reserved[17];
 };
 
 /* Where this does not compile, the archive is not for the target: it is for 64-bit x86-64 Linux. */
@@ -189,6 +194,39 @@ uint32_t fulandewu_nearer_jaccard(const uint8_t *probe, size_t probe_length,
                                   const uint8_t *first, size_t first_length,
                                   const uint8_t *second, size_t second_length,
                                   struct fulandewu_answer *answer);
+
+/* Files of vectors: each vector is its count, 4 bytes, and then as many elements: f32 in an fvecs file,
+ * bytes in a bvecs file. Numbers are little-endian, and a count is unsigned. A file may be of any length.
+ * To walk a file start at `place` 0 and go on at each `next`, until `found` is 0 or a call is refused.
+ * Nothing is kept between calls: what is shown of a vector does not depend on what follows it. A place
+ * inside a vector is taken as given: its bytes are read as a count.
+ *
+ * Shows the vector at a place of an fvecs file. No byte is copied: its elements, a Float32Dense body, are
+ * the bytes of the caller's own file from `start` up to `next`.
+ * A vector writes `found` (1), `dims`, `start` and `next`. At or past the end of the file there is none,
+ * which is no refusal: the result is 0, and only `found` (0) is written. Refusal 19 writes `place`, which
+ * is the place asked for, another refusal nothing.
+ * Refusals: 19 where fewer than 4 bytes are left, then 9, then 19 where the elements are cut. */
+uint32_t fulandewu_fvecs_read(const uint8_t *file, size_t file_length, size_t place,
+                              struct fulandewu_answer *answer);
+
+/* Shows the vector at a place of a bvecs file, and puts each of its bytes as the f32 of that number, a
+ * Float32Dense body, to the first 4 * `dims` bytes of `out`; no byte past them changes, and none at the end
+ * of the file. The bytes themselves are those of the file from `start` up to `next`.
+ * A vector, the end and refusal 19 write what they write above; refusal 15 writes `needed`.
+ * Refusals: those above in their order, then 15. */
+uint32_t fulandewu_bvecs_read(const uint8_t *file, size_t file_length, size_t place,
+                              uint8_t *out, size_t out_length, struct fulandewu_answer *answer);
+
+/* Appends a Float32Dense blob, with or without type byte, as a vector to an fvecs file in `out`: its count
+ * and its body go to the bytes from `fill` on, 4 + 4 * dims of them, bit for bit, and no other byte
+ * changes. Start with `fill` 0 and go on with each `fill` that is answered: the first so many bytes of
+ * `out` are then a file that shows the bodies in order. A `fill` past the end of `out` counts as no room.
+ * An answer writes `fill`, the new one. Refusal 15 writes `needed`: how many bytes there have to be after
+ * the fill, not how long `out` has to be. Another refusal writes nothing.
+ * Refusals: the reader's 1 to 9, then 13, 15. */
+uint32_t fulandewu_fvecs_append(const uint8_t *blob, size_t blob_length, uint8_t *out, size_t out_length,
+                                size_t fill, struct fulandewu_answer *answer);
 
 #ifdef __cplusplus
 }

@@ -10,6 +10,7 @@ const char *const EXPORT_NAMES[EXPORTS] = {
     "fulandewu_read", "fulandewu_read_strict", "fulandewu_write", "fulandewu_convert",
     "fulandewu_distance_cos", "fulandewu_distance_l2", "fulandewu_distance_dot", "fulandewu_distance_jaccard",
     "fulandewu_nearer_cos", "fulandewu_nearer_l2", "fulandewu_nearer_dot", "fulandewu_nearer_jaccard",
+    "fulandewu_fvecs_read", "fulandewu_bvecs_read", "fulandewu_fvecs_append",
 };
 
 unsigned long calls, fields_seen;
@@ -17,10 +18,10 @@ unsigned long seen[EXPORTS][REFUSALS];
 
 static const char *const FIELD_NAMES[FIELDS] = {
     "distance", "kind", "dims", "length", "needed", "which", "nearer",
-    "entry", "readings", "other_readings", "start", "next", "place",
+    "entry", "readings", "other_readings", "start", "next", "place", "found", "fill",
     "reserved[0]", "reserved[1]", "reserved[2]", "reserved[3]", "reserved[4]", "reserved[5]", "reserved[6]",
     "reserved[7]", "reserved[8]", "reserved[9]", "reserved[10]", "reserved[11]", "reserved[12]", "reserved[13]",
-    "reserved[14]", "reserved[15]", "reserved[16]", "reserved[17]", "reserved[18]",
+    "reserved[14]", "reserved[15]", "reserved[16]",
 };
 
 /* The places of the fields, which never change. */
@@ -39,7 +40,9 @@ STANDS_AT(other_readings, 9);
 STANDS_AT(start, 10);
 STANDS_AT(next, 11);
 STANDS_AT(place, 12);
-STANDS_AT(reserved, 13);
+STANDS_AT(found, 13);
+STANDS_AT(fill, 14);
+STANDS_AT(reserved, 15);
 
 /* The three ways in which everything is lent: against either guarded page, and at an odd address with
  * NULL for what is empty. What is to be written holds another byte each time; 0xff makes a field a NaN. */
@@ -77,23 +80,48 @@ static uint32_t call_export(const struct request *r, const struct call *c) {
         return fulandewu_convert(b[0], l[0].length, r->kind, c->scratch, r->scratch, c->out, r->out, c->answer);
     if (r->export <= DISTANCE_JACCARD)
         return MEASURES[r->export - DISTANCE_COS](b[0], l[0].length, b[1], l[1].length, c->answer);
-    return CHOOSERS[r->export - NEARER_COS](b[0], l[0].length, b[1], l[1].length, b[2], l[2].length, c->answer);
+    if (r->export <= NEARER_JACCARD)
+        return CHOOSERS[r->export - NEARER_COS](b[0], l[0].length, b[1], l[1].length, b[2], l[2].length, c->answer);
+    if (r->export == FVECS_READ) return fulandewu_fvecs_read(b[0], l[0].length, r->place, c->answer);
+    if (r->export == BVECS_READ)
+        return fulandewu_bvecs_read(b[0], l[0].length, r->place, c->out, r->out, c->answer);
+    return fulandewu_fvecs_append(b[0], l[0].length, c->out, r->out, r->fill, c->answer);
 }
 
-/* The fields that an answer or a refusal writes, as a set. */
-static uint32_t written_by(enum export export, uint32_t refusal) {
-    int short_of = refusal == FULANDEWU_OUTPUT_TOO_SHORT || refusal == FULANDEWU_SCRATCH_TOO_SHORT;
-    if (export <= READ_STRICT) return refusal ? 0 : 1u << KIND | 1u << DIMS | 1u << LENGTH;
-    if (export == WRITE) return short_of ? 1u << NEEDED : refusal ? 0 : 1u << LENGTH;
-    if (export == CONVERT) return short_of ? 1u << NEEDED : refusal ? 0 : 1u << DIMS | 1u << LENGTH;
-    if (export <= DISTANCE_JACCARD) return refusal ? 1u << WHICH : 1u << DISTANCE;
-    return refusal ? 1u << WHICH : 1u << NEARER | 1u << DISTANCE;
+/* Whether the place asked for is at or past the end of its file. */
+static int at_end(const struct request *r) { return r->place >= r->bytes[0].length; }
+
+/* The fields that an answer writes, as a set. */
+static uint32_t answer_fields(const struct request *r) {
+    if (r->export <= READ_STRICT) return 1u << KIND | 1u << DIMS | 1u << LENGTH;
+    if (r->export == WRITE) return 1u << LENGTH;
+    if (r->export == CONVERT) return 1u << DIMS | 1u << LENGTH;
+    if (r->export <= DISTANCE_JACCARD) return 1u << DISTANCE;
+    if (r->export <= NEARER_JACCARD) return 1u << NEARER | 1u << DISTANCE;
+    if (r->export == FVECS_APPEND) return 1u << FILL;
+    return at_end(r) ? 1u << FOUND : 1u << FOUND | 1u << DIMS | 1u << START | 1u << NEXT;
 }
 
-/* How many first bytes of the buffers an answer writes. */
-static size_t output_of(const struct request *r, const struct answer *a) {
-    return !a->refusal && (r->export == WRITE || r->export == CONVERT) ? a->field[LENGTH] : 0;
+/* The fields that a refusal writes, as a set. */
+static uint32_t refusal_fields(enum export export, uint32_t refusal) {
+    if (export >= DISTANCE_COS && export <= NEARER_JACCARD) return 1u << WHICH;
+    if (refusal == FULANDEWU_OUTPUT_TOO_SHORT || refusal == FULANDEWU_SCRATCH_TOO_SHORT) return 1u << NEEDED;
+    return refusal == FULANDEWU_FILE_ENDS_INSIDE ? 1u << PLACE : 0;
 }
+
+/* From where up to where an answer writes the output. */
+struct span {
+    size_t from, to;
+};
+static struct span output_of(const struct request *r, const struct answer *a) {
+    if (a->refusal) return (struct span){0, 0};
+    if (r->export == WRITE || r->export == CONVERT) return (struct span){0, a->field[LENGTH]};
+    if (r->export == BVECS_READ) return (struct span){0, 4 * a->field[DIMS]};
+    if (r->export == FVECS_APPEND) return (struct span){r->fill, a->field[FILL]};
+    return (struct span){0, 0};
+}
+
+/* How many first bytes of the scratch an answer writes. */
 static size_t scratch_of(const struct request *r, const struct answer *a) {
     struct bytes blob = r->bytes[0];
     int sparse = blob.length % 2 == 1 && blob.at[blob.length - 1] == FULANDEWU_FLOAT32_SPARSE;
@@ -136,14 +164,15 @@ static struct answer ask_one_way(const struct request *r, const struct way *way,
     memset(&a, 0, sizeof a);
     a.refusal = call_export(r, &c);
     if (a.refusal >= REFUSALS) fail("the result is %lu, no refusal's number", (unsigned long)a.refusal);
-    look_at_fields(&a, &c, written_by(r->export, a.refusal), way->fill);
-    a.out.length = output_of(r, &a);
+    look_at_fields(&a, &c, a.refusal ? refusal_fields(r->export, a.refusal) : answer_fields(r), way->fill);
+    struct span written = output_of(r, &a);
+    untouched_but(OUTPUT, written.from, written.to);
+    a.out.length = written.to - written.from;
     a.scratch.length = scratch_of(r, &a);
-    untouched_from(OUTPUT, a.out.length);
-    untouched_from(SCRATCH, a.scratch.length);
+    untouched_but(SCRATCH, 0, a.scratch.length);
     a.out.at = kept;
     a.scratch.at = kept + a.out.length;
-    if (a.out.length) memcpy(kept, c.out, a.out.length);
+    if (a.out.length) memcpy(kept, c.out + written.from, a.out.length);
     if (a.scratch.length) memcpy(kept + a.out.length, c.scratch, a.scratch.length);
     take_back();
     return a;
@@ -167,4 +196,16 @@ struct answer ask(struct request request) {
     }
     seen[request.export][first.refusal]++;
     return first;
+}
+
+struct answer expect(struct request request, uint32_t refusal) {
+    struct answer a = ask(request);
+    if (a.refusal != refusal) fail("the result is %u and not %u", (unsigned)a.refusal, (unsigned)refusal);
+    return a;
+}
+
+void expect_field(const struct answer *a, enum field field, uint64_t value) {
+    if (a->field[field] != value)
+        fail("%s is %llx and not %llx", FIELD_NAMES[field], (unsigned long long)a->field[field],
+             (unsigned long long)value);
 }

@@ -32,18 +32,6 @@ static const struct bytes REFUSED[10] = {
     {REFUSED_5, 3},    {REFUSED_6, 3},    {REFUSED_7, 3}, {REFUSED_8, 13}, {REFUSED_9, 5},
 };
 
-static struct answer expect(struct request request, uint32_t refusal) {
-    struct answer a = ask(request);
-    if (a.refusal != refusal) fail("the result is %u and not %u", (unsigned)a.refusal, (unsigned)refusal);
-    return a;
-}
-
-static void expect_field(const struct answer *a, enum field field, uint64_t value) {
-    if (a->field[field] != value)
-        fail("field %d is %llx and not %llx", (int)field, (unsigned long long)a->field[field],
-             (unsigned long long)value);
-}
-
 static void expect_which(struct request request, uint32_t refusal, uint64_t which) {
     struct answer a = expect(request, refusal);
     expect_field(&a, WHICH, which);
@@ -60,9 +48,11 @@ static void reader_refusals(void) {
     for (uint32_t n = 1; n <= 9; n++) {
         struct bytes bad = REFUSED[n];
         struct request convert = {.export = CONVERT, .bytes = {bad}, .kind = FULANDEWU_FLOAT32_DENSE};
+        struct request append = {.export = FVECS_APPEND, .bytes = {bad}, .out = ROOM};
         expect(on(READ, bad, REFUSED[0], REFUSED[0]), n);
         expect(on(READ_STRICT, bad, REFUSED[0], REFUSED[0]), n);
         expect(convert, n);
+        expect(append, n);
         for (enum export e = DISTANCE_COS; e <= DISTANCE_JACCARD; e++) {
             expect_which(on(e, bad, good, REFUSED[0]), n, FULANDEWU_FIRST);
             expect_which(on(e, good, bad, REFUSED[0]), n, FULANDEWU_SECOND);
@@ -205,6 +195,7 @@ static void the_same_blob_twice(void) {
 }
 
 void try_cases(void) {
+    try_files();
     reader_refusals();
     pair_refusals();
     kind_bytes();
@@ -222,6 +213,9 @@ static uint32_t can_give(enum export export) {
     if (export == READ_STRICT) return reading | 1u << 10 | 1u << 11;
     if (export == WRITE) return 1u | 1u << 1 | 1u << 2 | 1u << 3 | 1u << 7 | 1u << 8 | 1u << 9 | 1u << 15 | 1u << 16;
     if (export == CONVERT) return reading | 1u << 15 | 1u << 17;
+    if (export == FVECS_READ) return 1u | 1u << 9 | 1u << 19;
+    if (export == BVECS_READ) return 1u | 1u << 9 | 1u << 15 | 1u << 19;
+    if (export == FVECS_APPEND) return reading | 1u << 13 | 1u << 15;
     return export <= DISTANCE_JACCARD ? pairs | l2 : pairs | l2 | 1u << 18;
 }
 

@@ -131,8 +131,10 @@ void take_back(void) {
     }
 }
 
-void untouched_from(enum room which, size_t from) {
+void untouched_but(enum room which, size_t from, size_t to) {
     const struct lent *room = &rooms[which];
-    if (from > room->length) fail("more is answered than was lent");
-    same(room->at + from, room->length - from, room->fill, "a lent byte that no answer is about");
+    const char *what = "a lent byte that no answer is about";
+    if (from > to || to > room->length) fail("more is answered than was lent");
+    same(room->at, from, room->fill, what);
+    same(room->at + to, room->length - to, room->fill, what);
 }

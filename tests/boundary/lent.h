@@ -30,7 +30,7 @@ uint8_t *lend_buffer(enum room room, enum place place, size_t length, uint8_t fi
 /* Takes every buffer back, and fails if a byte beside one is not what it was. */
 void take_back(void);
 
-/* Fails unless all bytes of a buffer from one on are as they were lent. */
-void untouched_from(enum room room, size_t from);
+/* Fails unless all bytes of a buffer, but those from one up to another, are as they were lent. */
+void untouched_but(enum room room, size_t from, size_t to);
 
 #endif

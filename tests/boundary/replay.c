@@ -99,6 +99,16 @@ static void answer_refusal(const struct answer *a, const char *which) {
     answer_text(text);
 }
 
+/* A refusal about a file of vectors, with what it carries. */
+static void answer_file_refusal(const struct answer *a) {
+    char text[32];
+    answer_refusal(a, NULL);
+    if (a->refusal != FULANDEWU_FILE_ENDS_INSIDE && a->refusal != FULANDEWU_OUTPUT_TOO_SHORT) return;
+    snprintf(text, sizeof text, "\t%llu",
+             (unsigned long long)a->field[a->refusal == FULANDEWU_OUTPUT_TOO_SHORT ? NEEDED : PLACE]);
+    answer_text(text);
+}
+
 static void replay_read(enum export export, struct text *part) {
     static uint8_t blob[600000];
     struct request r = {.export = export, .bytes = {unhex(part[1], blob)}};
@@ -210,6 +220,46 @@ static void replay_nearer(struct text *part) {
     answer_distance(&a);
 }
 
+static void replay_vector(enum export export, struct text *part) {
+    static uint8_t file[600000];
+    char text[64];
+    struct request r = {.export = export, .bytes = {unhex(part[2], file)}, .place = decimal(part[1])};
+    struct answer a = ask_for_room(&r);
+    if (a.refusal) {
+        answer_file_refusal(&a);
+        return;
+    }
+    if (a.field[FOUND] == 0) {
+        answer_text("E");
+        return;
+    }
+    if (a.field[START] > a.field[NEXT] || a.field[NEXT] > r.bytes[0].length) fail("a vector outside its file");
+    snprintf(text, sizeof text, "I\t%llu\t%llu\t", (unsigned long long)a.field[NEXT],
+             (unsigned long long)a.field[DIMS]);
+    answer_text(text);
+    answer_hex(export == BVECS_READ
+                   ? a.out
+                   : (struct bytes){file + a.field[START], a.field[NEXT] - a.field[START]});
+}
+
+/* The buffer of the line with the bytes that are written; the others are seen to stay as they are lent. */
+static void replay_append(struct text *part) {
+    static uint8_t buffer[600000], blob[600000];
+    char text[32];
+    struct bytes before = unhex(part[2], buffer);
+    struct request r = {.export = FVECS_APPEND, .bytes = {unhex(part[3], blob)}, .out = before.length};
+    r.fill = decimal(part[1]);
+    struct answer a = ask(r);
+    if (a.refusal) {
+        answer_file_refusal(&a);
+        return;
+    }
+    memcpy(buffer + r.fill, a.out.at, a.out.length);
+    snprintf(text, sizeof text, "A\t%llu\t", (unsigned long long)a.field[FILL]);
+    answer_text(text);
+    answer_hex(before);
+}
+
 /* Puts a line to its export; false for one about rounding. */
 static int replay_line(struct text line) {
     struct text part[PARTS];
@@ -220,6 +270,9 @@ static int replay_line(struct text line) {
     else if (is(part[0], "write")) replay_write(part);
     else if (is(part[0], "conv")) replay_convert(part);
     else if (is(part[0], "near")) replay_nearer(part);
+    else if (is(part[0], "fvecs")) replay_vector(FVECS_READ, part);
+    else if (is(part[0], "bvecs")) replay_vector(BVECS_READ, part);
+    else if (is(part[0], "append")) replay_append(part);
     else if (distance_of(part[0]) >= 0) replay_distance(part);
     else return 0;
     return 1;

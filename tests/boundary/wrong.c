@@ -31,7 +31,7 @@ uint32_t __wrap_fulandewu_read(READ_ARGUMENTS) {
     if (wrong("length_for_dims") && refusal == 0) answer->dims = answer->length;
     if (wrong("all_fields_cleared") && refusal == 0) memset(&answer->needed, 0, 8 * 28);
     if (wrong("the_first_reserved_field")) answer->entry = 0;
-    if (wrong("the_last_reserved_field")) answer->reserved[18] = 0;
+    if (wrong("the_last_reserved_field")) answer->reserved[16] = 0;
     if (wrong("a_33rd_field")) ((volatile uint64_t *)answer)[32] = 0;
     if (wrong("a_field_before")) ((volatile uint64_t *)answer)[-1] = 0;
     return wrong("another_number") && refusal == 7 ? 6 : refusal;
@@ -91,5 +91,63 @@ uint32_t __wrap_fulandewu_nearer_l2(NEARER_ARGUMENTS) {
     if (wrong("nearer_as_which") && refusal == 0) answer->which = answer->nearer;
     if (wrong("the_other_candidate") && refusal == 0) answer->nearer = 3 - answer->nearer;
     if (wrong("nearer_on_a_refusal") && refusal) answer->nearer = 0;
+    return refusal;
+}
+
+#define FVECS_READ_ARGUMENTS const uint8_t *file, size_t n, size_t place, struct fulandewu_answer *answer
+uint32_t __real_fulandewu_fvecs_read(FVECS_READ_ARGUMENTS);
+uint32_t __wrap_fulandewu_fvecs_read(FVECS_READ_ARGUMENTS);
+uint32_t __wrap_fulandewu_fvecs_read(FVECS_READ_ARGUMENTS) {
+    uint32_t refusal = __real_fulandewu_fvecs_read(file, n, place, answer);
+    int vector = refusal == 0 && answer->found == 1, end = refusal == 0 && !vector;
+    if (wrong("a_byte_past_the_file")) (void)*(volatile const uint8_t *)(file + n);
+    if (wrong("a_file_through_null") && file == NULL) (void)*(volatile const uint8_t *)file;
+    if (wrong("writes_the_file") && vector) *(volatile uint8_t *)(file + place) = file[place];
+    if (wrong("start_as_next") && vector) answer->next = answer->start;
+    if (wrong("the_count_as_start") && vector) answer->start = place;
+    if (wrong("bytes_as_dims") && vector) answer->dims = answer->next - answer->start;
+    if (wrong("next_at_the_end") && end) answer->next = place;
+    if (wrong("dims_at_the_end") && end) answer->dims = 0;
+    if (wrong("found_not_written") && end) memset(&answer->found, 0xa5, 8);
+    if (wrong("found_on_a_refusal") && refusal) answer->found = 0;
+    if (wrong("place_0") && refusal == 19) answer->place = 0;
+    if (wrong("place_not_written") && refusal == 19) memset(&answer->place, 0xa5, 8);
+    if (wrong("place_on_an_answer") && refusal == 0) answer->place = place;
+    if (wrong("an_empty_vector_as_the_end") && vector && answer->dims == 0) answer->found = 0;
+    return wrong("a_cut_count_as_the_end") && refusal == 19 && n - place < 4 ? 0 : refusal;
+}
+
+#define BVECS_READ_ARGUMENTS \
+    const uint8_t *file, size_t n, size_t place, uint8_t *out, size_t room, struct fulandewu_answer *answer
+uint32_t __real_fulandewu_bvecs_read(BVECS_READ_ARGUMENTS);
+uint32_t __wrap_fulandewu_bvecs_read(BVECS_READ_ARGUMENTS);
+uint32_t __wrap_fulandewu_bvecs_read(BVECS_READ_ARGUMENTS) {
+    uint32_t refusal = __real_fulandewu_bvecs_read(file, n, place, out, room, answer);
+    int vector = refusal == 0 && answer->found == 1, end = refusal == 0 && !vector;
+    if (wrong("a_float_past_the_file") && vector) (void)*(volatile const uint8_t *)(file + n + 3);
+    if (wrong("a_byte_past_the_floats") && vector && 4 * answer->dims < room) out[4 * answer->dims] = 0;
+    if (wrong("a_float_past_the_buffer") && vector && answer->dims > 0) out[room] = 0;
+    if (wrong("floats_at_the_end") && end && room > 0) out[0] = 0;
+    if (wrong("floats_on_a_refusal") && refusal && room > 0) out[0] = 0;
+    if (wrong("no_floats") && vector && answer->dims > 0) memset(out, 0xa5, 4 * answer->dims);
+    if (wrong("needs_a_byte_each") && refusal == 15) answer->needed /= 4;
+    if (wrong("found_is_2") && vector) answer->found = 2;
+    return refusal;
+}
+
+#define APPEND_ARGUMENTS \
+    const uint8_t *blob, size_t n, uint8_t *out, size_t room, size_t fill, struct fulandewu_answer *answer
+uint32_t __real_fulandewu_fvecs_append(APPEND_ARGUMENTS);
+uint32_t __wrap_fulandewu_fvecs_append(APPEND_ARGUMENTS);
+uint32_t __wrap_fulandewu_fvecs_append(APPEND_ARGUMENTS) {
+    uint32_t refusal = __real_fulandewu_fvecs_append(blob, n, out, room, fill, answer);
+    if (wrong("a_byte_before_the_fill") && refusal == 0 && fill > 0) out[fill - 1] = 0;
+    if (wrong("a_byte_past_the_new_fill") && refusal == 0 && answer->fill < room) out[answer->fill] = 0;
+    if (wrong("a_count_on_a_refusal") && refusal == 15 && room > 0) out[room - 1] = 0;
+    if (wrong("a_count_of_bytes") && refusal == 0 && answer->fill > fill + 4) out[fill] *= 4;
+    if (wrong("needs_the_fill_too") && refusal == 15) answer->needed += fill;
+    if (wrong("fill_on_a_refusal") && refusal) answer->fill = fill;
+    if (wrong("fill_not_written") && refusal == 0) memset(&answer->fill, 0xa5, 8);
+    if (wrong("length_for_fill") && refusal == 0) answer->length = answer->fill - fill;
     return refusal;
 }

@@ -11,9 +11,20 @@ pub struct Answer {
     pub needed: u64,
     pub which: u64,
     pub nearer: u64,
-    /// For later exports.
+    /// For later exports, as `reserved` below.
     #[allow(dead_code)]
-    reserved: [u64; 25],
+    entry: u64,
+    #[allow(dead_code)]
+    readings: u64,
+    #[allow(dead_code)]
+    other_readings: u64,
+    pub start: u64,
+    pub next: u64,
+    pub place: u64,
+    pub found: u64,
+    pub fill: u64,
+    #[allow(dead_code)]
+    reserved: [u64; 17],
 }
 
 const _: () = assert!(std::mem::size_of::<Answer>() == 256 && std::mem::align_of::<Answer>() == 8);
@@ -107,6 +118,28 @@ extern "C" {
         first_length: usize,
         second: *const u8,
         second_length: usize,
+        answer: *mut Answer,
+    ) -> u32;
+    pub fn fulandewu_fvecs_read(
+        file: *const u8,
+        file_length: usize,
+        place: usize,
+        answer: *mut Answer,
+    ) -> u32;
+    pub fn fulandewu_bvecs_read(
+        file: *const u8,
+        file_length: usize,
+        place: usize,
+        out: *mut u8,
+        out_length: usize,
+        answer: *mut Answer,
+    ) -> u32;
+    pub fn fulandewu_fvecs_append(
+        blob: *const u8,
+        blob_length: usize,
+        out: *mut u8,
+        out_length: usize,
+        fill: usize,
         answer: *mut Answer,
     ) -> u32;
 }

@@ -1,5 +1,6 @@
-//! Vector blobs read, written, converted, measured and compared by proved functions: safe functions
-//! over `libfulandewu.a`. Every blob, pair and buffer gets a defined answer, and nothing panics.
+//! Vector blobs read, written, converted, measured and compared, and files of vectors read and filled,
+//! by proved functions: safe functions over `libfulandewu.a`. Every blob, pair, file and buffer gets a
+//! defined answer, and nothing panics.
 //!
 //! ```
 //! use fulandewu::{distance, read, Distance, Reason, VectorType};
@@ -39,10 +40,12 @@
 #![warn(missing_docs)]
 
 mod exports;
+mod files;
 mod refusal;
 mod view;
 
 use exports::Answer;
+pub use files::{append_fvecs, bvecs, bvecs_at, fvecs, fvecs_at, Bvecs, Found, Fvecs};
 pub use refusal::{Reason, Refusal, Which};
 pub use view::{VectorType, View};
 
@@ -65,11 +68,13 @@ pub enum Distance {
     Jaccard,
 }
 
-/// Nothing for an answer, else the refusal with the need that it carries.
+/// Nothing for an answer, else the refusal with the need or the place that it carries.
 fn answered(number: u32, answer: &Answer) -> Result<(), Refusal> {
     match Refusal::numbered(number) {
         None => Ok(()),
-        Some(refusal) => Err(refusal.needing(answer.needed as usize)),
+        Some(refusal) => Err(refusal
+            .needing(answer.needed as usize)
+            .starting(answer.place as usize)),
     }
 }
 

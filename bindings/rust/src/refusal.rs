@@ -33,7 +33,7 @@ pub enum Reason {
     UnusedBitSet = 11,
     /// The two vectors' dims differ.
     DimsDiffer = 12,
-    /// The two vectors' kinds differ.
+    /// The two vectors' kinds differ; appending: the blob is not Float32Dense.
     KindsDiffer = 13,
     /// L2 of 1-bit vectors.
     L2OfFloat1Bit = 14,
@@ -45,49 +45,65 @@ pub enum Reason {
     ScratchTooShort = 17,
     /// Nearer of two: both distances NaN.
     BothDistancesNan = 18,
+    /// A file of vectors ends inside one, its count included.
+    FileEndsInside = 19,
 }
 
-const REASONS: [Reason; 18] = [
-    Reason::LengthOverLimit,
-    Reason::TypeByte5Or6,
-    Reason::TypeByteUnknown,
-    Reason::NoTrailingCount,
-    Reason::TrailingCountTooLarge,
-    Reason::TrailingBitsTooFew,
-    Reason::BodyLengthUnfit,
-    Reason::IndexNotBelowDims,
-    Reason::DimsOverLimit,
-    Reason::SparseOrder,
-    Reason::UnusedBitSet,
-    Reason::DimsDiffer,
-    Reason::KindsDiffer,
-    Reason::L2OfFloat1Bit,
-    Reason::OutputTooShort,
-    Reason::WriterDims0,
-    Reason::ScratchTooShort,
-    Reason::BothDistancesNan,
+/// Each reason in words.
+const REASONS: [(Reason, &str); 19] = [
+    (Reason::LengthOverLimit, "the blob is over 524,293 bytes"),
+    (Reason::TypeByte5Or6, "the type byte is 5 or 6"),
+    (Reason::TypeByteUnknown, "the type byte names no kind"),
+    (
+        Reason::NoTrailingCount,
+        "a 1-bit or Float8 blob has nothing before its type byte",
+    ),
+    (
+        Reason::TrailingCountTooLarge,
+        "the trailing count is too large",
+    ),
+    (Reason::TrailingBitsTooFew, "the trailing bits are too few"),
+    (
+        Reason::BodyLengthUnfit,
+        "the body length is unfit for kind and dims",
+    ),
+    (
+        Reason::IndexNotBelowDims,
+        "a sparse index is not below dims",
+    ),
+    (Reason::DimsOverLimit, "dims are over 65,536"),
+    (Reason::SparseOrder, "sparse indices are not in order"),
+    (Reason::UnusedBitSet, "an unused bit is set"),
+    (Reason::DimsDiffer, "dims differ"),
+    (Reason::KindsDiffer, "kinds differ"),
+    (Reason::L2OfFloat1Bit, "there is no L2 of 1-bit vectors"),
+    (Reason::OutputTooShort, "the output buffer is too short"),
+    (
+        Reason::WriterDims0,
+        "a 1-bit or Float8 vector cannot have dims 0",
+    ),
+    (Reason::ScratchTooShort, "scratch is too short"),
+    (Reason::BothDistancesNan, "both distances are NaN"),
+    (Reason::FileEndsInside, "the file ends inside a vector"),
 ];
 
-const WORDS: [&str; 18] = [
-    "the blob is over 524,293 bytes",
-    "the type byte is 5 or 6",
-    "the type byte names no kind",
-    "a 1-bit or Float8 blob has nothing before its type byte",
-    "the trailing count is too large",
-    "the trailing bits are too few",
-    "the body length is unfit for kind and dims",
-    "a sparse index is not below dims",
-    "dims are over 65,536",
-    "sparse indices are not in order",
-    "an unused bit is set",
-    "dims differ",
-    "kinds differ",
-    "there is no L2 of 1-bit vectors",
-    "the output buffer is too short",
-    "a 1-bit or Float8 vector cannot have dims 0",
-    "scratch is too short",
-    "both distances are NaN",
-];
+impl Reason {
+    /// The reason of a number; numbers may have gaps.
+    fn numbered(number: u32) -> Option<Reason> {
+        let mut reasons = REASONS.iter().map(|&(reason, _)| reason);
+        reasons.find(|reason| reason.number() == number)
+    }
+
+    fn number(self) -> u32 {
+        u32::from(self as u8)
+    }
+
+    fn words(self) -> &'static str {
+        let mut reasons = REASONS.iter();
+        let found = reasons.find(|&&(reason, _)| reason == self);
+        found.expect("every reason has words").1
+    }
+}
 
 /// Which of several blobs a refusal is about.
 #[derive(Clone, Copy, Debug, PartialEq, Eq, Hash)]
@@ -105,19 +121,20 @@ pub enum Which {
 pub struct Refusal {
     reason: Reason,
     needed: Option<usize>,
+    place: Option<usize>,
     which: Option<Which>,
 }
 
 impl Refusal {
     /// The refusal of a number that an export answered, or none for 0.
     pub(crate) fn numbered(number: u32) -> Option<Refusal> {
-        let place = number.checked_sub(1)?;
-        let reason = *REASONS
-            .get(place as usize)
-            .expect("no refusal has a number over 18");
+        if number == 0 {
+            return None;
+        }
         Some(Refusal {
-            reason,
+            reason: Reason::numbered(number).expect("an export answers a refusal's number"),
             needed: None,
+            place: None,
             which: None,
         })
     }
@@ -129,6 +146,14 @@ impl Refusal {
             Reason::OutputTooShort | Reason::ScratchTooShort
         ) {
             self.needed = Some(needed);
+        }
+        self
+    }
+
+    /// With the place where a vector starts, where the reason carries one.
+    pub(crate) fn starting(mut self, place: usize) -> Refusal {
+        if self.reason == Reason::FileEndsInside {
+            self.place = Some(place);
         }
         self
     }
@@ -149,14 +174,20 @@ impl Refusal {
         self.reason
     }
 
-    /// The number that the rules give the reason, 1 to 18.
+    /// The number that the rules give the reason.
     pub fn number(&self) -> u32 {
-        u32::from(self.reason as u8)
+        self.reason.number()
     }
 
-    /// How long the buffer has to be: of [`Reason::OutputTooShort`] and [`Reason::ScratchTooShort`] only.
+    /// How long the buffer has to be, where it is appended to how many bytes after the fill: of
+    /// [`Reason::OutputTooShort`] and [`Reason::ScratchTooShort`] only.
     pub fn needed(&self) -> Option<usize> {
         self.needed
+    }
+
+    /// Where the vector starts inside which its file ends: of [`Reason::FileEndsInside`] only.
+    pub fn place(&self) -> Option<usize> {
+        self.place
     }
 
     /// Which blob of a distance or of the nearer of two cannot be read; nothing where the refusal is
@@ -168,14 +199,12 @@ impl Refusal {
 
 impl fmt::Display for Refusal {
     fn fmt(&self, f: &mut fmt::Formatter<'_>) -> fmt::Result {
-        write!(
-            f,
-            "refusal {}: {}",
-            self.number(),
-            WORDS[self.reason as usize - 1]
-        )?;
+        write!(f, "refusal {}: {}", self.number(), self.reason.words())?;
         if let Some(needed) = self.needed {
             write!(f, ", {} bytes are needed", needed)?;
+        }
+        if let Some(place) = self.place {
+            write!(f, ", which starts at {}", place)?;
         }
         match self.which {
             Some(Which::First) => write!(f, " (the first blob)"),
@@ -192,26 +221,35 @@ impl Error for Refusal {}
 mod tests {
     use super::*;
 
+    /// The numbers that have a reason.
+    const NUMBERS: std::ops::RangeInclusive<u32> = 1..=19;
+
     #[test]
-    fn reasons_stand_at_their_numbers() {
+    fn reasons_are_found_by_their_numbers() {
         assert_eq!(Refusal::numbered(0), None);
-        for number in 1..=18 {
+        assert_eq!(REASONS.len(), NUMBERS.count());
+        for number in NUMBERS {
             assert_eq!(Refusal::numbered(number).map(|r| r.number()), Some(number));
+        }
+        assert_eq!(Reason::numbered(0), None);
+        assert_eq!(Reason::numbered(NUMBERS.end() + 1), None);
+    }
+
+    #[test]
+    fn every_reason_has_words_of_its_own() {
+        for (i, (reason, words)) in REASONS.iter().enumerate() {
+            assert_eq!(reason.words(), *words);
+            assert!(REASONS[..i].iter().all(|(_, others)| others != words));
         }
     }
 
     #[test]
-    fn only_a_short_buffer_carries_a_need() {
-        for number in 1..=18 {
-            let refusal = Refusal::numbered(number).unwrap().needing(7);
-            assert_eq!(
-                refusal.needed(),
-                if number == 15 || number == 17 {
-                    Some(7)
-                } else {
-                    None
-                }
-            );
+    fn a_reason_carries_what_the_rules_say() {
+        for number in NUMBERS {
+            let refusal = Refusal::numbered(number).unwrap().needing(7).starting(8);
+            let needs = number == 15 || number == 17;
+            assert_eq!(refusal.needed(), if needs { Some(7) } else { None });
+            assert_eq!(refusal.place(), if number == 19 { Some(8) } else { None });
         }
     }
 }

@@ -35,8 +35,8 @@ impl VectorType {
     }
 }
 
-/// A vector's kind, its dims and its body. The body is the first part of the caller's own bytes:
-/// nothing is copied.
+/// A vector's kind, its dims and its body. The body is a part of the caller's own bytes: nothing is
+/// copied.
 #[derive(Clone, Copy, Debug, PartialEq, Eq)]
 pub struct View<'a> {
     kind: VectorType,

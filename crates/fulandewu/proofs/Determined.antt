@@ -4,7 +4,7 @@ use mathlib.Core.Path.{_∙_, sym}
 use mathlib.Core.List.{[], _∷_}
 use denote.Ref.{now}
 use Rattle.promises.specs.Determined.{Determined}
-use Rattle.fulandewu.specs.Fields.{exportOutcome}
+use Rattle.answer_fields.specs.Fields.{exportOutcome}
 use Rattle.fulandewu.proofs.reading.fulandewu_read.Reads as read
 use Rattle.fulandewu.proofs.reading.fulandewu_read_strict.Reads as read-strict
 use Rattle.fulandewu.proofs.writing.fulandewu_write.Reads as write
@@ -17,6 +17,9 @@ use Rattle.fulandewu.proofs.nearest.fulandewu_nearer_cos.Reads as neare
 use Rattle.fulandewu.proofs.nearest.fulandewu_nearer_l2.Reads as nearer-l2
 use Rattle.fulandewu.proofs.nearest.fulandewu_nearer_dot.Reads as nearer-dot
 use Rattle.fulandewu.proofs.nearest.fulandewu_nearer_jaccard.Reads as nearer-jaccard
+use Rattle.fulandewu.proofs.vecs_files.fulandewu_fvecs_read.Reads as fvecs-read
+use Rattle.fulandewu.proofs.vecs_files.fulandewu_bvecs_read.Reads as bvecs-read
+use Rattle.fulandewu.proofs.vecs_files.fulandewu_fvecs_append.Reads as fvecs-append
 
 pub read-determined : (κs : _) (a : _) → Determined (read.Post κs a) (λ r x. exportOutcome r (now (x .1 .0)) [])
 read-determined κs a r r′ x x′ p q = p ∙ sym q
@@ -53,3 +56,12 @@ nearer-dot-determined κs a r r′ x x′ p q = p ∙ sym q
 
 pub nearer-jaccard-determined : (κs : _) (a : _) → Determined (nearer-jaccard.Post κs a) (λ r x. exportOutcome r (now (x .1 .1 .1 .0)) [])
 nearer-jaccard-determined κs a r r′ x x′ p q = p ∙ sym q
+
+pub fvecs-read-determined : (κs : _) (a : _) → Determined (fvecs-read.Post κs a) (λ r x. exportOutcome r (now (x .1 .1 .0)) [])
+fvecs-read-determined κs a r r′ x x′ p q = p ∙ sym q
+
+pub bvecs-read-determined : (κs : _) (a : _) → Determined (bvecs-read.Post κs a) (λ r x. exportOutcome r (now (x .1 .1 .1 .0)) (now (x .1 .1 .0) ∷ []))
+bvecs-read-determined κs a r r′ x x′ p q = p ∙ sym q
+
+pub fvecs-append-determined : (κs : _) (a : _) → Determined (fvecs-append.Post κs a) (λ r x. exportOutcome r (now (x .1 .1 .1 .0)) (now (x .1 .0) ∷ []))
+fvecs-append-determined κs a r r′ x x′ p q = p ∙ sym q

@@ -1,11 +1,11 @@
 -- The customer's examples, and others, through the exports: one table, and one statement about all of it, which antt computes.
 use mathlib.Core.Path.{_≡_, refl}
 use mathlib.Core.List.{List, [], _∷_, _++_, map}
-use Prim.Native.Nat.{ℕ}
+use Prim.Native.Nat.{ℕ, _-_, _^_}
 use lib.ListN.{replicate}
 use lib.Ieee.{add, sub, mul, div, neg, eq, lt, le, isNan, ofInt, ofBits, toBits}
 use Rattle.float_laws.specs.Running.{running, total}
-use Rattle.little_endian.specs.Bytes.{numberAt, bytesOf}
+use Rattle.little_endian.specs.Bytes.{numberAt, bytesOf, put}
 use Rattle.rounding.specs.Root.{root}
 use Rattle.vector_types.specs.Search.{firstFrom}
 use Rattle.vector_types.specs.Layout.{namedKind, byByte, lengthBeforeType, bodyFits, layoutRow}
@@ -18,8 +18,12 @@ use Rattle.distance.specs.Answer.{distanceOf}
 use Rattle.distance.specs.declared.Distance.{Distance}
 use Rattle.distance.specs.declared.Distance.the-variants.{Cos, L2, Dot, Jaccard}
 use Rattle.nearer.specs.Nearer.{nearerOf}
-use Rattle.fulandewu.specs.Fields.{ExportOutcome, exportOutcome}
-use Rattle.fulandewu.specs.Exported.{readExport, writtenBy, writeExport, convertedBy, convertExport, distanceExport, nearerExport}
+use Rattle.convert_parts.specs.Pieces.{pieces}
+use Rattle.vecs.specs.Vecs.{vecsRefusals, vecsAnswerBy, vectorAt, bvecsOf, bvecsOutcome}
+use Rattle.vecs.specs.Append.{appendOf, appendOutcome}
+use Rattle.answer_fields.specs.Fields.{ExportOutcome, exportOutcome}
+use Rattle.answer_fields.specs.Exported.{readExport, writeExport, convertExport, distanceExport, nearerExport, vecsExport, bvecsExport, appendExport}
+use Rattle.fulandewu.specs.Kinds.{writtenBy, convertedBy}
 
 -- what the definitions say that an export leaves, and what is expected
 pub record Example : Type 0 where
@@ -36,9 +40,14 @@ old = 77
 abbrev pub oldAnswer : List ℕ
 oldAnswer = replicate 32 old
 
--- the number returned, the seven fields that an export may write, and the buffers; the other fields are as they were
+-- the number returned, the fields that an export about blobs may write, and the buffers; the other fields are as they were
 abbrev pub row : ℕ → ℕ → ℕ → ℕ → ℕ → ℕ → ℕ → ℕ → List (List ℕ) → ExportOutcome
 row n distance kind dims length needed which nearer = exportOutcome n (distance ∷ kind ∷ dims ∷ length ∷ needed ∷ which ∷ nearer ∷ replicate 25 old)
+
+-- the same of an export about files of vectors
+abbrev pub fileRow : ℕ → ℕ → ℕ → ℕ → ℕ → ℕ → ℕ → ℕ → List (List ℕ) → ExportOutcome
+fileRow n dims needed start next place found fill =
+    exportOutcome n (old ∷ old ∷ dims ∷ old ∷ needed ∷ replicate 5 old ++ (start ∷ next ∷ place ∷ found ∷ fill ∷ replicate 17 old))
 
 abbrev pub reads : (List ℕ → ReadAnswer) → List ℕ → ExportOutcome → Example
 reads reader s = example (readExport (reader s) oldAnswer)
@@ -56,6 +65,16 @@ measures m s t = example (distanceExport (distanceOf m s t) oldAnswer)
 
 abbrev pub finds : Distance → List ℕ → List ℕ → List ℕ → ExportOutcome → Example
 finds m p s t = example (nearerExport (nearerOf m p s t) oldAnswer)
+
+abbrev pub readsFvecs : List ℕ → ℕ → ExportOutcome → Example
+readsFvecs file place = example (vecsExport (vectorAt 4 file place) oldAnswer)
+
+-- for an output of so many bytes
+abbrev pub readsBvecs : List ℕ → ℕ → ℕ → ExportOutcome → Example
+readsBvecs file place room = example (bvecsExport (bvecsOutcome file place (replicate room old)) oldAnswer)
+
+abbrev pub appendsTo : ℕ → List ℕ → ℕ → ExportOutcome → Example
+appendsTo room blob fill = example (appendExport (appendOutcome blob (replicate room old) fill) oldAnswer)
 
 -- a 1-bit blob of dims 8; dense f32 0.0, 1.0, 3.0 and 4.0; a sparse blob of dims 2 with no entry; blobs refused by 2 and by 3
 abbrev pub bits : ℕ → List ℕ
@@ -81,6 +100,13 @@ unsupported = 0x05 ∷ []
 
 abbrev pub unknown : List ℕ
 unknown = 0x07 ∷ []
+
+-- a count of one byte's size, and the vector 1.0 in an fvecs file
+abbrev pub count : ℕ → List ℕ
+count n = n ∷ 0 ∷ 0 ∷ 0 ∷ []
+
+abbrev pub oneVector : List ℕ
+oneVector = count 1 ++ one
 
 abbrev pub table : List Example
 table =
@@ -119,8 +145,26 @@ table =
     ∷ finds Dot one unsupported one (row 2 old old old old old 1 old [])
     ∷ finds Dot one one unknown (row 3 old old old old old 2 old [])
     ∷ finds Jaccard (bits 0) (bits 0) (bits 0) (row 18 old old old old old 0 old [])
+    -- files of vectors: the end and a vector are both answers; a refusal says where the vector starts
+    ∷ readsFvecs [] 0 (fileRow 0 old old old old old 0 old [])
+    ∷ readsFvecs (oneVector ++ oneVector) 8 (fileRow 0 1 old 12 16 old 1 old [])
+    ∷ readsFvecs oneVector 8 (fileRow 0 old old old old old 0 old [])
+    ∷ readsFvecs oneVector (2 ^ 64 - 1) (fileRow 0 old old old old old 0 old [])
+    ∷ readsFvecs (count 0) 0 (fileRow 0 0 old 4 4 old 1 old [])
+    ∷ readsFvecs (oneVector ++ (1 ∷ [])) 8 (fileRow 19 old old old old 8 old old [])
+    ∷ readsFvecs (0xff ∷ 0xff ∷ 0xff ∷ 0xff ∷ []) 0 (fileRow 9 old old old old old old old [])
+    ∷ readsBvecs (count 1 ++ (1 ∷ [])) 0 5 (fileRow 0 1 old 4 5 old 1 old ((one ++ (old ∷ [])) ∷ []))
+    ∷ readsBvecs (count 1 ++ (1 ∷ [])) 0 3 (fileRow 15 old 4 old old old old old (replicate 3 old ∷ []))
+    ∷ readsBvecs (count 1 ++ (1 ∷ [])) 5 3 (fileRow 0 old old old old old 0 old (replicate 3 old ∷ []))
+    ∷ readsBvecs (count 1) 0 5 (fileRow 19 old old old old 0 old old (replicate 5 old ∷ []))
+    -- what is needed is counted from the fill on, also where that is past the end
+    ∷ appendsTo 10 one 1 (fileRow 0 old old old old old old 9 ((old ∷ oneVector ++ (old ∷ [])) ∷ []))
+    ∷ appendsTo 10 one 3 (fileRow 15 old 8 old old old old old (replicate 10 old ∷ []))
+    ∷ appendsTo 10 one (2 ^ 64 - 1) (fileRow 15 old 8 old old old old old (replicate 10 old ∷ []))
+    ∷ appendsTo 10 (bits 0xaa) 0 (fileRow 13 old old old old old old old (replicate 10 old ∷ []))
+    ∷ appendsTo 10 unknown 0 (fileRow 3 old old old old old old old (replicate 10 old ∷ []))
     ∷ []
 
 pub table-holds : map (λ (e : Example). e .defined) table ≡ map (λ (e : Example). e .expected) table
-unfolding readOf strictOf bodyOf namedKind byByte lengthBeforeType bodyFits refusals strictRefusals shown firstFrom numberAt layoutRow writtenBy writeOf writeOutcome writeRefusals tailOf blobOf bytesOf convertedBy convertOutcome distanceOf nearerOf running total root add sub mul div neg eq lt le isNan ofInt ofBits toBits
+unfolding readOf strictOf bodyOf namedKind byByte lengthBeforeType bodyFits refusals strictRefusals shown firstFrom numberAt layoutRow writtenBy writeOf writeOutcome writeRefusals tailOf blobOf bytesOf convertedBy convertOutcome distanceOf nearerOf vectorAt vecsAnswerBy vecsRefusals bvecsOutcome bvecsOf pieces appendOutcome appendOf put running total root add sub mul div neg eq lt le isNan ofInt ofBits toBits
 table-holds = refl

@@ -1,4 +1,2 @@
 pub mod Kinds
-pub mod Fields
-pub mod Exported
 pub mod Examples

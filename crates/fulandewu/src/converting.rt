@@ -1,15 +1,14 @@
 // Converting a blob to another kind.
 ghost use mathlib.Core.Path.{_≡_};
 ghost use mathlib.Core.List.{[], _∷_};
-ghost use Rattle.convert.specs.Convert.{convertNumber, convertLeaving};
-ghost use Rattle.fulandewu.specs.Fields.{exportOutcome, leaves};
-ghost use Rattle.fulandewu.specs.Exported.{convertedBy, convertFields, convertExport};
-use crate::fields::Answer;
-use crate::fields::DIMS;
-use crate::fields::LENGTH;
+ghost use Rattle.convert.specs.Convert.{convertLeaving};
+ghost use Rattle.answer_fields.specs.Fields.{exportOutcome};
+ghost use Rattle.answer_fields.specs.Exported.{convertExport};
+ghost use Rattle.fulandewu.specs.Kinds.{convertedBy};
 use crate::kinds::Chosen;
 use crate::kinds::kind_of;
-use crate::refusing::report_refusal;
+use answer_fields::Answer;
+use answer_fields::report_converted;
 use convert::ConvertAnswer;
 
 // Converts a blob to the kind that a byte names.
@@ -19,20 +18,6 @@ fn convert_as(blob: &[u8], kind: u8, scratch: &mut [u8], out: &mut [u8]) -> Conv
     match kind_of(kind) {
         Chosen::Kind(target) => convert::convert(blob, target, scratch, out),
         Chosen::Refused(refusal) => ConvertAnswer::Refused(refusal),
-    }
-}
-
-// The number of a conversion's answer; the dims and the length of the new body are written.
-fn report(found: ConvertAnswer, answer: &mut Answer) -> u32
-    ensures { λ r. ⌜ exportOutcome r (now (answer .exit)) [] ≡ leaves (convertNumber found) (convertFields found) (now (answer .entry)) [] ⌝ }
-{
-    match found {
-        ConvertAnswer::Converted(view) => {
-            answer[DIMS] = view.dims.0 as u64;
-            answer[LENGTH] = view.length as u64;
-            0
-        }
-        ConvertAnswer::Refused(refusal) => report_refusal(refusal, answer),
     }
 }
 
@@ -50,5 +35,5 @@ pub extern "C" fn fulandewu_convert(
         ≡ convertExport (convertedBy (now (blob .entry)) kind (now (scratch .entry)) (now (out .entry))) (now (answer .entry)) ⌝ }
 {
     let found = convert_as(blob, kind, scratch, out);
-    report(found, answer)
+    report_converted(found, answer)
 }

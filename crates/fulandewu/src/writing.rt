@@ -1,15 +1,14 @@
 // Writing a blob.
 ghost use mathlib.Core.Path.{_≡_};
 ghost use mathlib.Core.List.{[], _∷_};
-ghost use Rattle.blob_writer.specs.Answers.{writeNumber};
 ghost use Rattle.blob_writer.specs.Write.{writeLeaving};
-ghost use Rattle.fulandewu.specs.Fields.{exportOutcome, leaves};
-ghost use Rattle.fulandewu.specs.Exported.{writtenBy, writeFields, writeExport};
-use crate::fields::Answer;
-use crate::fields::LENGTH;
+ghost use Rattle.answer_fields.specs.Fields.{exportOutcome};
+ghost use Rattle.answer_fields.specs.Exported.{writeExport};
+ghost use Rattle.fulandewu.specs.Kinds.{writtenBy};
 use crate::kinds::Chosen;
 use crate::kinds::kind_of;
-use crate::refusing::report_refusal;
+use answer_fields::Answer;
+use answer_fields::report_written;
 use blob_writer::WriteAnswer;
 use vector_types::Dims;
 
@@ -20,19 +19,6 @@ fn write_as(kind: u8, dims: usize, body: &[u8], out: &mut [u8]) -> WriteAnswer
     match kind_of(kind) {
         Chosen::Kind(named) => blob_writer::write(named, Dims(dims), body, out),
         Chosen::Refused(refusal) => WriteAnswer::Refused(refusal),
-    }
-}
-
-// The number of a writer's answer; the length of the blob is written.
-fn report(found: WriteAnswer, answer: &mut Answer) -> u32
-    ensures { λ r. ⌜ exportOutcome r (now (answer .exit)) [] ≡ leaves (writeNumber found) (writeFields found) (now (answer .entry)) [] ⌝ }
-{
-    match found {
-        WriteAnswer::Written(length) => {
-            answer[LENGTH] = length as u64;
-            0
-        }
-        WriteAnswer::Refused(refusal) => report_refusal(refusal, answer),
     }
 }
 
@@ -49,5 +35,5 @@ pub extern "C" fn fulandewu_write(
     ensures { λ r. ⌜ exportOutcome r (now (answer .exit)) (now (out .exit) ∷ []) ≡ writeExport (writtenBy kind dims (now (body .entry)) (now (out .entry))) (now (answer .entry)) ⌝ }
 {
     let found = write_as(kind, dims, body, out);
-    report(found, answer)
+    report_written(found, answer)
 }

@@ -1,5 +1,5 @@
 -- `converting::convert_as` meets its contract: the kind that the byte names is converted to, or its refusal is handed on.
-use Rattle.fulandewu.specs.Exported.{convertedBy}
+use Rattle.fulandewu.specs.Kinds.{convertedBy}
 use borrow.Author.Needs.{needs}
 use Rattle.fulandewu.proofs.converting.convert_as.Statement.{statement}
 use Rattle.fulandewu.proofs.converting.convert_as.Tie as tie

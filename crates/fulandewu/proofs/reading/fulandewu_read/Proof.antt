@@ -4,7 +4,7 @@ use Rattle.fulandewu.proofs.reading.fulandewu_read.Statement.{statement
 use Rattle.fulandewu.proofs.reading.fulandewu_read.Tie as tie
 
 returns : tie.Need-returns
-returns c = rw (c .before .before .read .ensures) at (c .report .ensures)
+returns c = rw (c .before .before .read .ensures) at (c .report-view .ensures)
 
 pub fulandewu-read-spec : {M : Type 1} → statement M
 fulandewu-read-spec = tie.close (tie.spec (λ c κs. search needs) (λ c κs. search needs) returns)

@@ -1,5 +1,5 @@
 -- `writing::write_as` meets its contract: a blob of the kind that the byte names is written, or its refusal is handed on.
-use Rattle.fulandewu.specs.Exported.{writtenBy}
+use Rattle.fulandewu.specs.Kinds.{writtenBy}
 use borrow.Author.Needs.{needs}
 use Rattle.fulandewu.proofs.writing.write_as.Statement.{statement}
 use Rattle.fulandewu.proofs.writing.write_as.Tie as tie
