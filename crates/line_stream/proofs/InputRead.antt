@@ -13,7 +13,7 @@ use Rattle.line_stream.specs.declared.InputText.{InputText}
 use Rattle.line_stream.specs.declared.ServedText.{ServedText}
 use Rattle.line_stream.proofs.Cutting.{none-ended-take, none-ended-unfinished, ended-line, unfinished-line, count-le}
 
-flatten-more : (pieces : List (List ℕ)) (s : List ℕ) → length (flatten (pieces ++ (s ∷ []))) ≡ length (flatten pieces) + length s
+pub flatten-more : (pieces : List (List ℕ)) (s : List ℕ) → length (flatten (pieces ++ (s ∷ []))) ≡ length (flatten pieces) + length s
 unfolding flatten
 flatten-more [] s = rw append-nil (omega arith)
 flatten-more (t ∷ pieces) s = simp length-append (omega (arith, flatten-more pieces s))

@@ -71,6 +71,6 @@ module _ (l : List ℕ) (from end most n : ℕ) (size : n ≡ min most (end - fr
       let same : take n (drop from l) ≡ take n l = rw e in
       puts-same (sym (text ∙ same)) (prefix-puts n l (omega arith))
 
-pub kept-few : (most : ℕ) (line : List ℕ) → length (keptOf most line) ≤ most
+pub kept-few : (most : ℕ) (line : List ℕ) → (length (keptOf most line) ≤ most) × (length (keptOf most line) ≤ length line)
 unfolding keptOf
-kept-few most line = omega (arith, length-take most line)
+kept-few most line = (omega (arith, length-take most line), omega (arith, length-take most line))

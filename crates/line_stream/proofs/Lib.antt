@@ -2,6 +2,7 @@
 pub mod Keeping
 pub mod Cutting
 pub mod NumberedReply
+pub mod Answering
 pub mod Serving
 pub mod Determined
 pub mod ServingAll

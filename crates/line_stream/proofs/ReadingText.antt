@@ -1,25 +1,25 @@
--- Laws of the text that is read next: bytes that came behind the line that is held, or its newline at the end of the input.
+-- Laws of the text that is read next: bytes that came behind what was kept, or at the end of the input the newline of a line.
 use mathlib.Core.Path.{_≡_, refl, sym, _∙_, subst}
-use mathlib.Core.Bool.{Bool, true, false, cond, _&&_, false≢true}
+use mathlib.Core.Bool.{Bool, true, false, cond, not, _&&_, false≢true}
 use mathlib.Core.List.{List, [], _∷_, _++_}
 use Prim.Native.Nat.{ℕ, _+_, _-_, _<_, _≤_}
 use native.Mathlib.Omega.{arith}
 use native.Mathlib.Numerals.{add-one}
-use borrow.Author.Tests.{eq-eqb, ne-eqb}
+use borrow.Author.Tests.{eq-eqb, ne-eqb, eqb-true, eqb-false, not-true, not-false}
+use lib.Dec.{eqb}
 use lib.ListN.{length, take, drop, set, length-set, drop-of-length-le}
 use lib.Seq.{take-suc-set, take-take, take-at, drop-at, length-take-le}
 use Rattle.lines.specs.Text.{newline}
-use Rattle.line_stream.specs.inner.Stream.{lastNewline}
-use Rattle.line_stream.specs.inner.Reading.{PieceFits, HoldsText}
+use Rattle.line_stream.specs.inner.Reading.{PieceFits, HoldsInput, HoldsPiece, HoldsText}
 use Rattle.line_stream.specs.declared.Piece.{Piece}
 use Rattle.line_stream.specs.declared.Piece.the-variants.{Bytes}
 use Rattle.line_stream.specs.declared.InputText.{InputText}
 use Rattle.line_stream.proofs.ServingAll.{goes-on}
 
 -- no more comes
-module _ {line buffer : List ℕ} {count : ℕ} (end left : ℕ) (failed : Bool) (size : count ≡ length line) (front : take count buffer ≡ line) where
-  pub text-ended : count ≤ end → end ≤ length buffer → drop count (take end buffer) ≡ cond failed [] (lastNewline line)
-      → HoldsText line left buffer (record { count = count; end = end; left = left; more = false; failed = failed })
+module _ {kept ending buffer : List ℕ} {count : ℕ} (end left : ℕ) (failed : Bool) (size : count ≡ length kept) (front : take count buffer ≡ kept) where
+  pub text-ended : count ≤ end → end ≤ length buffer → drop count (take end buffer) ≡ cond failed [] ending
+      → HoldsInput kept ending left buffer (record { count = count; end = end; left = left; more = false; failed = failed })
   text-ended le fits rest = record {
     count = size;
     front = front;
@@ -31,9 +31,9 @@ module _ {line buffer : List ℕ} {count : ℕ} (end left : ℕ) (failed : Bool)
   }
 
 -- where the read failed
-pub piece-failed : {line buffer : List ℕ} {count : ℕ} (left : ℕ) → count ≡ length line → take count buffer ≡ line → count ≤ length buffer
-    → HoldsText line left buffer (record { count = count; end = count; left = left; more = false; failed = true })
-piece-failed {line} {buffer} {count} left size front fits =
+pub piece-failed : {kept buffer : List ℕ} {count : ℕ} (left : ℕ) → count ≡ length kept → take count buffer ≡ kept → count ≤ length buffer
+    → HoldsPiece kept left buffer (record { count = count; end = count; left = left; more = false; failed = true })
+piece-failed {kept} {buffer} {count} left size front fits =
     text-ended count left true size front (omega arith) fits (drop-of-length-le (take count buffer) {i = count} (omega (arith, length-take-le count buffer fits)))
 
 -- where the input is at its end, and the line is the first bytes of the buffer
@@ -57,20 +57,39 @@ module _ (buffer : List ℕ) (count left : ℕ) (less : count < length buffer) w
 pub bytes-fit : (count room left : ℕ) {n : ℕ} {r : Piece} → r ≡ Bytes n → PieceFits count room left r → (count + n ≤ room) × (n ≤ left)
 bytes-fit count room left e f = subst (λ (x : Piece). PieceFits count room left x) e f
 
-pub piece-held : {line buffer : List ℕ} {count : ℕ} (n left : ℕ) → count ≡ length line → take count buffer ≡ line → count + n ≤ length buffer → n ≤ left → (n ≡ 0 → ⊥)
-    → HoldsText line left buffer (record { count = count; end = count + n; left = left - n; more = true; failed = false })
-piece-held n left size front fits few some = record {
+pub piece-read : {kept buffer : List ℕ} {count : ℕ} (n left : ℕ) → count ≡ length kept → take count buffer ≡ kept → count + n ≤ length buffer → n ≤ left
+    → HoldsPiece kept left buffer (record { count = count; end = count + n; left = left - n; more = not (eqb n 0); failed = false })
+piece-read {kept} {buffer} {count} n left size front fits few = record {
   count = size;
   front = front;
   within = omega arith;
   fits = fits;
-  some = λ _. omega (arith, some);
+  some = λ e. omega (arith, eqb-false n 0 (not-true (eqb n 0) e));
   fewer = λ _. omega arith;
-  last = λ e. absurd (false≢true (sym e));
+  last = λ e. drop-of-length-le (take (count + n) buffer) {i = count} (omega (arith, eqb-true n 0 (not-false (eqb n 0) e), length-take-le (count + n) buffer fits));
 }
 
+-- a piece behind a line, while the input may go on and where a read failed
+module _ {line buffer : List ℕ} {left : ℕ} {t : InputText} (h : HoldsPiece line left buffer t) where
+  with-ending : (t .more ≡ false → t .failed ≡ true) → HoldsText line left buffer t
+  with-ending fails = record {
+    count = h .count;
+    front = h .front;
+    within = h .within;
+    fits = h .fits;
+    some = h .some;
+    fewer = h .fewer;
+    last = λ e. h .last e ∙ rw (fails e);
+  }
+
+  pub text-goes-on : t .more ≡ true → HoldsText line left buffer t
+  text-goes-on more = with-ending (λ e. absurd (false≢true (sym e ∙ more)))
+
+  pub text-failed : t .failed ≡ true → HoldsText line left buffer t
+  text-failed fails = with-ending (λ _. fails)
+
 -- the loop over texts goes on while the input may and all replies are written, and it ends: fewer bytes are left each time
-pub left-fewer : {line buffer : List ℕ} {left : ℕ} {t : InputText} → HoldsText line left buffer t → (written : Bool) → cond (t .more && written) (t .left + 1) 0 < left + 1
+pub left-fewer : {kept ending buffer : List ℕ} {left : ℕ} {t : InputText} → HoldsInput kept ending left buffer t → (written : Bool) → cond (t .more && written) (t .left + 1) 0 < left + 1
 left-fewer {left = left} {t} h written = go (t .more && written) refl
   where
     go : (on : Bool) → t .more && written ≡ on → cond on (t .left + 1) 0 < left + 1

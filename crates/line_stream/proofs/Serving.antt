@@ -1,27 +1,28 @@
 -- Laws of the lines of a text that are answered, one after another: the turns of the programs' loops, over what they reply to a line.
 use mathlib.Core.Path.{_≡_, refl, ap, _∙_, sym}
 use mathlib.Core.Bool.{true, false}
-use mathlib.Core.Logic.{_⊎_, inl, inr}
-use mathlib.Core.List.{List, [], _∷_, _++_, append-nil, append-assoc}
+use mathlib.Core.Logic.{_⊎_, ⊎-elim, inl, inr}
+use mathlib.Core.List.{List, [], _∷_, _++_}
 use Prim.Native.Nat.{ℕ, _+_, _-_, _<_, _≤_}
 use native.Mathlib.Omega.{arith}
 use native.Mathlib.Decide.{decLt}
 use native.Mathlib.Numerals.{add-one}
-use borrow.Author.Tests.{le-leb, lt-leb, lt-ltb, le-ltb, ltb-true, ltb-false}
+use borrow.Author.Tests.{lt-ltb, le-ltb, ltb-true, ltb-false}
 use borrow.Rule.Slice.PartMut.{putMid}
 use lib.Dec.{ltb}
 use lib.ListN.{length, take, drop, length-append, length-drop, take-append-drop}
 use lib.Seq.{length-take-le, take-add, drop-drop}
 use Rattle.bytes.specs.Bytes.{indexOf, slice}
 use Rattle.promises.specs.Puts.{Puts}
-use Rattle.promises.proofs.Puts.{puts-same, puts-none, puts-then, puts-within}
+use Rattle.promises.proofs.Puts.{puts-within}
 use Rattle.lines.specs.Text.{newline}
-use Rattle.lines.specs.Printed.{numberedReply, numberedReplies}
+use Rattle.lines.specs.Printed.{numberedReply}
 use Rattle.lines.proofs.Parting.{slice-from, index-le, index-at}
 use Rattle.line_stream.specs.inner.Stream.{endedLines, unfinishedLine}
-use Rattle.line_stream.specs.inner.Serving.{answeredLines, Serves}
+use Rattle.line_stream.specs.inner.Serving.{Serves}
 use Rattle.line_stream.specs.declared.ServedLines.{ServedLines}
-use Rattle.line_stream.proofs.Cutting.{ended-append, unfinished-append, with-newline, none-ended, found-later, count-le, replies-append}
+use Rattle.line_stream.proofs.Cutting.{ended-append, unfinished-append, with-newline, none-ended, found-later, count-le}
+use Rattle.line_stream.proofs.Answering.{no-lines, Answered, none-answered, some-answered, next-answered, answered-stopped}
 
 -- where `bytes::find` found a newline: at the end of the line that starts at `at`
 pub record LineEnd (text : List ℕ) (at end : ℕ) : Type 0 where
@@ -79,78 +80,46 @@ lines-left text at end found le start =
     ]
 
 module _ (reply : List ℕ → List ℕ) (longest : ℕ) where
-  answered-some : (n room : ℕ) (l : List ℕ) (ls : List (List ℕ)) → longest ≤ room
-      → answeredLines reply longest n room (l ∷ ls) ≡ l ∷ answeredLines reply longest (n + 1) (room - length (numberedReply n (reply l))) ls
-  unfolding answeredLines
-  answered-some n room l ls fits = rw (le-leb longest room fits)
-
-  answered-none : (n room : ℕ) (ls : List (List ℕ)) → room < longest → answeredLines reply longest n room ls ≡ []
-  unfolding answeredLines
-  answered-none n room [] less = refl
-  answered-none n room (l ∷ ls) less = rw (lt-leb longest room less)
-
-  -- the lines up to `at` are answered, b of all lines end there, and `filled` bytes of o are replies; those ahead are answered as far as there is room
+  -- the lines up to `at`, where one starts, are answered
   pub record LinesServed (text : List ℕ) (before : ℕ) (out o : List ℕ) (at b filled : ℕ) : Type 0 where
     pub within : at ≤ length text
     pub start : unfinishedLine [] (take at text) ≡ []
-    pub numbered : b ≡ before + length (endedLines [] (take at text))
-    pub replies : Puts (numberedReplies reply (before + 1) (endedLines [] (take at text))) out filled o
-    pub ahead : answeredLines reply longest (before + 1) (length out) (endedLines [] text)
-        ≡ endedLines [] (take at text) ++ answeredLines reply longest (b + 1) (length out - filled) (endedLines [] (drop at text))
+    pub answered : Answered reply longest (endedLines [] text) (endedLines [] (take at text)) (endedLines [] (drop at text)) before out o b filled
 
   pub lines-served-none : (text : List ℕ) (before : ℕ) (out : List ℕ) → LinesServed text before out out 0 before 0
-  unfolding endedLines unfinishedLine numberedReplies
-  lines-served-none text before out =
-      let all : length out - 0 ≡ length out = omega arith in
-      record { within = omega arith; start = refl; numbered = omega arith; replies = puts-none out; ahead = rw all refl }
+  unfolding endedLines unfinishedLine
+  lines-served-none text before out = record { within = omega arith; start = refl; answered = none-answered reply longest (endedLines [] text) before out }
 
   -- the reply to the next line, for which the part of out after the other replies was lent
   pub lines-served-next : {text out o ys : List ℕ} {before at b filled end n : ℕ} → LinesServed text before out o at b filled → LineEnd text at end → end < length text
       → length o ≡ length out → longest ≤ length o - filled
       → Puts (numberedReply (b + 1) (reply (take (end - at) (drop at text)))) (take (length o - filled) (drop filled o)) n ys
       → LinesServed text before out (putMid filled (length o - filled) o ys) (end + 1) (b + 1) (filled + n)
-  unfolding numberedReplies
   lines-served-next {text} {out} {o} {ys} {before} {at} {b} {filled} {end} {n} s found less same room put =
       let l = line text at end found (s .within) in
-      let done = endedLines [] (take at text) in
-      let rest = endedLines [] (drop (end + 1) text) in
       let far : end + 1 ≡ at + (end + 1 - at) = omega (arith, found .place) in
       let bytes : take (end + 1) text ≡ take at text ++ (l ++ (newline ∷ []))
       = rw (far, take-add at (end + 1 - at) text, line-taken text at end found (s .within) less) refl in
       let w = line-ends text at end found (s .within) less in
-      let ends : endedLines [] (take (end + 1) text) ≡ done ++ (l ∷ []) = rw bytes (ended-append [] (take at text) (l ++ (newline ∷ [])) ∙ rw (s .start, w .0)) in
-      let number : before + 1 + length done ≡ b + 1 = omega (arith, s .numbered) in
-      let replies : numberedReplies reply (before + 1) done ++ numberedReply (b + 1) (reply l) ≡ numberedReplies reply (before + 1) (endedLines [] (take (end + 1) text))
-      = rw (ends, replies-append reply (before + 1) done (l ∷ []), number, append-nil) refl in
-      let fewer : length out - filled - length (numberedReply (b + 1) (reply l)) ≡ length out - (filled + n) = omega (arith, put .size) in
+      let ends : endedLines [] (take (end + 1) text) ≡ endedLines [] (take at text) ++ (l ∷ [])
+      = rw bytes (ended-append [] (take at text) (l ++ (newline ∷ [])) ∙ rw (s .start, w .0)) in
       record {
         within = omega arith;
         start = rw bytes (unfinished-append [] (take at text) (l ++ (newline ∷ [])) ∙ rw (s .start, w .1));
-        numbered = omega (arith, s .numbered, ap length ends, length-append done (l ∷ []));
-        replies = puts-same replies (puts-then (s .replies) put);
-        ahead = s .ahead ∙ rw (lines-ahead text at end found (s .within) less, answered-some (b + 1) (length out - filled) l rest (omega (arith, same, room)), fewer, ends, append-assoc) refl;
+        answered = rw ends (next-answered reply longest (rw (lines-ahead text at end found (s .within) less) at (s .answered)) same room put);
       }
 
   -- no newline is found, or there is no room for the next reply
-  stopped-none : (n room : ℕ) (text : List ℕ) (at end : ℕ) → LineEnd text at end → at ≤ length text → (length text ≤ end) ⊎ (room < longest)
-      → answeredLines reply longest n room (endedLines [] (drop at text)) ≡ []
-  unfolding answeredLines
-  stopped-none n room text at end found le (inl over) = rw (no-line-ahead text at end found le over)
-  stopped-none n room text at end found le (inr less) = answered-none n room (endedLines [] (drop at text)) less
-
   pub serves-stopped : {text out o : List ℕ} {before at b filled : ℕ} (end : ℕ) → LinesServed text before out o at b filled → LineEnd text at end
       → (length text ≤ end) ⊎ (length out - filled < longest) → Serves reply longest text before out o (record { at = at; before = b; filled = filled; more = ltb end (length text) })
-  serves-stopped {text} {out} {o} {before} {at} {b} {filled} end s found stop =
-      let done = endedLines [] (take at text) in
-      let none = stopped-none (b + 1) (length out - filled) text at end found (s .within) stop in
-      record {
-        within = s .within;
-        start = s .start;
-        lines = sym (s .ahead ∙ ap (λ (ls : List (List ℕ)). done ++ ls) none ∙ append-nil done);
-        numbered = s .numbered;
-        replies = s .replies;
-        more = lines-left text at end found (s .within) (s .start);
-      }
+  serves-stopped {text} {out} {o} {before} {at} {b} {filled} end s found stop = record {
+    within = s .within;
+    start = s .start;
+    lines = answered-stopped reply longest (s .answered) (⊎-elim (λ over. inl (no-line-ahead text at end found (s .within) over)) inr stop);
+    numbered = s .answered .numbered;
+    replies = s .answered .replies;
+    more = lines-left text at end found (s .within) (s .start);
+  }
 
   -- what a loop's arithmetic needs
   pub record ServedBounds (before : ℕ) (out : List ℕ) (at b filled : ℕ) : Type 0 where
@@ -159,8 +128,8 @@ module _ (reply : List ℕ → List ℕ) (longest : ℕ) where
 
   pub served-bounds : {text out o : List ℕ} {before at b filled : ℕ} → LinesServed text before out o at b filled → length o ≡ length out → ServedBounds before out at b filled
   served-bounds {text} {at = at} s same = record {
-    fits = puts-within (s .replies) same;
-    numbered = omega (arith, s .numbered, count-le [] (take at text), length-take-le at text (s .within));
+    fits = puts-within (s .answered .replies) same;
+    numbered = omega (arith, s .answered .numbered, count-le [] (take at text), length-take-le at text (s .within));
   }
 
   -- what `more` says: no line is left, or some were answered
@@ -170,19 +139,10 @@ module _ (reply : List ℕ → List ℕ) (longest : ℕ) where
         let done = endedLines [] (take (r .at) text) in
         let rest = endedLines [] (drop (r .at) text) in
         let sum = ap length (lines-cut text (r .at) (s .start)) ∙ length-append done rest in
-        none rest (omega (arith, sum, ltb-false (length done) (length (endedLines [] text)) (sym (s .more) ∙ e)))
-      where
-        none : (ls : List (List ℕ)) → length ls ≡ 0 → ls ≡ []
-        none [] z = refl
-        none (l ∷ ls) z = absurd (omega arith)
-
-    first-answered : (ls : List (List ℕ)) → longest ≤ length out → 0 < length ls → 0 < length (answeredLines reply longest (before + 1) (length out) ls)
-    unfolding answeredLines
-    first-answered [] fits some = some
-    first-answered (l ∷ ls) fits some = rw (answered-some (before + 1) (length out) l ls fits) (omega arith)
+        no-lines rest (omega (arith, sum, ltb-false (length done) (length (endedLines [] text)) (sym (s .more) ∙ e)))
 
     pub serves-some : longest ≤ length out → r .more ≡ true → 0 < r .at
     serves-some fits e =
         let t = take (r .at) text in
         let more = ltb-true (length (endedLines [] t)) (length (endedLines [] text)) (sym (s .more) ∙ e) in
-        omega (arith, first-answered (endedLines [] text) fits (omega (arith, more)), ap length (s .lines), count-le [] t, length-take-le (r .at) text (s .within))
+        omega (arith, some-answered reply longest (before + 1) (length out) (endedLines [] text) fits (omega (arith, more)), ap length (s .lines), count-le [] t, length-take-le (r .at) text (s .within))

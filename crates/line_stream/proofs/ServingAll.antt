@@ -46,9 +46,17 @@ pub goes-on : (more written : Bool) → more && written ≡ true → (more ≡ t
 goes-on true written e = (refl, e)
 goes-on false written e = absurd (false≢true e)
 
-stopped : (more written : Bool) → more && written ≡ false → written ≡ true → more ≡ false
+pub stopped : (more written : Bool) → more && written ≡ false → written ≡ true → more ≡ false
 stopped true written e w = absurd (false≢true (sym e ∙ w))
 stopped false written e w = refl
+
+-- and it ends: a turn passes bytes, or it is the last
+pub turn-shorter : (size at passed : ℕ) (more written : Bool) → (more ≡ true → 0 < passed) → at + passed ≤ size → size - (at + passed) + cond (more && written) 1 0 < size - at + 1
+turn-shorter size at passed more written some le = go (more && written) refl
+  where
+    go : (on : Bool) → more && written ≡ on → size - (at + passed) + cond on 1 0 < size - at + 1
+    go true e = omega (arith, some (goes-on more written e .0))
+    go false e = omega arith
 
 module _ (text : List ℕ) (at : ℕ) {reply : List ℕ → List ℕ} {longest : ℕ} {out out′ : List ℕ} {b : ℕ} {r : ServedLines}
     (s : Serves reply longest (take (length text - at) (drop at text)) b out out′ r) where
@@ -74,13 +82,8 @@ module _ (text : List ℕ) (at : ℕ) {reply : List ℕ → List ℕ} {longest :
   pub none-left : (written : Bool) → r .more && written ≡ false → written ≡ true → endedLines [] (drop (at + r .at) text) ≡ []
   none-left written e w = rw (← drop-drop (r .at) at text, ← tail-lent at text) (serves-no-more reply longest s (stopped (r .more) written e w))
 
-  -- and it ends: bytes are passed, or it does not go on
   pub rest-shorter : (written : Bool) → longest ≤ length out → at + r .at ≤ length text → length text - (at + r .at) + cond (r .more && written) 1 0 < length text - at + 1
-  rest-shorter written fits le = go (r .more && written) refl
-    where
-      go : (on : Bool) → r .more && written ≡ on → length text - (at + r .at) + cond on 1 0 < length text - at + 1
-      go true e = omega (arith, serves-some reply longest s fits (goes-on (r .more) written e .0))
-      go false e = omega arith
+  rest-shorter written fits le = turn-shorter (length text) at (r .at) (r .more) written (serves-some reply longest s fits) le
 
 pub all-served : {text : List ℕ} {before at : ℕ} {held : HeldLine} {written : Bool} → TextServedUpTo text before at held → endedLines [] (drop at text) ≡ []
     → ServesAll text before (record { at = at; before = held .before; written = written })

@@ -1,12 +1,12 @@
-// An input that comes in pieces and is cut into lines. The line that no newline has ended yet stands
-// at the start of a buffer, and the next piece is read in behind it.
+// An input that comes in pieces. What is left of it stands at the start of a buffer, and the next piece
+// is read in behind it. Of an input that is cut into lines that is the line that no newline has ended yet.
 ghost use mathlib.Core.Path.{_≡_};
 ghost use Prim.Native.Nat.{_+_, _≤_, _<_, min};
 ghost use lib.ListN.{length, take, drop};
 ghost use Rattle.promises.specs.Onto.{onto};
 ghost use Rattle.promises.specs.Puts.{Puts};
 ghost use Rattle.line_stream.specs.inner.Stream.{keptOf};
-ghost use Rattle.line_stream.specs.inner.Reading.{Reads, HoldsText};
+ghost use Rattle.line_stream.specs.inner.Reading.{Reads, HoldsPiece, HoldsText};
 
 // The line that starts a text: how many of its bytes were looked at and hold no newline, and how many
 // lines came before it.
@@ -33,8 +33,8 @@ pub struct ServedText {
     pub written: bool,
 }
 
-// A text at the start of a buffer, up to `end`: the first `count` bytes are the line that was held.
-// `left` bytes may still be read; `more` says that the input may go on, and `failed` that a read failed.
+// A text at the start of a buffer, up to `end`: the first `count` bytes are those that were kept. `left`
+// bytes may still be read; `more` says that the input may go on, and `failed` that a read failed.
 pub struct InputText {
     pub count: usize,
     pub end: usize,
@@ -100,6 +100,34 @@ fn keep(buffer: &mut [u8], from: usize, end: usize, most: usize) -> usize
     n
 }
 
+// Keeps the bytes from `at` up to `end`, at most `most` of them, and reads the input on behind them.
+pub fn next_piece(buffer: &mut [u8], at: usize, end: usize, most: usize, left: u64) -> InputText
+    requires { ⌜ at ≤ end ⌝ }
+    requires { ⌜ end ≤ length (now buffer) ⌝ }
+    ensures { λ r. ⌜ HoldsPiece (keptOf most (drop at (take end (now (buffer .entry))))) left (now (buffer .exit)) r ⌝ }
+{
+    let count = keep(buffer, at, end, most);
+    let piece = read_behind(buffer, count, left);
+    let Piece::Bytes(n) = piece else {
+        return InputText {
+            count,
+            end: count,
+            left,
+            more: false,
+            failed: true,
+        };
+    };
+    let end = count + n;
+    let left = left - n as u64;
+    InputText {
+        count,
+        end,
+        left,
+        more: n != 0,
+        failed: false,
+    }
+}
+
 // At the end of the input: a line that has bytes gets its newline.
 fn last_text(buffer: &mut [u8], count: usize, left: u64) -> InputText
     requires { ⌜ count < length (now buffer) ⌝ }
@@ -119,35 +147,20 @@ fn last_text(buffer: &mut [u8], count: usize, left: u64) -> InputText
     }
 }
 
-// Keeps the line that stands from `at` up to `end`, at most `most` bytes of it, and reads the input on
-// behind it.
+// The next piece behind the line that stands from `at` up to `end`, of which at most `most` bytes are
+// kept; at the end of the input the line's newline.
 pub fn next_text(buffer: &mut [u8], at: usize, end: usize, most: usize, left: u64) -> InputText
     requires { ⌜ at ≤ end ⌝ }
     requires { ⌜ end ≤ length (now buffer) ⌝ }
     requires { ⌜ most < length (now buffer) ⌝ }
     ensures { λ r. ⌜ HoldsText (keptOf most (drop at (take end (now (buffer .entry))))) left (now (buffer .exit)) r ⌝ }
 {
-    let count = keep(buffer, at, end, most);
-    let piece = read_behind(buffer, count, left);
-    let Piece::Bytes(n) = piece else {
-        return InputText {
-            count,
-            end: count,
-            left,
-            more: false,
-            failed: true,
-        };
-    };
-    if n == 0 {
-        return last_text(buffer, count, left);
+    let text = next_piece(buffer, at, end, most, left);
+    if text.more {
+        return text;
     }
-    let end = count + n;
-    let left = left - n as u64;
-    InputText {
-        count,
-        end,
-        left,
-        more: true,
-        failed: false,
+    if text.failed {
+        return text;
     }
+    last_text(buffer, text.count, left)
 }

@@ -1,87 +1,46 @@
--- `next_text` meets its contract: the line is kept, and a piece is read behind it or its newline put there.
-use mathlib.Core.Path.{_≡_, _∙_}
-use Prim.Native.Nat.{_+_, _≤_}
+-- `next_text` meets its contract: a piece is read behind the line, or its newline is put there.
 use native.Mathlib.Omega.{arith}
-use lib.ListN.{length, take, drop}
-use Rattle.promises.proofs.Puts.{puts-prefix}
-use Rattle.line_stream.specs.inner.Stream.{keptOf}
+use lib.ListN.{take, drop}
 use Rattle.line_stream.proofs.Keeping.{kept-few}
-use Rattle.line_stream.proofs.ReadingText.{piece-failed, bytes-fit, piece-held}
+use Rattle.line_stream.proofs.ReadingText.{text-goes-on, text-failed}
 use borrow.Author.Needs.{needs}
 use Rattle.line_stream.proofs.next_text.Statement.{statement}
 use Rattle.line_stream.proofs.next_text.Tie as tie
 
--- the start, and where the line is kept and the piece is read
-abbrev start : tie.After-keep → tie.Start
+-- where the piece is read, and where it is not
+abbrev start : tie.After-next-piece → tie.Start
 start c = c .before .before .before
 
-abbrev kept : tie.After-read-behind → tie.After-keep
-kept c = c .before .before .before .before
-
-abbrev read : tie.After-piece → tie.After-read-behind
+abbrev read : tie.Else2 → tie.After-next-piece
 read c = c .before .before .before .before
 
-few : (c : tie.After-keep) → c .keep .result ≤ start c .args .most
-few c = let a = start c .args in omega (arith, c .keep .ensures .size, kept-few (a .most) (drop (a .at) (take (a .end) (a .buffer .now))))
-
-line : (c : tie.After-read-behind) → let a = start (kept c) .args in
-    take (kept c .keep .result) (c .read-behind .last .0) ≡ keptOf (a .most) (drop (a .at) (take (a .end) (a .buffer .now)))
-line c = c .read-behind .ensures .front ∙ puts-prefix (kept c .keep .ensures)
-
--- the bytes that came have room
-fits : (c : tie.After-piece) → let r = read c in let n = c .piece .given .0 .0 in
-    (kept r .keep .result + n ≤ length (r .read-behind .last .0)) × (n ≤ start (kept r) .args .left)
-fits c =
-    let r = read c in
-    let k = kept r .keep in
-    let p = bytes-fit (k .result) (length (k .last .0)) (start (kept r) .args .left) (c .piece .given .1) (r .read-behind .ensures .fits) in
-    (omega (arith, p .0, r .read-behind .kept .0), p .1)
-
-read-behind-requires : tie.Need-read-behind-requires
-read-behind-requires c κs = let k = c .before .before .before in omega (arith, few k, k .keep .kept .0, start k .pre)
-
 returns : tie.Need-returns
-returns c =
-    let r = c .before .before .before .before in
-    let k = kept r in
-    piece-failed _ (k .keep .ensures .size) (line r) (omega (arith, few k, k .keep .kept .0, r .read-behind .kept .0, start k .pre))
+returns c = text-goes-on (c .before .before .before .next-piece .ensures) (c .if1 .taken)
+
+returns-2 : tie.Need-returns-2
+returns-2 c = text-failed (c .before .before .before .before .next-piece .ensures) (c .if2 .taken)
 
 last-text-requires : tie.Need-last-text-requires
 last-text-requires c κs =
-    let r = read (c .before .before .before) in
-    let k = kept r in
-    omega (arith, few k, k .keep .kept .0, r .read-behind .kept .0, start k .pre)
-
-returns-2 : tie.Need-returns-2
-returns-2 c =
-    let last = c .before .before in
-    rw (line (read (last .before .before .before .before))) at (last .last-text .ensures)
-
-add-end : tie.Need-add-end
-add-end c = let p = c .before .before in omega (arith, fits p .0, read p .read-behind .kept .0, kept (read p) .keep .kept .0, start (kept (read p)) .good)
-
-sub-left : tie.Need-sub-left
-sub-left c = fits (c .before .before) .1
+    let r = read (c .before) in
+    let a = start r .args in
+    let line = drop (a .at) (take (a .end) (a .buffer .now)) in
+    omega (arith, r .next-piece .ensures .count, kept-few (a .most) line .0, r .next-piece .kept .0, start r .pre)
 
 returns-3 : tie.Need-returns-3
 returns-3 c =
-    let p = c .before .before in
-    piece-held _ _ (kept (read p) .keep .ensures .size) (line (read p)) (fits p .0) (fits p .1) (c .if1 .left)
+    let last = c .before .before in
+    rw (read (last .before .before) .next-piece .ensures .front) at (last .last-text .ensures)
 
 pub next-text-spec : {M : Type 1} → statement M
 next-text-spec =
     tie.close
     (tie.spec
     (λ c κs. search needs)
-    read-behind-requires
-    (λ c. search needs)
-    (λ c. search needs)
     (λ c. search needs)
     returns
-    last-text-requires
     (λ c. search needs)
     returns-2
-    add-end
-    sub-left
+    last-text-requires
     (λ c. search needs)
     returns-3)

@@ -1,0 +1,25 @@
+-- The line of a refusal, by what the refusal carries.
+use mathlib.Core.Path.{_≡_}
+use mathlib.Core.Bool.{Bool, true, false}
+use mathlib.Core.List.{[]}
+use Prim.Native.Nat.{ℕ}
+use Rattle.vector_types.specs.Answers.{starting}
+use Rattle.vector_types.specs.declared.Refusal.{Refusal}
+use Rattle.vector_types.specs.declared.Detail.the-variants.{Nothing, Needs, Starts}
+use Rattle.lines.specs.Printed.{numberedReply}
+use Rattle.probe_texts.specs.Texts.{refusalText}
+use Rattle.vecs.specs.Vecs.{vecsRefused}
+use Rattle.vecs_lines.specs.inner.Cut.{answerAt, toldLine}
+
+module _ (last : Bool) (n place : ℕ) (r : Refusal) where
+  pub told-place : {p : ℕ} {s : Refusal} → r .detail ≡ Starts p → last ≡ true → s ≡ starting (r .number) place → toldLine last n (answerAt place (vecsRefused r)) ≡ numberedReply n (refusalText s)
+  told-place e now is = rw (e, now, is)
+
+  pub told-later : {p : ℕ} → r .detail ≡ Starts p → last ≡ false → toldLine last n (answerAt place (vecsRefused r)) ≡ []
+  told-later e later = rw (e, later)
+
+  pub told-nothing : r .detail ≡ Nothing → toldLine last n (answerAt place (vecsRefused r)) ≡ numberedReply n (refusalText r)
+  told-nothing e = rw e
+
+  pub told-need : {m : ℕ} → r .detail ≡ Needs m → toldLine last n (answerAt place (vecsRefused r)) ≡ numberedReply n (refusalText r)
+  told-need e = rw e

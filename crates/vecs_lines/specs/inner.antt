@@ -1,0 +1,3 @@
+-- Words of the contracts of helpers: no contract of an entry point names them.
+pub mod Rooms
+pub mod Cut
