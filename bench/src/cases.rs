@@ -1,9 +1,11 @@
-//! What is compared and timed: every distance of every kind, and every conversion that is no copy.
+//! What is compared and timed: every distance of every kind, every conversion that is no copy, and what
+//! is done with files of vectors.
 
 use std::fmt;
 use std::hint::black_box;
 
 use crate::clock::{race, Times};
+use crate::files::FileWork;
 use crate::original::Aligned;
 use crate::rules::{defined, Kind, Measure, View};
 use crate::{differences, ours, rides, theirs};
@@ -15,6 +17,7 @@ const MEASURES: [Measure; 4] = [Measure::Cos, Measure::L2, Measure::Dot, Measure
 enum Work {
     Distance(Measure),
     Conversion(Kind),
+    File(FileWork),
 }
 
 pub struct Case {
@@ -33,6 +36,8 @@ pub fn all() -> Vec<Case> {
             let works = works.chain(targets.map(Work::Conversion));
             cases.extend(works.map(|work| Case { work, kind, dims }));
         }
+        let (works, kind) = (FileWork::ALL.map(Work::File), Kind::Float32Dense);
+        cases.extend(works.map(|work| Case { work, kind, dims }));
     }
     cases
 }
@@ -44,6 +49,7 @@ impl Case {
         match work {
             Work::Distance(measure) => format!("{} of {kind:?}", named(*measure)),
             Work::Conversion(target) => format!("{kind:?} to {target:?}"),
+            Work::File(work) => work.title().to_string(),
         }
     }
 
@@ -68,6 +74,10 @@ impl Case {
                 let theirs: Result<_, u32> = Ok((theirs.dims, &theirs.body[..]));
                 (format!("{ours:x?}"), format!("{theirs:x?}"))
             }
+            Work::File(work) => {
+                let [ours, theirs] = work.difference(self.dims)?;
+                (ours, theirs)
+            }
         };
         (ours != theirs).then(|| format!("{self}: ours {ours:.100}, theirs {theirs:.100}"))
     }
@@ -89,6 +99,7 @@ impl Case {
                     || theirs::convert(black_box(&blob), kind.into()),
                 )
             }
+            Work::File(work) => work.time(self.dims),
         }
     }
 
@@ -112,6 +123,7 @@ impl Case {
                     marked(|| theirs::convert(&blob, kind.into()));
                 }
             }
+            Work::File(work) => work.once(self.dims, is_ours),
         }
     }
 
@@ -129,7 +141,7 @@ impl Case {
     }
 }
 
-fn marked<T>(call: impl FnOnce() -> T) {
+pub fn marked<T>(call: impl FnOnce() -> T) {
     bench_mark();
     black_box(call());
     bench_mark();

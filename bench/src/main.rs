@@ -7,6 +7,7 @@
 
 mod cases;
 mod clock;
+mod files;
 mod machine;
 mod ours;
 mod report;

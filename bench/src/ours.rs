@@ -12,7 +12,9 @@ pub struct Answer {
     kind: u64,
     dims: u64,
     length: u64,
-    others: [u64; 28],
+    others: [u64; 10],
+    fill: u64,
+    reserved: [u64; 17],
 }
 
 pub type Function = unsafe extern "C" fn(*const u8, usize, *const u8, usize, *mut Answer) -> u32;
@@ -55,6 +57,22 @@ extern "C" {
         scratch_len: usize,
         out: *mut u8,
         out_len: usize,
+        answer: *mut Answer,
+    ) -> u32;
+    fn fulandewu_bvecs_read(
+        file: *const u8,
+        file_len: usize,
+        place: usize,
+        out: *mut u8,
+        out_len: usize,
+        answer: *mut Answer,
+    ) -> u32;
+    fn fulandewu_fvecs_append(
+        blob: *const u8,
+        blob_len: usize,
+        out: *mut u8,
+        out_len: usize,
+        fill: usize,
         answer: *mut Answer,
     ) -> u32;
 }
@@ -129,6 +147,50 @@ pub fn convert<'a>(
         // SAFETY: an answer has its dims and its length written.
         let (dims, length) = unsafe { ((*answer.as_ptr()).dims, (*answer.as_ptr()).length) };
         Ok((dims as usize, &out[..length as usize]))
+    } else {
+        Err(number)
+    }
+}
+
+/// The dims of the first vector of a bvecs file, whose bytes are put as floats, or the number of the refusal.
+pub fn widen(file: &[u8], out: &mut [u8]) -> Result<usize, u32> {
+    let mut answer = MaybeUninit::<Answer>::uninit();
+    // SAFETY: each pair is a slice, the two do not overlap, and the answer is this function's own.
+    let number = unsafe {
+        fulandewu_bvecs_read(
+            file.as_ptr(),
+            file.len(),
+            0,
+            out.as_mut_ptr(),
+            out.len(),
+            answer.as_mut_ptr(),
+        )
+    };
+    if number == 0 {
+        // SAFETY: a vector has its dims written, and the file has one.
+        Ok(unsafe { (*answer.as_ptr()).dims } as usize)
+    } else {
+        Err(number)
+    }
+}
+
+/// The fill after a blob is appended to an empty file, or the number of the refusal.
+pub fn append(blob: &[u8], out: &mut [u8]) -> Result<usize, u32> {
+    let mut answer = MaybeUninit::<Answer>::uninit();
+    // SAFETY: each pair is a slice, the two do not overlap, and the answer is this function's own.
+    let number = unsafe {
+        fulandewu_fvecs_append(
+            blob.as_ptr(),
+            blob.len(),
+            out.as_mut_ptr(),
+            out.len(),
+            0,
+            answer.as_mut_ptr(),
+        )
+    };
+    if number == 0 {
+        // SAFETY: an answer has its fill written.
+        Ok(unsafe { (*answer.as_ptr()).fill } as usize)
     } else {
         Err(number)
     }
