@@ -11,6 +11,7 @@ use Rattle.lines.proofs.hex.put_hex.Reads as put-hex
 use Rattle.lines.proofs.hex.bytes.Reads as bytes
 use Rattle.lines.proofs.hex.put_bytes.Reads as put-bytes
 use Rattle.lines.proofs.text.field_end.Reads as field-end
+use Rattle.lines.proofs.text.word_place.Reads as word-place
 use Rattle.lines.proofs.text.numeral.Reads as numeral
 use Rattle.lines.proofs.text.put_decimal.Reads as put-decimal
 use Rattle.lines.proofs.text.put_head.Reads as put-head
@@ -33,6 +34,9 @@ put-bytes-determined κs a r r′ x x′ p q = puts-determined (p .0) (q .0)
 
 pub field-end-determined : (κs : _) (a : _) → Determined (field-end.Post κs a) (λ r x. r)
 field-end-determined κs a r r′ x x′ p q = p .0 ∙ sym (q .0)
+
+pub word-place-determined : (κs : _) (a : _) → Determined (word-place.Post κs a) (λ r x. r)
+word-place-determined κs a r r′ x x′ p q = p ∙ sym q
 
 pub numeral-determined : (κs : _) (a : _) → Determined (numeral.Post κs a) (λ r x. r)
 numeral-determined κs a r r′ x x′ p q = p ∙ sym q

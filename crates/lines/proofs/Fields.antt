@@ -1,4 +1,4 @@
--- Laws of the reply to a line by its fields: how many there are, a field in hexadecimal, and a field that is one of several words.
+-- Laws of the reply to a line by its fields: how many there are, and a field in hexadecimal.
 use mathlib.Core.Path.{_≡_, refl, sym, ap, _∙_}
 use mathlib.Core.Bool.{Bool, true, false, cond}
 use mathlib.Core.List.{List, [], _∷_, _++_}
@@ -13,12 +13,11 @@ use Rattle.bytes.specs.Bytes.{indexOf}
 use Rattle.promises.specs.Puts.{Puts}
 use Rattle.promises.proofs.Onto.{tail-lent}
 use Rattle.promises.proofs.Puts.{puts-prefix}
-use Rattle.lines.specs.Text.{tab, same}
+use Rattle.lines.specs.Text.{tab}
 use Rattle.lines.specs.Hex.{digitOf, hexBytes}
 use Rattle.lines.specs.Parts.{partsOf, fieldsOf}
 use Rattle.lines.specs.Fields.{malformed, ReplyTo, exactly, fromHex}
 use Rattle.lines.proofs.Pairs.{hexBytes-few}
-use Rattle.lines.proofs.Same.{same-tested}
 use Rattle.lines.proofs.Parting.{index-le, parts-at, parts-last, parts-some}
 
 -- ---- how many fields there are
@@ -97,8 +96,3 @@ module _ (reply : List ℕ → List ℕ) (field : List ℕ) where
   from-hex-tab less =
       let few = hexBytes-few tab field (lit≤ tt) less in
       sym (from-hex-part (length (hexBytes field)) refl (λ all. omega (arith, few, all)))
-
--- ---- a field that is one of several words
--- a test of the code whether two texts are equal, as a row of a table of words
-pub word-tested : {A : Type 0} {r : Bool} {a b : List ℕ} (t : Bool) → (r ≡ true → a ≡ b) × (a ≡ b → r ≡ true) → r ≡ t → (x y : A) → cond (same a b) x y ≡ cond t x y
-word-tested {r = r} {a = a} {b = b} t h e x y = rw (same-tested r a b h, e)

@@ -6,4 +6,5 @@ pub mod Writing
 pub mod Pairs
 pub mod Parting
 pub mod Fields
+pub mod Words
 pub mod Determined

@@ -5,3 +5,4 @@ pub mod Parts
 pub mod Fields
 pub mod Printed
 pub mod Examples
+pub mod inner

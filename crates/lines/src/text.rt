@@ -7,7 +7,9 @@ ghost use Rattle.lines.specs.Text.{tab};
 ghost use Rattle.promises.specs.Puts.{Puts};
 ghost use Rattle.lines.specs.Decimal.{decimalOf, numeralOf};
 ghost use Rattle.lines.specs.Printed.{headOf};
+ghost use Rattle.lines.specs.Parts.{fieldsOf};
 ghost use Rattle.lines.specs.Fields.{malformed};
+ghost use Rattle.lines.specs.inner.Words.{placeAmong};
 use crate::hex::Parsed;
 use crate::hex::number;
 
@@ -17,6 +19,24 @@ pub fn field_end(s: &[u8]) -> usize
     ensures { λ r. ⌜ r ≤ length (now (s .entry)) ⌝ }
 {
     bytes::scan::find(s, 0, s.len(), b'\t')
+}
+
+// The place of a field among words, which are separated by tabs: 0 for the first; where it is none of
+// them, how many there are.
+pub fn word_place(words: &[u8], field: &[u8]) -> usize
+    ensures { λ r. ⌜ r ≡ placeAmong (fieldsOf (now (words .entry))) (now (field .entry)) ⌝ }
+{
+    let mut at = 0;
+    let mut place = 0;
+    while at <= words.len() {
+        let end = at + field_end(&words[at..]);
+        if check::same(field, &words[at..end]) {
+            return place;
+        }
+        place += 1;
+        at = end + 1;
+    }
+    place
 }
 
 // The number that s is in 1 to `most` digits, which may have zeros in front.

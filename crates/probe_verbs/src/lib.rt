@@ -1,6 +1,7 @@
 // What a line of vecprobe asks for.
 ghost use mathlib.Core.Path.{_≡_};
 ghost use Rattle.probe_verbs.specs.Verbs.{verbOf};
+use lines::text::word_place;
 use probe_blobs::Reader;
 use probe_floats::Work;
 use probe_vecs::FileKind;
@@ -22,41 +23,21 @@ pub enum Verb {
 pub fn verb_of(word: &[u8]) -> Verb
     ensures { λ r. ⌜ r ≡ verbOf (now (word .entry)) ⌝ }
 {
-    if check::same(word, b"root") {
-        return Verb::Root;
+    let words =
+        b"root\tnarrow\twiden\ttrunc\tread\tstrict\twrite\tconv\tnear\tfvecs\tbvecs\tappend";
+    match word_place(words, word) {
+        0 => Verb::Root,
+        1 => Verb::Float(Work::Narrow),
+        2 => Verb::Float(Work::Widen),
+        3 => Verb::Float(Work::Trunc),
+        4 => Verb::Read(Reader::Plain),
+        5 => Verb::Read(Reader::Strict),
+        6 => Verb::Write,
+        7 => Verb::Convert,
+        8 => Verb::Near,
+        9 => Verb::File(FileKind::Fvecs),
+        10 => Verb::File(FileKind::Bvecs),
+        11 => Verb::Append,
+        _ => Verb::Other,
     }
-    if check::same(word, b"narrow") {
-        return Verb::Float(Work::Narrow);
-    }
-    if check::same(word, b"widen") {
-        return Verb::Float(Work::Widen);
-    }
-    if check::same(word, b"trunc") {
-        return Verb::Float(Work::Trunc);
-    }
-    if check::same(word, b"read") {
-        return Verb::Read(Reader::Plain);
-    }
-    if check::same(word, b"strict") {
-        return Verb::Read(Reader::Strict);
-    }
-    if check::same(word, b"write") {
-        return Verb::Write;
-    }
-    if check::same(word, b"conv") {
-        return Verb::Convert;
-    }
-    if check::same(word, b"near") {
-        return Verb::Near;
-    }
-    if check::same(word, b"fvecs") {
-        return Verb::File(FileKind::Fvecs);
-    }
-    if check::same(word, b"bvecs") {
-        return Verb::File(FileKind::Bvecs);
-    }
-    if check::same(word, b"append") {
-        return Verb::Append;
-    }
-    Verb::Other
 }

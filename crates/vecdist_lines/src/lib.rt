@@ -8,6 +8,7 @@ use distance::Distance;
 use distance::DistanceAnswer;
 use distance::Which;
 use lines::text::put_malformed;
+use lines::text::word_place;
 
 // As many bytes as a line may have before its newline.
 pub const LIMIT: usize = 32768;
@@ -21,19 +22,14 @@ pub enum Asked {
 pub fn asked_of(field: &[u8]) -> Asked
     ensures { λ r. ⌜ r ≡ askedOf (now (field .entry)) ⌝ }
 {
-    if check::same(field, b"cos") {
-        return Asked::Known(Distance::Cos);
+    let words = b"cos\tl2\tdot\tjac";
+    match word_place(words, field) {
+        0 => Asked::Known(Distance::Cos),
+        1 => Asked::Known(Distance::L2),
+        2 => Asked::Known(Distance::Dot),
+        3 => Asked::Known(Distance::Jaccard),
+        _ => Asked::Unknown,
     }
-    if check::same(field, b"l2") {
-        return Asked::Known(Distance::L2);
-    }
-    if check::same(field, b"dot") {
-        return Asked::Known(Distance::Dot);
-    }
-    if check::same(field, b"jac") {
-        return Asked::Known(Distance::Jaccard);
-    }
-    Asked::Unknown
 }
 
 // Puts a mark and the pattern of a distance in sixteen digits at the start of out.
