@@ -10,7 +10,7 @@ import random
 import struct
 import sys
 
-# heart rates of three rides, a reading a minute
+# heart rates of three rides, one for each ten seconds
 LAB = [[92.0, 95.0, 101.5, 118.0, 126.5, 131.0], [88.0, 90.5, 97.0, 112.0, 120.0, 125.5], [95.0, 99.0, 104.5, 110.0]]
 
 

@@ -1,4 +1,5 @@
-//! Writes an fvecs file of three rides: to the path that is named, else to standard output.
+//! Writes an fvecs file of three rides, `examples/lab.fvecs` of the repository: to the path that is named,
+//! else to standard output.
 
 use std::env;
 use std::error::Error;
@@ -8,7 +9,11 @@ use std::io::{self, Write};
 use fulandewu::{append_fvecs, Refusal};
 
 /// Heart rates, one for each ten seconds.
-const RIDES: [&[f32]; 3] = [&[60.0, 80.0], &[120.0, 160.0], &[72.0, 91.5, 104.0, 118.5]];
+const RIDES: [&[f32]; 3] = [
+    &[92.0, 95.0, 101.5, 118.0, 126.5, 131.0],
+    &[88.0, 90.5, 97.0, 112.0, 120.0, 125.5],
+    &[95.0, 99.0, 104.5, 110.0],
+];
 
 /// Appends a ride, and makes the file longer where there is no room for it.
 fn append(ride: &[f32], file: &mut Vec<u8>, fill: usize) -> Result<usize, Refusal> {

@@ -48,9 +48,9 @@ pub fn report_converted(found: ConvertAnswer, answer: &mut Answer) -> u32
     ensures { λ r. ⌜ exportOutcome r (now (answer .exit)) [] ≡ leaves (convertNumber found) (convertFields found) (now (answer .entry)) [] ⌝ }
 {
     match found {
-        ConvertAnswer::Converted(view) => {
-            answer[DIMS] = view.dims.0 as u64;
-            answer[LENGTH] = view.length as u64;
+        ConvertAnswer::Converted(made) => {
+            answer[DIMS] = made.dims.0 as u64;
+            answer[LENGTH] = made.length as u64;
             0
         }
         ConvertAnswer::Refused(refusal) => report_refusal(refusal, answer),
