@@ -114,7 +114,7 @@ vecsExport r before = leaves (vecsNumber r) (vecsFields r) before []
 abbrev pub bvecsExport : VecsOutcome → List ℕ → ExportOutcome
 bvecsExport o before = leaves (vecsNumber (o .answer)) (vecsFields (o .answer)) before (o .out ∷ [])
 
--- of a vector more: up to where the buffer is filled
+-- of an append: up to where the buffer is filled
 abbrev pub appendNumber : AppendAnswer → ℕ
 appendNumber (Filled n) = 0
 appendNumber (AppendRefused r) = r .number

@@ -1,4 +1,4 @@
-// Answers about files of vectors: what stands at a place, and a vector more.
+// Answers about files of vectors: what stands at a place, and an append.
 ghost use mathlib.Core.Path.{_≡_};
 ghost use mathlib.Core.List.{[]};
 ghost use Rattle.answer_fields.specs.Fields.{exportOutcome, leaves};
@@ -34,7 +34,7 @@ pub fn report_vector(found: VecsAnswer, answer: &mut Answer) -> u32
     }
 }
 
-// The number of an answer about a vector more; the new fill is written.
+// The number of an answer about an append; the new fill is written.
 pub fn report_fill(found: AppendAnswer, answer: &mut Answer) -> u32
     ensures { λ r. ⌜ exportOutcome r (now (answer .exit)) [] ≡ leaves (appendNumber found) (appendFields found) (now (answer .entry)) [] ⌝ }
 {

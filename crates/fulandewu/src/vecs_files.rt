@@ -1,4 +1,4 @@
-// Files of vectors: what stands at a place, and a vector more.
+// Files of vectors: what stands at a place, and appending to one.
 ghost use mathlib.Core.Path.{_≡_};
 ghost use mathlib.Core.List.{[], _∷_};
 ghost use Rattle.vecs.specs.Vecs.{vectorAt, bvecsOutcome};

@@ -80,7 +80,7 @@ module _ (blob out : List ℕ) (fill : ℕ) (v : View) (e : readOf blob ≡ Acce
         ≡ appendLeaving (Filled (fill + vectorLength (v .dims .0))) (put out fill (vectorBytes (v .dims .0) (bodyOf blob)))
     append-fits h = outcome-by blob out fill (Accepted v) e ∙ rw (dense, le-ltb _ _ h)
 
--- ---- the two outcomes: nothing changes, or the buffer has a vector more
+-- ---- the two outcomes: nothing changes, or the buffer has one vector more
 pub record Grown (blob out : List ℕ) (fill d : ℕ) : Type 0 where
   pub few : d ≤ maxDims
   pub long : length (bodyOf blob) ≡ 4 * d

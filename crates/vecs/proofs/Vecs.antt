@@ -164,7 +164,7 @@ bvecs-element file place v e i h =
     float-at binary32 (byteElement s) (length s) i (omega (arith, long)) (ofInt-fits binary32 (pos (getD s i 0)))
     ∙ ap (λ (b : ℕ). ofInt binary32 (pos b)) byte
 
--- ---- a file with a vector more reads as before up to its old end, and there shows the new body
+-- ---- a file with one vector more reads as before up to its old end, and there shows the new body
 module _ (file : List ℕ) (d : ℕ) (body : List ℕ) (few : d ≤ maxDims) (long : length body ≡ 4 * d) where
   abbrev more : List ℕ
   more = file ++ vectorBytes d body

@@ -1,4 +1,4 @@
--- What stands at a place of a file of vectors. Each vector is a count of four bytes, little end first, and then as many elements of w bytes:
+-- What stands at a place of a file of vectors. Each vector is a count of four bytes, little-endian, and then as many elements of w bytes:
 -- 4 in an fvecs file, whose elements are f32, and 1 in a bvecs file. Refusals in the order of docs/RULES.md.
 use Prim.Native.Nat.{ℕ, _+_, _-_, _*_}
 use mathlib.Core.Bool.{cond}

@@ -1,4 +1,4 @@
-// Files of vectors, fvecs and bvecs, in a slice: what stands at a place, its elements, and a vector more.
+// Files of vectors, fvecs and bvecs, in a slice: what stands at a place, its elements, and appending to one.
 mod appending;
 mod reading;
 

@@ -43,7 +43,7 @@ fn first_size(text: &[u8]) -> usize
     }
 }
 
-// Puts V, the dims and the elements of a whole vector at the start of out, parted by tabs.
+// Puts V, the dims and the elements of a whole vector at the start of out, separated by tabs.
 fn put_vector(vector: &[u8], out: &mut [u8]) -> usize
     requires { ⌜ 4 ≤ length (now vector) ⌝ }
     requires { ⌜ 23 + 2 * length (now vector) ≤ length (now out) + 8 ⌝ }

@@ -1,4 +1,4 @@
--- `vecs_files::fulandewu_fvecs_append` meets its contract: what is reported is the answer about the vector more, and the buffer is as that left it.
+-- `vecs_files::fulandewu_fvecs_append` meets its contract: what is reported is the answer about the append, and the buffer is as that left it.
 use borrow.Author.Needs.{needs}
 use Rattle.answer_fields.proofs.Outcomes.{with-buffers}
 use Rattle.fulandewu.proofs.vecs_files.fulandewu_fvecs_append.Statement.{statement}
