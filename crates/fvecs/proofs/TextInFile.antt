@@ -55,7 +55,7 @@ module _ (text : List ℕ) (some : 0 < firstSize text) where
         let behind : drop (place + 4) file ≡ drop 4 text ++ t = sym (drop-drop 4 place file) ∙ rw stands (drop-append-le 4 text t (omega arith)) in
         elements-are 4 file place found shown ∙ rw behind (take-append-le (4 * count) (drop 4 text) t (omega (arith, length-drop 4 text)))
 
-    pub first-listed : (n : ℕ) → listedFrom file place n ≡ numberedReply n (wholeReply (take (firstSize text) text)) ++ listedFrom file (place + firstSize text) (n + 1)
+    first-listed : (n : ℕ) → listedFrom file place n ≡ numberedReply n (wholeReply (take (firstSize text) text)) ++ listedFrom file (place + firstSize text) (n + 1)
     unfolding found
     first-listed n = listed-from file place n ∙ rw (shown, elements-same, first-reply, first .size)
 

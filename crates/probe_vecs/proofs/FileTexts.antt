@@ -1,6 +1,6 @@
 -- Laws of the replies about files of vectors: what the elements measure, what bvecs leaves in the room for the most elements, and the fields of a line.
 use mathlib.Core.Path.{_≡_, refl, sym, ap, subst₂, _∙_}
-use mathlib.Core.List.{List, []}
+use mathlib.Core.List.{List}
 use Prim.Native.Nat.{ℕ, _*_, _<_, _≤_}
 use native.Mathlib.Omega.{arith}
 use lib.Dec.{lit≤}

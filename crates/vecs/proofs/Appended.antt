@@ -13,7 +13,7 @@ use borrow.Author.Tests.{lt-ltb, le-ltb, ltb-true, ltb-false, eqb-true}
 use borrow.Rule.Slice.PartMut.{putMid}
 use Rattle.promises.specs.Onto.{onto}
 use Rattle.promises.proofs.Onto.{tail-onto}
-use Rattle.little_endian.specs.Bytes.{bytesOf, put}
+use Rattle.little_endian.specs.Bytes.{put}
 use Rattle.little_endian.proofs.Numbers.{length-bytesOf}
 use Rattle.vector_types.specs.Answers.{refusal, needing}
 use Rattle.vector_types.specs.Layout.{maxDims, hasByte, bodyFits}
@@ -28,7 +28,6 @@ use Rattle.vector_types.proofs.SameKind.{same-kind}
 use Rattle.vector_types.proofs.Views.{view-facts}
 use Rattle.vector_types.proofs.Bodies.{length-body}
 use Rattle.vecs.specs.Append.{appendRefused, appendRead, shownDims, vectorLength, vectorBytes, appendOf, appendLeaving, appendedAfter, appendOutcome}
-use Rattle.vecs.specs.declared.AppendAnswer.{AppendAnswer}
 use Rattle.vecs.specs.declared.AppendAnswer.the-variants.{Filled}
 
 -- ---- a vector's bytes, and these written to the part of a buffer from a place on

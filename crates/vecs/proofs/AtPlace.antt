@@ -1,7 +1,7 @@
 -- What is answered at a place: each case by its own condition, what a vector that is shown tells of its file, and bvecs by its buffer's room.
 use mathlib.Core.Path.{_≡_, refl, sym, ap, _∙_}
 use mathlib.Core.Bool.{Bool, true, false, cond, false≢true}
-use mathlib.Core.List.{List, [], _∷_, _++_}
+use mathlib.Core.List.{List, [], _∷_}
 use Prim.Native.Nat.{ℕ, _+_, _-_, _*_, _<_, _≤_}
 use native.Mathlib.Omega.{arith}
 use lib.Dec.{ltb, leb}
@@ -10,7 +10,7 @@ use lib.Seq.{length-take-le}
 use borrow.Author.Tests.{lt-ltb, le-ltb, le-leb, lt-leb, ltb-false, leb-true, leb-false}
 use Rattle.promises.specs.Onto.{onto}
 use Rattle.little_endian.specs.Bytes.{u32At}
-use Rattle.vector_types.specs.Answers.{Test, Given, none, given, firstGiven, unless, refusal, needing, starting, testRoom}
+use Rattle.vector_types.specs.Answers.{Given, none, given, firstGiven, unless, refusal, needing, starting, testRoom}
 use Rattle.vector_types.specs.Layout.{maxDims}
 use Rattle.vector_types.proofs.Given.{Passed, none-passed, first-append}
 use Rattle.vecs.specs.Vecs.{bytesLeft, vectorOf, vecsRefused, vecsRefusals, vecsAnswerBy, vectorAt, elementsAt, bvecsOf, byteFloats, floatsAfter, vecsLeaving, bvecsOutcome}

@@ -3,13 +3,13 @@ use mathlib.Core.Path.{_≡_, refl, sym, ap, _∙_}
 use mathlib.Core.Logic.{inl, inr}
 use mathlib.Core.Bool.{Bool, true, false, cond}
 use mathlib.Core.List.{List, [], _∷_, _++_, append-assoc, append-nil}
-use Prim.Native.Nat.{ℕ, _+_, _-_, _*_, _^_, _<_, _≤_}
+use Prim.Native.Nat.{ℕ, _+_, _-_, _*_, _<_, _≤_}
 use native.Mathlib.Nat.{add-zero}
 use native.Mathlib.Omega.{arith}
 use lib.Dec.{ltb, leb, eqb}
 use lib.IntN.{pos}
-use lib.ListN.{length, getD, take, drop, length-append, length-drop, length-take}
-use lib.Seq.{getD-take, getD-drop, length-take-le, take-take, take-add, take-all, take-append-le, drop-append-add, drop-at}
+use lib.ListN.{length, getD, take, drop, length-append, length-take}
+use lib.Seq.{getD-take, getD-drop, length-take-le, take-add, take-all, take-append-le, drop-append-add, drop-at}
 use lib.Ieee.{binary32, ofInt}
 use lib.Ieee.Exact.{HasValue}
 use lib.Ieee.Fits.{ofInt-fits}
@@ -39,7 +39,7 @@ use Rattle.vecs.proofs.Appended.{length-vector, EitherWay, append-eithe
 
 -- ---- one case answers, once over the width
 module _ (w : ℕ) (file : List ℕ) (place : ℕ) where
-  case-answers : (c : Case) → CaseHolds c w file place → vectorAt w file place ≡ caseAnswer c w file place
+  pub case-answers : (c : Case) → CaseHolds c w file place → vectorAt w file place ≡ caseAnswer c w file place
   case-answers ended h = at-end w file place h
   case-answers over (counted, many) = count-over w file place (omega arith) (omega arith) many
   case-answers cut (inside, inl short) = count-cut w file place inside (omega arith)

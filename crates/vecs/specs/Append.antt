@@ -7,7 +7,7 @@ use Rattle.little_endian.specs.Bytes.{bytesOf, put}
 use Rattle.vector_types.specs.Answers.{Test, test, testRoom, firstGiven, unless}
 use Rattle.vector_types.specs.Layout.{hasByte}
 use Rattle.vector_types.specs.Read.{readOf}
-use Rattle.vector_types.specs.Parts.{bodyOf, shownLength}
+use Rattle.vector_types.specs.Parts.{bodyOf}
 use Rattle.vector_types.specs.declared.View.{View}
 use Rattle.vector_types.specs.declared.Refusal.{Refusal}
 use Rattle.vector_types.specs.declared.ReadAnswer.{ReadAnswer}

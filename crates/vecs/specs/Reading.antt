@@ -2,7 +2,6 @@
 use Prim.Native.Nat.{ℕ}
 use mathlib.Core.Path.{_≡_}
 use mathlib.Core.List.{List, [], _∷_, _++_}
-use lib.ListN.{length}
 use Rattle.vector_types.specs.Parts.{bodyOf}
 use Rattle.vecs.specs.Vecs.{vectorAt, elementsAt}
 use Rattle.vecs.specs.Append.{AppendOutcome, appendOutcome}

@@ -2,8 +2,8 @@
 use mathlib.Core.Path.{_≡_, refl}
 use mathlib.Core.List.{List, [], _∷_, _++_, map}
 use Prim.Native.Nat.{ℕ, _-_, _^_}
-use lib.ListN.{length, replicate, take, drop}
-use lib.Ieee.{ofInt, ofBits, toBits}
+use lib.ListN.{replicate, take}
+use lib.Ieee.{ofInt, toBits}
 use Rattle.little_endian.specs.Bytes.{numberAt, bytesOf, put}
 use Rattle.vector_types.specs.Answers.{refusal, needing, starting}
 use Rattle.vector_types.specs.Search.{firstFrom}

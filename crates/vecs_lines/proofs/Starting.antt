@@ -9,12 +9,8 @@ use Rattle.little_endian.specs.Bytes.{u32At}
 use Rattle.little_endian.proofs.Numbers.{numberAt-drop, numberAt-left}
 use Rattle.vecs.specs.Vecs.{vectorAt}
 use Rattle.vecs.specs.Cases.{Case, ended, over, cut, whole, CaseHolds, caseAnswer}
-use Rattle.vecs.proofs.Vecs.{one-case}
+use Rattle.vecs.proofs.Vecs.{case-answers, one-case}
 use Rattle.vecs_lines.specs.inner.Cut.{answerAt}
-
--- a case that holds is the answer
-pub case-answers : (file : List ℕ) (place : ℕ) (c : Case) → CaseHolds c 4 file place → vectorAt 4 file place ≡ caseAnswer c 4 file place
-case-answers file place c h = let o = one-case 4 file place in o .answers ∙ ap (λ (k : Case). caseAnswer k 4 file place) (sym (o .only c h))
 
 -- bytes that follow
 module _ (text t : List ℕ) where
@@ -27,10 +23,10 @@ module _ (text t : List ℕ) where
   pub vector-before : CaseHolds whole 4 text 0 → vectorAt 4 (text ++ t) 0 ≡ caseAnswer whole 4 text 0
   vector-before (few, fits) =
       let count = count-stays (omega arith) in
-      rw count at (case-answers (text ++ t) 0 whole (omega (arith, count), omega (arith, count, longer)))
+      rw count at (case-answers 4 (text ++ t) 0 whole (omega (arith, count), omega (arith, count, longer)))
 
   pub over-before : CaseHolds over 4 text 0 → vectorAt 4 (text ++ t) 0 ≡ caseAnswer over 4 text 0
-  over-before (counted, many) = case-answers (text ++ t) 0 over (omega (arith, longer), omega (arith, count-stays counted))
+  over-before (counted, many) = case-answers 4 (text ++ t) 0 over (omega (arith, longer), omega (arith, count-stays counted))
 
 -- bytes before
 module _ (file : List ℕ) (place : ℕ) where
@@ -41,13 +37,13 @@ module _ (file : List ℕ) (place : ℕ) where
   count = let at : place + 0 ≡ place = omega arith in numberAt-drop 4 place file 0 ∙ rw at
 
   moved : (c : Case) → CaseHolds c 4 (drop place file) 0 → vectorAt 4 file place ≡ answerAt place (caseAnswer c 4 (drop place file) 0)
-  moved ended h = case-answers file place ended (omega (arith, size))
-  moved over (counted, many) = case-answers file place over (omega (arith, size), omega (arith, count))
-  moved cut (some, inl short) = case-answers file place cut (omega (arith, size), inl (omega (arith, size)))
-  moved cut (some, inr (few, short)) = case-answers file place cut (omega (arith, size), inr (omega (arith, count), omega (arith, size, count)))
+  moved ended h = case-answers 4 file place ended (omega (arith, size))
+  moved over (counted, many) = case-answers 4 file place over (omega (arith, size), omega (arith, count))
+  moved cut (some, inl short) = case-answers 4 file place cut (omega (arith, size), inl (omega (arith, size)))
+  moved cut (some, inr (few, short)) = case-answers 4 file place cut (omega (arith, size), inr (omega (arith, count), omega (arith, size, count)))
   moved whole (few, fits) =
       let next : place + (4 + 4 * u32At file place) ≡ place + 4 + 4 * u32At file place = omega arith in
-      rw (count, next) (case-answers file place whole (omega (arith, count), omega (arith, size, count)))
+      rw (count, next) (case-answers 4 file place whole (omega (arith, count), omega (arith, size, count)))
 
   pub moved-to : vectorAt 4 file place ≡ answerAt place (vectorAt 4 (drop place file) 0)
   moved-to = let o = one-case 4 (drop place file) 0 in moved (o .case) (o .holds) ∙ ap (answerAt place) (sym (o .answers))

@@ -1,5 +1,5 @@
 -- `put_vector` meets its contract: kind and dims are put after the mark, and after these the body.
-use mathlib.Core.Path.{_≡_, refl, sym, ap}
+use mathlib.Core.Path.{_≡_, sym, ap}
 use Prim.Native.Nat.{ℕ}
 use lib.ListN.{length, take}
 use lib.Seq.{length-take-le}

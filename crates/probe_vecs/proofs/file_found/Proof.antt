@@ -1,7 +1,7 @@
 -- `file_found` meets its contract: X, or what stands at the place of the bytes that the field is in hexadecimal.
-use mathlib.Core.Path.{_≡_, refl, sym, _∙_}
+use mathlib.Core.Path.{_≡_, sym, _∙_}
 use lib.Seq.{length-take-le}
-use Rattle.lines.specs.Fields.{fromHex, malformed}
+use Rattle.lines.specs.Fields.{fromHex}
 use Rattle.promises.proofs.Puts.{puts-same}
 use Rattle.lines.proofs.Fields.{from-hex-part, from-hex-put}
 use Rattle.probe_vecs.specs.Files.{fileText, fileFoundReply}

@@ -1,8 +1,6 @@
 -- `put_fvecs` meets its contract: the answer at the place is put with the elements that it shows.
-use mathlib.Core.Path.{_≡_}
 use Rattle.promises.proofs.Puts.{puts-same}
-use Rattle.probe_vecs.specs.Files.{vecsText, fileText}
-use Rattle.probe_vecs.specs.declared.FileKind.the-variants.{Fvecs}
+use Rattle.probe_vecs.specs.Files.{fileText}
 use Rattle.probe_vecs.proofs.FileTexts.{elements-few}
 use borrow.Author.Needs.{needs}
 use Rattle.probe_vecs.proofs.put_fvecs.Statement.{statement}

@@ -3,14 +3,13 @@ use mathlib.Core.Path.{_≡_, sym, ap, _∙_}
 use mathlib.Core.List.{List}
 use Prim.Native.Nat.{ℕ, _-_}
 use native.Mathlib.Omega.{arith}
-use lib.ListN.{length, take, drop}
+use lib.ListN.{take, drop}
 use borrow.Author.Needs.{needs}
 use Rattle.vector_types.specs.declared.Refusal.{Refusal}
 use Rattle.vecs.specs.Vecs.{vecsRefused, vectorAt, elementsAt, vecsLeaving}
 use Rattle.vecs.specs.declared.Found.{Found}
-use Rattle.vecs.specs.declared.VecsAnswer.{VecsAnswer}
 use Rattle.vecs.specs.declared.VecsAnswer.the-variants.{Vector}
-use Rattle.vecs.proofs.AtPlace.{VectorFacts, vector-facts, elements-are, length-elements, bvecs-outcome, bvecs-short, bvecs-put}
+use Rattle.vecs.proofs.AtPlace.{VectorFacts, vector-facts, length-elements, bvecs-outcome, bvecs-short, bvecs-put}
 use Rattle.vecs.proofs.reading.bvecs_at.Statement.{statement}
 use Rattle.vecs.proofs.reading.bvecs_at.Tie as tie
 
