@@ -9,17 +9,13 @@ use lib.ListN.{length, take, drop, length-append}
 use lib.Seq.{length-take-le, take-at, drop-at, take-add, take-take, take-append-le, drop-append-le, drop-drop}
 use Rattle.promises.specs.Onto.{onto}
 use Rattle.little_endian.specs.Bytes.{put, bytesOf}
-use Rattle.little_endian.proofs.Put.{length-put, put-nothing, put-put}
+use Rattle.little_endian.proofs.Put.{length-put, put-nothing, put-front, put-put}
 use Rattle.little_endian.proofs.Numbers.{length-bytesOf}
 use Rattle.convert_parts.specs.Pieces.{placesOf, piecesAt}
 use Rattle.convert_parts.specs.Sparse.{storedBody}
 use Rattle.convert_parts.proofs.Places.{places-next, length-next, places-room, piecesAt-snoc, length-values, length-indices}
 
--- ---- bytes put at the front, and at two places that are m bytes apart, in either order
-put-front : (l vs : List ℕ) → put l 0 vs ≡ onto vs l
-unfolding put
-put-front l vs = rw zero-add
-
+-- ---- bytes put at two places that are m bytes apart, in either order
 put-swap : (l : List ℕ) (i : ℕ) (us : List ℕ) (m : ℕ) (vs : List ℕ) → i + length us + m + length vs ≤ length l
     → put (put l i us) (i + length us + m) vs ≡ put (put l (i + length us + m) vs) i us
 unfolding put

@@ -21,6 +21,7 @@ use Rattle.nearer.specs.Nearer.{nearerOf}
 use Rattle.convert_parts.specs.Pieces.{pieces}
 use Rattle.vecs.specs.Vecs.{vecsRefusals, vecsAnswerBy, vectorAt, bvecsOf, bvecsOutcome}
 use Rattle.vecs.specs.Append.{appendOf, appendOutcome}
+use Rattle.vecs.specs.VecsExamples.{counted}
 use Rattle.answer_fields.specs.Fields.{ExportOutcome, exportOutcome}
 use Rattle.answer_fields.specs.Exported.{readExport, writeExport, convertExport, distanceExport, nearerExport, vecsExport, bvecsExport, appendExport}
 use Rattle.fulandewu.specs.Kinds.{writtenBy, convertedBy}
@@ -101,12 +102,9 @@ unsupported = 0x05 ∷ []
 abbrev pub unknown : List ℕ
 unknown = 0x07 ∷ []
 
--- a count of one byte's size, and the vector 1.0 in an fvecs file
-abbrev pub count : ℕ → List ℕ
-count n = n ∷ 0 ∷ 0 ∷ 0 ∷ []
-
+-- the vector 1.0 in an fvecs file
 abbrev pub oneVector : List ℕ
-oneVector = count 1 ++ one
+oneVector = counted 1 ++ one
 
 abbrev pub table : List Example
 table =
@@ -150,13 +148,13 @@ table =
     ∷ readsFvecs (oneVector ++ oneVector) 8 (fileRow 0 1 old 12 16 old 1 old [])
     ∷ readsFvecs oneVector 8 (fileRow 0 old old old old old 0 old [])
     ∷ readsFvecs oneVector (2 ^ 64 - 1) (fileRow 0 old old old old old 0 old [])
-    ∷ readsFvecs (count 0) 0 (fileRow 0 0 old 4 4 old 1 old [])
+    ∷ readsFvecs (counted 0) 0 (fileRow 0 0 old 4 4 old 1 old [])
     ∷ readsFvecs (oneVector ++ (1 ∷ [])) 8 (fileRow 19 old old old old 8 old old [])
     ∷ readsFvecs (0xff ∷ 0xff ∷ 0xff ∷ 0xff ∷ []) 0 (fileRow 9 old old old old old old old [])
-    ∷ readsBvecs (count 1 ++ (1 ∷ [])) 0 5 (fileRow 0 1 old 4 5 old 1 old ((one ++ (old ∷ [])) ∷ []))
-    ∷ readsBvecs (count 1 ++ (1 ∷ [])) 0 3 (fileRow 15 old 4 old old old old old (replicate 3 old ∷ []))
-    ∷ readsBvecs (count 1 ++ (1 ∷ [])) 5 3 (fileRow 0 old old old old old 0 old (replicate 3 old ∷ []))
-    ∷ readsBvecs (count 1) 0 5 (fileRow 19 old old old old 0 old old (replicate 5 old ∷ []))
+    ∷ readsBvecs (counted 1 ++ (1 ∷ [])) 0 5 (fileRow 0 1 old 4 5 old 1 old ((one ++ (old ∷ [])) ∷ []))
+    ∷ readsBvecs (counted 1 ++ (1 ∷ [])) 0 3 (fileRow 15 old 4 old old old old old (replicate 3 old ∷ []))
+    ∷ readsBvecs (counted 1 ++ (1 ∷ [])) 5 3 (fileRow 0 old old old old old 0 old (replicate 3 old ∷ []))
+    ∷ readsBvecs (counted 1) 0 5 (fileRow 19 old old old old 0 old old (replicate 5 old ∷ []))
     -- what is needed is counted from the fill on, also where that is past the end
     ∷ appendsTo 10 one 1 (fileRow 0 old old old old old old 9 ((old ∷ oneVector ++ (old ∷ [])) ∷ []))
     ∷ appendsTo 10 one 3 (fileRow 15 old 8 old old old old old (replicate 10 old ∷ []))

@@ -8,6 +8,7 @@ use borrow.Author.Tests.{ltb-true, ltb-false}
 use lib.ListN.{length, drop, length-append}
 use lib.Seq.{drop-drop}
 use Rattle.line_stream.proofs.Answering.{no-lines, answered-first, some-answered}
+use Rattle.line_stream.proofs.InputRead.{length-flatten}
 use Rattle.line_stream.proofs.ServingAll.{stopped, turn-shorter}
 use Rattle.vecs_lines.specs.inner.Rooms.{vectorLineRoom}
 use Rattle.lines.specs.Text.{newline}
@@ -39,11 +40,6 @@ listed-cut {text} {at = at} p =
     let c = cut-after (p .done) (vectorsOf (drop at text)) text (p .parts) in
     (omega (arith, c .within, p .place), omega (arith, c .few, p .place, p .numbered))
 
-size-append : (vs ws : List (List ℕ)) → sizeOf (vs ++ ws) ≡ sizeOf vs + sizeOf ws
-unfolding flatten
-size-append [] ws = omega arith
-size-append (v ∷ vs) ws = omega (arith, size-append vs ws, length-append v (flatten (vs ++ ws)), length-append v (flatten vs))
-
 -- vectors of the rest are listed
 module _ (text rest : List ℕ) (at : ℕ) (lent : rest ≡ drop at text) {out o : List ℕ} {b : ℕ} {r : ListedVectors} (s : Lists rest b out o r) where
   abbrev new : List (List ℕ)
@@ -63,7 +59,7 @@ module _ (text rest : List ℕ) (at : ℕ) (lent : rest ≡ drop at text) {out o
   pub more-listed : {before : ℕ} → TextListedUpTo text before at b → TextListedUpTo text before (at + r .at) (r .before)
   more-listed p = record {
     done = p .done ++ new;
-    place = omega (arith, p .place, s .place, size-append (p .done) new);
+    place = omega (arith, p .place, s .place, length-flatten (p .done) new);
     parts = p .parts ∙ ap (λ (vs : List (List ℕ)). p .done ++ vs) (ap vectorsOf (sym lent) ∙ parted ∙ ap (λ (vs : List (List ℕ)). new ++ vs) (sym ahead))
         ∙ sym (append-assoc (p .done) new (vectorsOf (drop (at + r .at) text)));
     numbered = omega (arith, p .numbered, s .numbered, length-append (p .done) new);

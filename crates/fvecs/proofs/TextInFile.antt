@@ -6,7 +6,7 @@ use Prim.Native.Nat.{ℕ, suc, _+_, _-_, _*_, _<_, _≤_}
 use native.Mathlib.Omega.{arith}
 use native.Mathlib.Decide.{decLt}
 use lib.ListN.{length, take, drop, length-append, length-drop}
-use lib.Seq.{take-add, take-append-le, drop-append-le, drop-drop, drop-at, length-take-le}
+use lib.Seq.{take-append-le, drop-append-le, drop-drop, length-take-le}
 use Rattle.little_endian.specs.Bytes.{u32At}
 use Rattle.little_endian.proofs.Numbers.{numberAt-take}
 use Rattle.lines.specs.Printed.{numberedReply, numberedReplies}
@@ -16,7 +16,7 @@ use Rattle.vecs.specs.declared.Found.{Found}
 use Rattle.vecs.specs.declared.VecsAnswer.{VecsAnswer}
 use Rattle.vecs.specs.declared.VecsAnswer.the-variants.{Vector, End, Refused}
 use Rattle.vecs.proofs.AtPlace.{elements-are}
-use Rattle.vecs.proofs.Vecs.{one-case}
+use Rattle.vecs.proofs.Vecs.{one-case, part-taken}
 use Rattle.vecs_lines.specs.Line.{vectorReply}
 use Rattle.vecs_lines.specs.inner.Cut.{endOf, firstSize, vectorsOf, sizeOf, wholeReply, answerAt, endsListing, toldLine}
 use Rattle.vecs_lines.proofs.Starting.{vector-before, over-before, moved-to}
@@ -36,8 +36,7 @@ module _ (text : List ℕ) (some : 0 < firstSize text) where
   first-reply : wholeReply (take (firstSize text) text) ≡ vectorReply count (take (4 * count) (drop 4 text))
   first-reply =
       let number : u32At (take (4 + 4 * count) text) 0 ≡ count = numberAt-take 4 (4 + 4 * count) text 0 (omega arith) in
-      let elements : drop 4 (take (4 + 4 * count) text) ≡ take (4 * count) (drop 4 text)
-      = rw (take-add 4 (4 * count) text) (drop-at (take 4 text) (take (4 * count) (drop 4 text)) 4 (length-take-le 4 text (omega (arith, first .size, first .within)))) in
+      let elements = part-taken text 4 (4 * count) (omega (arith, first .size, first .within)) in
       rw (first .size, number, elements)
 
   module _ (file t : List ℕ) (place : ℕ) (stands : drop place file ≡ text ++ t) where

@@ -13,10 +13,15 @@ use Rattle.line_stream.specs.declared.InputText.{InputText}
 use Rattle.line_stream.specs.declared.ServedText.{ServedText}
 use Rattle.line_stream.proofs.Cutting.{none-ended-take, none-ended-unfinished, ended-line, unfinished-line, count-le}
 
+-- how many bytes pieces have, and after one more
+pub length-flatten : (pieces more : List (List ℕ)) → length (flatten (pieces ++ more)) ≡ length (flatten pieces) + length (flatten more)
+unfolding flatten
+length-flatten [] more = omega arith
+length-flatten (s ∷ pieces) more = simp length-append (omega (arith, length-flatten pieces more))
+
 pub flatten-more : (pieces : List (List ℕ)) (s : List ℕ) → length (flatten (pieces ++ (s ∷ []))) ≡ length (flatten pieces) + length s
 unfolding flatten
-flatten-more [] s = rw append-nil (omega arith)
-flatten-more (t ∷ pieces) s = simp length-append (omega (arith, flatten-more pieces s))
+flatten-more pieces s = length-flatten pieces (s ∷ []) ∙ rw append-nil
 
 module _ (reply : List ℕ → List ℕ) (most : ℕ) where
   after-more : (p : Progress) (pieces : List (List ℕ)) (s : List ℕ) → afterPieces reply most p (pieces ++ (s ∷ [])) ≡ afterPiece reply most (afterPieces reply most p pieces) s

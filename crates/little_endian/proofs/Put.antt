@@ -3,16 +3,22 @@ use mathlib.Core.Path.{_≡_, _∙_}
 use mathlib.Core.Logic.{_⊎_, inl, inr}
 use mathlib.Core.List.{List, [], _++_, append-assoc, append-nil}
 use Prim.Native.Nat.{ℕ, _+_, _-_, _%_, _/_, _^_, _<_, _≤_}
-use native.Mathlib.Nat.{add-zero, add-assoc}
+use native.Mathlib.Nat.{zero-add, add-zero, add-assoc}
 use native.Mathlib.Omega.{arith}
 use lib.ListN.{length, take, drop, length-append, length-drop, take-append-drop}
 use lib.Seq.{length-take-le, take-add, take-at, take-append-seam, drop-drop, drop-at, drop-append-seam}
+use Rattle.promises.specs.Onto.{onto}
 use Rattle.little_endian.specs.Bytes.{numberAt, bytesOf, put}
 use Rattle.little_endian.proofs.Numbers.{numberAt-take, numberAt-drop, numberAt-left, numberAt-bytesOf, length-bytesOf, bytesOf-halves}
 
 pub put-nothing : (l : List ℕ) (i : ℕ) → put l i [] ≡ l
 unfolding put
 put-nothing l i = rw (append-nil, add-zero) (take-append-drop i l)
+
+-- bytes put at the front
+pub put-front : (l vs : List ℕ) → put l 0 vs ≡ onto vs l
+unfolding put
+put-front l vs = rw zero-add
 
 module _ (l : List ℕ) (i : ℕ) (vs : List ℕ) (room : i + length vs ≤ length l) where
   length-before : length (take i l) ≡ i

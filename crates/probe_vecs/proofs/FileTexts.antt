@@ -43,37 +43,37 @@ elements-few file place = by-answer (vectorAt 4 file place) refl
 
 -- ---- bvecs in room for the most elements: what stands there is answered, and the first bytes of the room are its elements as f32
 module _ (file : List ℕ) (place : ℕ) (room : List ℕ) (roomy : length room ≡ scratchRoom) where
-  abbrev pub Answered : VecsAnswer → List ℕ → Type 0
-  Answered r left = (floatsLength r ≤ 4 * maxDims) × (vecsText r (take (floatsLength r) left) ≡ fileText Bvecs place file)
+  abbrev pub BvecsShown : VecsAnswer → List ℕ → Type 0
+  BvecsShown r left = (floatsLength r ≤ 4 * maxDims) × (vecsText r (take (floatsLength r) left) ≡ fileText Bvecs place file)
 
-  answered-none : (r : VecsAnswer) → vectorAt 1 file place ≡ r → floatsLength r ≡ 0 → ((s t : List ℕ) → vecsText r s ≡ vecsText r t) → Answered r room
+  shown-none : (r : VecsAnswer) → vectorAt 1 file place ≡ r → floatsLength r ≡ 0 → ((s t : List ℕ) → vecsText r s ≡ vecsText r t) → BvecsShown r room
   unfolding fileText
-  answered-none r h none same = (omega (arith, none), same _ (byteFloats (elementsAt 1 file place)) ∙ rw h)
+  shown-none r h none same = (omega (arith, none), same _ (byteFloats (elementsAt 1 file place)) ∙ rw h)
 
-  answered-vector : (v : Found) → vectorAt 1 file place ≡ Vector v → 4 * v .dims .0 ≤ 4 * maxDims → Answered (Vector v) (onto (byteFloats (elementsAt 1 file place)) room)
+  shown-vector : (v : Found) → vectorAt 1 file place ≡ Vector v → 4 * v .dims .0 ≤ 4 * maxDims → BvecsShown (Vector v) (onto (byteFloats (elementsAt 1 file place)) room)
   unfolding fileText
-  answered-vector v h few =
+  shown-vector v h few =
       let floats = byteFloats (elementsAt 1 file place) in
       let size : length floats ≡ 4 * v .dims .0 = length-floats binary32 _ _ ∙ rw (length-elements 1 file place v h) (omega arith) in
       (few, rw (take-at floats (drop (length floats) room) (4 * v .dims .0) size, h))
 
-  pub bvecs-text : (r : VecsAnswer) (left : List ℕ) → vecsLeaving r left ≡ bvecsOutcome file place room → Answered r left
+  pub bvecs-text : (r : VecsAnswer) (left : List ℕ) → vecsLeaving r left ≡ bvecsOutcome file place room → BvecsShown r left
   unfolding vecsText
   bvecs-text r left e = by-answer (vectorAt 1 file place) refl
     where
-      by : (s : VecsAnswer) (after : List ℕ) → bvecsOutcome file place room ≡ vecsLeaving s after → Answered s after → Answered r left
+      by : (s : VecsAnswer) (after : List ℕ) → bvecsOutcome file place room ≡ vecsLeaving s after → BvecsShown s after → BvecsShown r left
       by s after o a =
           let answer : s ≡ r = sym (ap (λ (x : VecsOutcome). x .answer) (e ∙ o)) in
           let out : after ≡ left = sym (ap (λ (x : VecsOutcome). x .out) (e ∙ o)) in
-          subst₂ Answered answer out a
+          subst₂ BvecsShown answer out a
 
-      by-answer : (s : VecsAnswer) → vectorAt 1 file place ≡ s → Answered r left
+      by-answer : (s : VecsAnswer) → vectorAt 1 file place ≡ s → BvecsShown r left
       by-answer (Vector v) h =
           let facts = vector-facts 1 file place v h in
           let few : 4 * v .dims .0 ≤ 4 * maxDims = rw (facts .is) (omega (arith, facts .few)) in
-          by (Vector v) _ (bvecs-put file place room v h (omega (arith, few, roomy))) (answered-vector v h few)
-      by-answer End h = by End room (bvecs-outcome file place room End h) (answered-none End h refl (λ s t. refl))
-      by-answer (Refused x) h = by (Refused x) room (bvecs-outcome file place room (Refused x) h) (answered-none (Refused x) h refl (λ s t. refl))
+          by (Vector v) _ (bvecs-put file place room v h (omega (arith, few, roomy))) (shown-vector v h few)
+      by-answer End h = by End room (bvecs-outcome file place room End h) (shown-none End h refl (λ s t. refl))
+      by-answer (Refused x) h = by (Refused x) room (bvecs-outcome file place room (Refused x) h) (shown-none (Refused x) h refl (λ s t. refl))
 
 -- ---- H is the last field
 file-tab : (kind : FileKind) (number : Parsed) (s : List ℕ) → indexOf tab s < length s → fileFoundReply kind number s ≡ malformed

@@ -4,7 +4,6 @@ use mathlib.Core.Logic.{_⊎_, inl, inr}
 use mathlib.Core.Bool.{Bool, true, false}
 use mathlib.Core.List.{List, _++_, append-assoc}
 use Prim.Native.Nat.{ℕ, _+_, _-_, _*_, _<_, _≤_}
-use native.Mathlib.Nat.{zero-add}
 use native.Mathlib.Omega.{arith}
 use lib.Dec.{ltb}
 use lib.ListN.{length, take, drop, length-append}
@@ -33,10 +32,6 @@ use Rattle.vecs.specs.declared.AppendAnswer.the-variants.{Filled}
 -- ---- a vector's bytes, and these written to the part of a buffer from a place on
 pub length-vector : (d : ℕ) (body : List ℕ) → length (vectorBytes d body) ≡ 4 + length body
 length-vector d body = rw (length-append, length-bytesOf)
-
-pub put-front : (w l : List ℕ) → put l 0 w ≡ onto w l
-unfolding put
-put-front w l = rw zero-add
 
 pub put-part : (fill : ℕ) (out ys w : List ℕ) → ys ≡ onto w (take (length out - fill) (drop fill out))
     → putMid fill (length out - fill) out ys ≡ put out fill w

@@ -97,7 +97,7 @@ module _ (w : ℕ) (file : List ℕ) (place : ℕ) where
       }
 
 -- a part of the first bytes is a part of all
-part-taken : (l : List ℕ) (s n : ℕ) → s + n ≤ length l → drop s (take (s + n) l) ≡ take n (drop s l)
+pub part-taken : (l : List ℕ) (s n : ℕ) → s + n ≤ length l → drop s (take (s + n) l) ≡ take n (drop s l)
 part-taken l s n within = rw take-add (drop-at (take s l) (take n (drop s l)) s (length-take-le s l (omega arith)))
 
 -- ---- a vector lies inside its file, and the next place is above its own

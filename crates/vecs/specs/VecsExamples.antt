@@ -101,27 +101,27 @@ pub record ByteExample : Type 0 where
 abbrev pub room : List ℕ
 room = replicate 9 0xee
 
-abbrev pub leaves : List ℕ → ℕ → VecsAnswer → List ℕ → ByteExample
-leaves file place r out = record { file = file; place = place; outcome = vecsLeaving r out }
+abbrev pub leavesFloats : List ℕ → ℕ → VecsAnswer → List ℕ → ByteExample
+leavesFloats file place r out = record { file = file; place = place; outcome = vecsLeaving r out }
 
-abbrev pub keeps : List ℕ → ℕ → VecsAnswer → ByteExample
-keeps file place r = leaves file place r room
+abbrev pub keepsRoom : List ℕ → ℕ → VecsAnswer → ByteExample
+keepsRoom file place r = leavesFloats file place r room
 
 -- 0, 1, 2 and 255; two elements fill eight bytes, three need twelve
 abbrev pub bytewise : List ByteExample
 bytewise =
-    keeps [] 0 End
-    ∷ keeps (1 ∷ 0 ∷ 0 ∷ []) 0 (inside 0)
-    ∷ keeps (counted 1) 0 (inside 0)
-    ∷ keeps (counted 4 ++ (7 ∷ 7 ∷ 7 ∷ [])) 0 (inside 0)
-    ∷ keeps (1 ∷ 0 ∷ 1 ∷ 0 ∷ []) 0 overLimit
-    ∷ keeps (0xff ∷ 0xff ∷ 0xff ∷ 0xff ∷ []) 0 overLimit
-    ∷ leaves (counted 2 ++ (1 ∷ 2 ∷ [])) 0 (Vector (vectorOf 1 0 2)) (one32 ++ two32 ++ (0xee ∷ []))
-    ∷ leaves (counted 0 ++ counted 2 ++ (0 ∷ 255 ∷ [])) 4 (Vector (vectorOf 1 4 2)) (replicate 4 0 ++ (0 ∷ 0 ∷ 0x7f ∷ 0x43 ∷ 0xee ∷ []))
-    ∷ leaves (counted 0) 0 (Vector (vectorOf 1 0 0)) room
-    ∷ keeps (counted 3 ++ (1 ∷ 2 ∷ 3 ∷ [])) 0 (vecsRefused (needing 15 12))
-    ∷ keeps (counted 1 ++ (9 ∷ [])) 5 End
-    ∷ keeps (counted 1 ++ (9 ∷ [])) (2 ^ 64 - 1) End
+    keepsRoom [] 0 End
+    ∷ keepsRoom (1 ∷ 0 ∷ 0 ∷ []) 0 (inside 0)
+    ∷ keepsRoom (counted 1) 0 (inside 0)
+    ∷ keepsRoom (counted 4 ++ (7 ∷ 7 ∷ 7 ∷ [])) 0 (inside 0)
+    ∷ keepsRoom (1 ∷ 0 ∷ 1 ∷ 0 ∷ []) 0 overLimit
+    ∷ keepsRoom (0xff ∷ 0xff ∷ 0xff ∷ 0xff ∷ []) 0 overLimit
+    ∷ leavesFloats (counted 2 ++ (1 ∷ 2 ∷ [])) 0 (Vector (vectorOf 1 0 2)) (one32 ++ two32 ++ (0xee ∷ []))
+    ∷ leavesFloats (counted 0 ++ counted 2 ++ (0 ∷ 255 ∷ [])) 4 (Vector (vectorOf 1 4 2)) (replicate 4 0 ++ (0 ∷ 0 ∷ 0x7f ∷ 0x43 ∷ 0xee ∷ []))
+    ∷ leavesFloats (counted 0) 0 (Vector (vectorOf 1 0 0)) room
+    ∷ keepsRoom (counted 3 ++ (1 ∷ 2 ∷ 3 ∷ [])) 0 (vecsRefused (needing 15 12))
+    ∷ keepsRoom (counted 1 ++ (9 ∷ [])) 5 End
+    ∷ keepsRoom (counted 1 ++ (9 ∷ [])) (2 ^ 64 - 1) End
     ∷ []
 
 pub bytewise-holds : map (λ (e : ByteExample). bvecsOutcome (e .file) (e .place) room) bytewise ≡ map (λ (e : ByteExample). e .outcome) bytewise

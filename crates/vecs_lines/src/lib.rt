@@ -44,7 +44,7 @@ fn first_size(text: &[u8]) -> usize
 }
 
 // Puts V, the dims and the elements of a whole vector at the start of out, separated by tabs.
-fn put_vector(vector: &[u8], out: &mut [u8]) -> usize
+fn put_whole(vector: &[u8], out: &mut [u8]) -> usize
     requires { ⌜ 4 ≤ length (now vector) ⌝ }
     requires { ⌜ 23 + 2 * length (now vector) ≤ length (now out) + 8 ⌝ }
     ensures { λ r. ⌜ Puts (wholeReply (now (vector .entry))) (now (out .entry)) r (now (out .exit)) ⌝ }
@@ -64,7 +64,7 @@ fn put_line(number: u64, vector: &[u8], out: &mut [u8]) -> usize
 {
     let head = put_head(number, out);
     let last = out.len() - 1;
-    let length = put_vector(vector, &mut out[head..last]);
+    let length = put_whole(vector, &mut out[head..last]);
     let end = head + length;
     out[end] = b'\n';
     end + 1

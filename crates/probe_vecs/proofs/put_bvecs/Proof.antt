@@ -7,7 +7,7 @@ use lib.Seq.{length-take-le}
 use Rattle.vector_types.specs.Layout.{maxDims}
 use Rattle.promises.proofs.Puts.{puts-same}
 use Rattle.probe_vecs.specs.Files.{vecsText}
-use Rattle.probe_vecs.proofs.FileTexts.{Answered, bvecs-text}
+use Rattle.probe_vecs.proofs.FileTexts.{BvecsShown, bvecs-text}
 use borrow.Author.Needs.{needs}
 use native.Mathlib.Omega.{arith}
 use Rattle.probe_vecs.proofs.put_bvecs.Statement.{statement}
@@ -20,7 +20,7 @@ start c = c .before .before .before .before .before
 abbrev left : tie.After-bvecs-at → List ℕ
 left c = c .bvecs-at .last .1 .1 .0
 
-answered : (c : tie.After-bvecs-at) → let a = start c .args in Answered (a .file .now) (a .place) (a .scratch .now) (start c .pre .0) (c .bvecs-at .result) (left c)
+answered : (c : tie.After-bvecs-at) → let a = start c .args in BvecsShown (a .file .now) (a .place) (a .scratch .now) (start c .pre .0) (c .bvecs-at .result) (left c)
 answered c = let a = start c .args in bvecs-text (a .file .now) (a .place) (a .scratch .now) (start c .pre .0) _ _ (c .bvecs-at .ensures)
 
 floats-length-requires : tie.Need-floats-length-requires

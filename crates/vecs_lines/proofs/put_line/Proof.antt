@@ -14,20 +14,20 @@ use Rattle.vecs_lines.proofs.put_line.Tie as tie
 abbrev start : tie.After-put-head → tie.Start
 start c = c .before .before .before .before
 
-abbrev head : tie.After-put-vector → tie.After-put-head
+abbrev head : tie.After-put-whole → tie.After-put-head
 head c = c .before .before .before .before
 
-abbrev answered : tie.After-slice-known3 → tie.After-put-vector
+abbrev answered : tie.After-slice-known3 → tie.After-put-whole
 answered c = c .before .before
 
-whole : (c : tie.After-put-vector) → let h = head c .put-head in let a = start (head c) .args in let r = c .put-vector in
+whole : (c : tie.After-put-whole) → let h = head c .put-head in let a = start (head c) .args in let r = c .put-whole in
     NumberedReplyPut (headOf (a .number)) (wholeReply (a .vector .now)) (a .out .now) (h .last .1 .0) (r .last .1 .0) newline (h .result) (r .result) (length (h .last .1 .0) - 1)
 whole c =
     let h = head c .put-head in
     let pre = start (head c) .pre in
-    numbered-reply-put (h .ensures .0) (h .kept .1 .0) (omega (arith, h .ensures, h .kept, pre)) (omega (arith, h .kept, pre)) (c .put-vector .ensures) (c .put-vector .kept .1 .0)
+    numbered-reply-put (h .ensures .0) (h .kept .1 .0) (omega (arith, h .ensures, h .kept, pre)) (omega (arith, h .kept, pre)) (c .put-whole .ensures) (c .put-whole .kept .1 .0)
 
-within : (c : tie.After-put-vector) → head c .put-head .result + c .put-vector .result < length (start (head c) .args .out .now)
+within : (c : tie.After-put-whole) → head c .put-head .result + c .put-whole .result < length (start (head c) .args .out .now)
 within c = omega (arith, whole c .within, head c .put-head .kept, start (head c) .pre)
 
 add-end : tie.Need-add-end

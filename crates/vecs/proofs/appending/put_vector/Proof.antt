@@ -8,7 +8,8 @@ use borrow.Author.Needs.{needs}
 use Rattle.promises.proofs.Onto.{copied, onto-then, tail-lent}
 use Rattle.little_endian.specs.Bytes.{bytesOf, put}
 use Rattle.little_endian.proofs.Numbers.{length-bytesOf}
-use Rattle.vecs.proofs.Appended.{length-vector, put-front}
+use Rattle.little_endian.proofs.Put.{put-front}
+use Rattle.vecs.proofs.Appended.{length-vector}
 use Rattle.vecs.proofs.appending.put_vector.Statement.{statement}
 use Rattle.vecs.proofs.appending.put_vector.Tie as tie
 
@@ -44,7 +45,7 @@ returns c =
     let head = length-bytesOf 4 (dims lent) in
     let copy = copied (body lent) (body lent) _ (call .copy .last .1 .0) (call .copy .result) refl (call .copy .ensures .0) (call .copy .ensures .1) in
     onto-then (bytesOf 4 (dims lent)) (body lent) (out lent) (put .put-u32 .last .0) (call .copy .last .1 .0) 4
-    (put .put-u32 .ensures ∙ put-front (bytesOf 4 (dims lent)) (out lent)) head (copy .1)
+    (put .put-u32 .ensures ∙ put-front (out lent) (bytesOf 4 (dims lent))) head (copy .1)
 
 pub put-vector-spec : {M : Type 1} → statement M
 put-vector-spec =
