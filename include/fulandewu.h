@@ -58,6 +58,13 @@ enum fulandewu_kind {
     FULANDEWU_FLOAT32_SPARSE = 9
 };
 
+/* How a blob is read. Strict asks besides that sparse indices are in order and unused bits zero.
+ * Conversions, distances, nearer of two and fulandewu_fvecs_append read plainly. */
+enum fulandewu_mode {
+    FULANDEWU_PLAIN = 0,
+    FULANDEWU_STRICT = 1
+};
+
 /* Refusals, each given exactly when its line says. L is a blob's length, n = L - 1, and t the byte
  * before the last. Of several the first in the order of the function's own list is given. */
 enum fulandewu_refusal {
@@ -122,17 +129,14 @@ struct fulandewu_answer {
 typedef char fulandewu_answer_has_256_bytes[sizeof(struct fulandewu_answer) == 256 ? 1 : -1];
 typedef char fulandewu_lengths_have_8_bytes[sizeof(size_t) == 8 ? 1 : -1];
 
-/* Reads a blob. No byte is copied: the body is the first `length` bytes of the caller's own blob. A
- * sparse body is its values (f32) in the first half and its indices (u32) in the second; numbers are
- * little-endian.
+/* Reads a blob in a mode, an enum fulandewu_mode. No refusal is about the mode: a byte that names none
+ * reads strictly, so a wrong one never accepts more than a right one. No byte is copied: the body is the
+ * first `length` bytes of the caller's own blob. A sparse body is its values (f32) in the first half and
+ * its indices (u32) in the second; numbers are little-endian. Both modes show the same of a blob that
+ * both accept.
  * An answer writes `kind`, `dims` and `length`, a refusal nothing.
- * Refusals: 1 to 9, in that order. */
-uint32_t fulandewu_read(const uint8_t *blob, size_t blob_length, struct fulandewu_answer *answer);
-
-/* The same, and asks besides that sparse indices are in order and unused bits zero. Conversions and
- * distances read plainly.
- * Refusals: 1 to 11, in that order. */
-uint32_t fulandewu_read_strict(const uint8_t *blob, size_t blob_length, struct fulandewu_answer *answer);
+ * Refusals: plain 1 to 9, strict 1 to 11, in that order. */
+uint32_t fulandewu_read(uint8_t mode, const uint8_t *blob, size_t blob_length, struct fulandewu_answer *answer);
 
 /* Writes the blob of a kind, dims and body (a sparse body: values, then indices, without dims) to the
  * first `length` bytes of `out`, and changes no byte past them. It reads back as the same kind, dims

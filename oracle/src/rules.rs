@@ -75,7 +75,7 @@ impl fmt::Debug for View {
     }
 }
 
-/// The plain reader: refusals 1 to 9 in their order.
+/// The plain mode: refusals 1 to 9 in their order.
 pub fn read(blob: &[u8]) -> Result<View, Refusal> {
     if blob.len() > MOST_LENGTH {
         return Err(1);
@@ -154,7 +154,7 @@ pub fn indices(body: &[u8]) -> impl Iterator<Item = u32> + '_ {
     words.iter().map(|&word| u32::from_le_bytes(word))
 }
 
-/// What the strict reader tests besides: 10, then 11.
+/// What the strict mode tests besides: 10, then 11.
 pub fn strict(view: &View) -> Result<(), Refusal> {
     match view.kind {
         Kind::Float32Sparse if !indices(&view.body).is_sorted() => Err(10),

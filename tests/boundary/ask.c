@@ -7,7 +7,7 @@
 #include "lent.h"
 
 const char *const EXPORT_NAMES[EXPORTS] = {
-    "fulandewu_read", "fulandewu_read_strict", "fulandewu_write", "fulandewu_convert",
+    "fulandewu_read", "fulandewu_write", "fulandewu_convert",
     "fulandewu_distance_cos", "fulandewu_distance_l2", "fulandewu_distance_dot", "fulandewu_distance_jaccard",
     "fulandewu_nearer_cos", "fulandewu_nearer_l2", "fulandewu_nearer_dot", "fulandewu_nearer_jaccard",
     "fulandewu_fvecs_read", "fulandewu_bvecs_read", "fulandewu_fvecs_append",
@@ -58,12 +58,10 @@ struct call {
     struct fulandewu_answer *answer;
 };
 
-typedef uint32_t reader(const uint8_t *, size_t, struct fulandewu_answer *);
 typedef uint32_t measure(const uint8_t *, size_t, const uint8_t *, size_t, struct fulandewu_answer *);
 typedef uint32_t chooser(const uint8_t *, size_t, const uint8_t *, size_t, const uint8_t *, size_t,
                          struct fulandewu_answer *);
 
-static reader *const READERS[] = {fulandewu_read, fulandewu_read_strict};
 static measure *const MEASURES[] = {fulandewu_distance_cos, fulandewu_distance_l2, fulandewu_distance_dot,
                                     fulandewu_distance_jaccard};
 static chooser *const CHOOSERS[] = {fulandewu_nearer_cos, fulandewu_nearer_l2, fulandewu_nearer_dot,
@@ -73,7 +71,7 @@ static uint32_t call_export(const struct request *r, const struct call *c) {
     const uint8_t *const *b = c->bytes;
     const struct bytes *l = r->bytes;
     calls++;
-    if (r->export <= READ_STRICT) return READERS[r->export - READ](b[0], l[0].length, c->answer);
+    if (r->export == READ) return fulandewu_read(r->mode, b[0], l[0].length, c->answer);
     if (r->export == WRITE)
         return fulandewu_write(r->kind, r->dims, b[0], l[0].length, c->out, r->out, c->answer);
     if (r->export == CONVERT)
@@ -93,7 +91,7 @@ static int at_end(const struct request *r) { return r->place >= r->bytes[0].leng
 
 /* The fields that an answer writes, as a set. */
 static uint32_t answer_fields(const struct request *r) {
-    if (r->export <= READ_STRICT) return 1u << KIND | 1u << DIMS | 1u << LENGTH;
+    if (r->export == READ) return 1u << KIND | 1u << DIMS | 1u << LENGTH;
     if (r->export == WRITE) return 1u << LENGTH;
     if (r->export == CONVERT) return 1u << DIMS | 1u << LENGTH;
     if (r->export <= DISTANCE_JACCARD) return 1u << DISTANCE;

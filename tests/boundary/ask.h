@@ -6,7 +6,7 @@
 #include <stdint.h>
 
 enum export {
-    READ, READ_STRICT, WRITE, CONVERT,
+    READ, WRITE, CONVERT,
     DISTANCE_COS, DISTANCE_L2, DISTANCE_DOT, DISTANCE_JACCARD,
     NEARER_COS, NEARER_L2, NEARER_DOT, NEARER_JACCARD,
     FVECS_READ, BVECS_READ, FVECS_APPEND,
@@ -32,7 +32,7 @@ struct bytes {
 struct request {
     enum export export;
     struct bytes bytes[3];
-    uint8_t kind;
+    uint8_t mode, kind;
     size_t dims, scratch, out, place, fill;
 };
 

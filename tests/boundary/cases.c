@@ -41,7 +41,11 @@ static struct request on(enum export export, struct bytes a, struct bytes b, str
     return (struct request){.export = export, .bytes = {a, b, c}};
 }
 
-/* Each of the reader's refusals, of every blob of every export. */
+static struct request reading(unsigned mode, struct bytes blob) {
+    return (struct request){.export = READ, .mode = (uint8_t)mode, .bytes = {blob}};
+}
+
+/* Each of the reader's refusals, of every blob of every export, in each mode and by a byte that names none. */
 static void reader_refusals(void) {
     const struct bytes good = BYTES(DENSE);
     now_from = "what the reader refuses";
@@ -49,8 +53,7 @@ static void reader_refusals(void) {
         struct bytes bad = REFUSED[n];
         struct request convert = {.export = CONVERT, .bytes = {bad}, .kind = FULANDEWU_FLOAT32_DENSE};
         struct request append = {.export = FVECS_APPEND, .bytes = {bad}, .out = ROOM};
-        expect(on(READ, bad, REFUSED[0], REFUSED[0]), n);
-        expect(on(READ_STRICT, bad, REFUSED[0], REFUSED[0]), n);
+        for (unsigned mode = 0; mode <= 2; mode++) expect(reading(mode, bad), n);
         expect(convert, n);
         expect(append, n);
         for (enum export e = DISTANCE_COS; e <= DISTANCE_JACCARD; e++) {
@@ -64,6 +67,20 @@ static void reader_refusals(void) {
             expect_which(on(e, good, good, bad), n, FULANDEWU_SECOND);
             expect_which(on(e, bad, REFUSED[3], REFUSED[2]), n, FULANDEWU_PROBE);
         }
+    }
+}
+
+/* All 256 bytes as a mode: 0 is the plain one, and every other byte reads strictly. */
+static void mode_bytes(void) {
+    static const uint8_t unsorted[] = {0, 0, 0x80, 0x3f, 0, 0, 0x80, 0x3f, 1, 0, 0, 0, 0, 0, 0, 0, 2, 0, 0, 0, 9};
+    static const uint8_t unused_set[] = {0xff, 0x09, FULANDEWU_FLOAT1BIT};
+    now_from = "the bytes that name modes";
+    for (unsigned byte = 0; byte < 256; byte++) {
+        int strict = byte != FULANDEWU_PLAIN;
+        expect(reading(byte, BYTES(unsorted)), strict ? FULANDEWU_SPARSE_ORDER : FULANDEWU_ANSWERED);
+        expect(reading(byte, BYTES(unused_set)), strict ? FULANDEWU_UNUSED_BIT_SET : FULANDEWU_ANSWERED);
+        struct answer a = expect(reading(byte, BYTES(ONE_BIT)), FULANDEWU_ANSWERED);
+        expect_field(&a, DIMS, 2);
     }
 }
 
@@ -147,7 +164,7 @@ static void at_the_limits(void) {
     }
     longest[FULANDEWU_LONGEST - 3] = 1;
     longest[FULANDEWU_LONGEST - 1] = FULANDEWU_FLOAT32_SPARSE;
-    struct answer a = expect(on(READ_STRICT, sparse, REFUSED[0], REFUSED[0]), 0);
+    struct answer a = expect(reading(FULANDEWU_STRICT, sparse), 0);
     expect_field(&a, KIND, FULANDEWU_FLOAT32_SPARSE);
     expect_field(&a, DIMS, FULANDEWU_MOST_DIMS);
     expect_field(&a, LENGTH, FULANDEWU_LONGEST - 5);
@@ -197,6 +214,7 @@ static void the_same_blob_twice(void) {
 void try_cases(void) {
     try_files();
     reader_refusals();
+    mode_bytes();
     pair_refusals();
     kind_bytes();
     writer_refusals();
@@ -206,16 +224,15 @@ void try_cases(void) {
 
 /* The refusals' numbers that an export can give, as a set, 0 among them. */
 static uint32_t can_give(enum export export) {
-    const uint32_t reading = 0x3ff; /* 0 to 9 */
-    const uint32_t pairs = reading | 1u << 12 | 1u << 13;
+    const uint32_t every_mode = 0x3ff; /* 0 to 9 */
+    const uint32_t pairs = every_mode | 1u << 12 | 1u << 13;
     uint32_t l2 = export == DISTANCE_L2 || export == NEARER_L2 ? 1u << 14 : 0;
-    if (export == READ) return reading;
-    if (export == READ_STRICT) return reading | 1u << 10 | 1u << 11;
+    if (export == READ) return every_mode | 1u << 10 | 1u << 11;
     if (export == WRITE) return 1u | 1u << 1 | 1u << 2 | 1u << 3 | 1u << 7 | 1u << 8 | 1u << 9 | 1u << 15 | 1u << 16;
-    if (export == CONVERT) return reading | 1u << 15 | 1u << 17;
+    if (export == CONVERT) return every_mode | 1u << 15 | 1u << 17;
     if (export == FVECS_READ) return 1u | 1u << 9 | 1u << 19;
     if (export == BVECS_READ) return 1u | 1u << 9 | 1u << 15 | 1u << 19;
-    if (export == FVECS_APPEND) return reading | 1u << 13 | 1u << 15;
+    if (export == FVECS_APPEND) return every_mode | 1u << 13 | 1u << 15;
     return export <= DISTANCE_JACCARD ? pairs | l2 : pairs | l2 | 1u << 18;
 }
 

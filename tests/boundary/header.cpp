@@ -1,4 +1,4 @@
-// The header from C++: the layout of the answer, a blob read, and a file of vectors made and walked.
+// The header from C++: the layout of the answer, a blob read in both modes, and a file of vectors made and walked.
 #include "../../include/fulandewu.h"
 
 #include <cstring>
@@ -12,11 +12,12 @@ static_assert(offsetof(fulandewu_answer, nearer) == 8 * 6 && offsetof(fulandewu_
               "the fields stand at their places");
 
 static bool reads_a_blob() {
-    const uint8_t blob[] = {0xaa, 0x08, FULANDEWU_FLOAT1BIT};
+    const uint8_t blob[] = {0xff, 0x09, FULANDEWU_FLOAT1BIT};
     fulandewu_answer answer = {};
-    const uint32_t refusal = fulandewu_read(blob, sizeof blob, &answer);
-    const bool read = answer.kind == FULANDEWU_FLOAT1BIT && answer.dims == 8 && answer.length == 1;
-    return refusal == FULANDEWU_ANSWERED && read && answer.needed == 0;
+    const uint32_t refusal = fulandewu_read(FULANDEWU_PLAIN, blob, sizeof blob, &answer);
+    const bool read = answer.kind == FULANDEWU_FLOAT1BIT && answer.dims == 7 && answer.length == 1;
+    if (refusal != FULANDEWU_ANSWERED || !read || answer.needed != 0) return false;
+    return fulandewu_read(FULANDEWU_STRICT, blob, sizeof blob, &answer) == FULANDEWU_UNUSED_BIT_SET;
 }
 
 // 60, 80 twice, one after the other; there is no room for a third, and a byte less cuts the second.

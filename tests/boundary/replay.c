@@ -109,9 +109,9 @@ static void answer_file_refusal(const struct answer *a) {
     answer_text(text);
 }
 
-static void replay_read(enum export export, struct text *part) {
+static void replay_read(enum fulandewu_mode mode, struct text *part) {
     static uint8_t blob[600000];
-    struct request r = {.export = export, .bytes = {unhex(part[1], blob)}};
+    struct request r = {.export = READ, .mode = (uint8_t)mode, .bytes = {unhex(part[1], blob)}};
     struct answer a = ask(r);
     if (a.refusal) {
         answer_refusal(&a, NULL);
@@ -265,8 +265,8 @@ static int replay_line(struct text line) {
     struct text part[PARTS];
     for (int f = 0; f < PARTS; f++) part[f] = cut(&line, '\t');
     replied = 0;
-    if (is(part[0], "read")) replay_read(READ, part);
-    else if (is(part[0], "strict")) replay_read(READ_STRICT, part);
+    if (is(part[0], "read")) replay_read(FULANDEWU_PLAIN, part);
+    else if (is(part[0], "strict")) replay_read(FULANDEWU_STRICT, part);
     else if (is(part[0], "write")) replay_write(part);
     else if (is(part[0], "conv")) replay_convert(part);
     else if (is(part[0], "near")) replay_nearer(part);

@@ -16,11 +16,13 @@ static void change_nan(double *distance) {
     if (*distance != *distance) memcpy(distance, &pattern, sizeof pattern);
 }
 
-#define READ_ARGUMENTS const uint8_t *blob, size_t n, struct fulandewu_answer *answer
+#define READ_ARGUMENTS uint8_t mode, const uint8_t *blob, size_t n, struct fulandewu_answer *answer
 uint32_t __real_fulandewu_read(READ_ARGUMENTS);
 uint32_t __wrap_fulandewu_read(READ_ARGUMENTS);
 uint32_t __wrap_fulandewu_read(READ_ARGUMENTS) {
-    uint32_t refusal = __real_fulandewu_read(blob, n, answer);
+    if (wrong("modes_exchanged")) mode = mode == FULANDEWU_PLAIN;
+    if (wrong("another_byte_reads_plainly") && mode > FULANDEWU_STRICT) mode = FULANDEWU_PLAIN;
+    uint32_t refusal = __real_fulandewu_read(mode, blob, n, answer);
     if (wrong("reads_a_byte_past")) (void)*(volatile const uint8_t *)(blob + n);
     if (wrong("reads_a_byte_before")) (void)*(volatile const uint8_t *)(blob - 1);
     if (wrong("reads_through_null") && blob == NULL) (void)*(volatile const uint8_t *)blob;

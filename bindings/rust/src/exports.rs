@@ -29,14 +29,17 @@ pub struct Answer {
 
 const _: () = assert!(std::mem::size_of::<Answer>() == 256 && std::mem::align_of::<Answer>() == 8);
 
-pub type Reader = unsafe extern "C" fn(*const u8, usize, *mut Answer) -> u32;
 pub type Measure = unsafe extern "C" fn(*const u8, usize, *const u8, usize, *mut Answer) -> u32;
 pub type Chooser =
     unsafe extern "C" fn(*const u8, usize, *const u8, usize, *const u8, usize, *mut Answer) -> u32;
 
 extern "C" {
-    pub fn fulandewu_read(blob: *const u8, blob_length: usize, answer: *mut Answer) -> u32;
-    pub fn fulandewu_read_strict(blob: *const u8, blob_length: usize, answer: *mut Answer) -> u32;
+    pub fn fulandewu_read(
+        mode: u8,
+        blob: *const u8,
+        blob_length: usize,
+        answer: *mut Answer,
+    ) -> u32;
     pub fn fulandewu_write(
         kind: u8,
         dims: usize,

@@ -3,12 +3,12 @@
 //! defined answer, and nothing panics.
 //!
 //! ```
-//! use fulandewu::{distance, read, Distance, Reason, VectorType};
+//! use fulandewu::{distance, read, Distance, Mode, Reason, VectorType};
 //!
 //! // the readings 60 and 80, and 120 and 160, as Float32Dense
 //! let old = [0, 0, 0x70, 0x42, 0, 0, 0xa0, 0x42];
 //! let new = [0, 0, 0xf0, 0x42, 0, 0, 0x20, 0x43];
-//! let view = read(&old)?;
+//! let view = read(Mode::Plain, &old)?;
 //! assert_eq!((view.kind(), view.dims()), (VectorType::Float32Dense, 2));
 //! assert_eq!(distance(Distance::L2, &old, &new)?, 100.0);
 //! // both point the same way, and are not alike
@@ -55,6 +55,15 @@ pub const LONGEST: usize = 524_293;
 /// The most elements of a vector.
 pub const MOST_DIMS: usize = 65_536;
 
+/// How a blob is read. Conversions, distances, [`nearer()`] and [`append_fvecs()`] read plainly.
+#[derive(Clone, Copy, Debug, PartialEq, Eq, Hash)]
+pub enum Mode {
+    /// As turso reads it.
+    Plain = 0,
+    /// Sparse indices are to be in order, and unused bits zero, besides.
+    Strict = 1,
+}
+
 /// The four distances.
 #[derive(Clone, Copy, Debug, PartialEq, Eq, Hash)]
 pub enum Distance {
@@ -78,10 +87,33 @@ fn answered(number: u32, answer: &Answer) -> Result<(), Refusal> {
     }
 }
 
-fn read_by(reader: exports::Reader, blob: &[u8]) -> Result<View<'_>, Refusal> {
+/// Reads a blob in a mode. Refusals: 1 to 9, and of [`Mode::Strict`] 10 and 11, in that order. Both modes
+/// show the same of a blob that both accept.
+///
+/// ```
+/// use fulandewu::{read, Mode, Reason, VectorType};
+///
+/// let view = read(Mode::Plain, &[0xaa, 0x08, 3])?;
+/// assert_eq!((view.kind(), view.dims(), view.body()), (VectorType::Float1Bit, 8, &[0xaa][..]));
+///
+/// // the reading 60 at place 1 of 3
+/// let sparse = [0, 0, 0x70, 0x42, 1, 0, 0, 0, 3, 0, 0, 0, 9];
+/// let view = read(Mode::Plain, &sparse)?;
+/// assert_eq!(view.dims(), 3);
+/// assert_eq!(view.values(), Some(&sparse[..4]));
+/// assert_eq!(view.indices(), Some(&sparse[4..8]));
+///
+/// // one bit does not count, and it is set
+/// assert_eq!(read(Mode::Plain, &[0xff, 0x09, 3])?.dims(), 7);
+/// let refusal = read(Mode::Strict, &[0xff, 0x09, 3]).unwrap_err();
+/// assert_eq!(refusal.reason(), Reason::UnusedBitSet);
+/// # Ok::<(), fulandewu::Refusal>(())
+/// ```
+pub fn read(mode: Mode, blob: &[u8]) -> Result<View<'_>, Refusal> {
     let mut answer = Answer::default();
     // SAFETY: the blob is a slice, which is only read, and the answer is a local of its own.
-    let number = unsafe { reader(blob.as_ptr(), blob.len(), &mut answer) };
+    let number =
+        unsafe { exports::fulandewu_read(mode as u8, blob.as_ptr(), blob.len(), &mut answer) };
     answered(number, &answer)?;
     let kind = VectorType::named(answer.kind as u8).expect("an accepted blob has a kind");
     Ok(View::new(
@@ -89,43 +121,6 @@ fn read_by(reader: exports::Reader, blob: &[u8]) -> Result<View<'_>, Refusal> {
         answer.dims as usize,
         &blob[..answer.length as usize],
     ))
-}
-
-/// Reads a blob. Refusals: 1 to 9, in that order.
-///
-/// ```
-/// use fulandewu::{read, Reason, VectorType};
-///
-/// let view = read(&[0xaa, 0x08, 3])?;
-/// assert_eq!((view.kind(), view.dims(), view.body()), (VectorType::Float1Bit, 8, &[0xaa][..]));
-///
-/// // the reading 60 at place 1 of 3
-/// let sparse = [0, 0, 0x70, 0x42, 1, 0, 0, 0, 3, 0, 0, 0, 9];
-/// let view = read(&sparse)?;
-/// assert_eq!(view.dims(), 3);
-/// assert_eq!(view.values(), Some(&sparse[..4]));
-/// assert_eq!(view.indices(), Some(&sparse[4..8]));
-///
-/// assert_eq!(read(&[5]).unwrap_err().reason(), Reason::TypeByte5Or6);
-/// # Ok::<(), fulandewu::Refusal>(())
-/// ```
-pub fn read(blob: &[u8]) -> Result<View<'_>, Refusal> {
-    read_by(exports::fulandewu_read, blob)
-}
-
-/// Reads a blob, and asks besides that sparse indices are in order and unused bits zero. Refusals: 1 to
-/// 11, in that order. Conversions and distances read plainly.
-///
-/// ```
-/// use fulandewu::{read, read_strict, Reason};
-///
-/// // one bit does not count, and it is set
-/// assert_eq!(read(&[0xff, 0x09, 3])?.dims(), 7);
-/// assert_eq!(read_strict(&[0xff, 0x09, 3]).unwrap_err().reason(), Reason::UnusedBitSet);
-/// # Ok::<(), fulandewu::Refusal>(())
-/// ```
-pub fn read_strict(blob: &[u8]) -> Result<View<'_>, Refusal> {
-    read_by(exports::fulandewu_read_strict, blob)
 }
 
 /// Writes the blob of a kind, dims and body (a sparse body: values, then indices, without dims) to the

@@ -1,8 +1,8 @@
 //! Every function on good and on refused input; what a refusal carries; what it leaves.
 
 use fulandewu::{
-    convert, distance, nearer, read, read_strict, write, Candidate, Distance, Reason, Refusal,
-    VectorType, Which, LONGEST, MOST_DIMS,
+    convert, distance, nearer, read, write, Candidate, Distance, Mode, Reason, Refusal, VectorType,
+    Which, LONGEST, MOST_DIMS,
 };
 
 const DISTANCES: [Distance; 4] = [
@@ -49,17 +49,17 @@ fn told(refusal: Refusal) -> (u32, Option<usize>, Option<Which>) {
 }
 
 #[test]
-fn each_kind_is_read_strictly_too() {
+fn each_kind_is_read_in_both_modes() {
     for (kind, blob) in KINDS.iter().zip(BLOBS) {
-        let view = read(blob).unwrap();
+        let view = read(Mode::Plain, blob).unwrap();
         assert_eq!((view.kind(), view.dims()), (*kind, 2));
         assert_eq!(view.body(), &blob[..view.body().len()]);
         assert_eq!(view.body().as_ptr(), blob.as_ptr());
-        assert_eq!(read_strict(blob), Ok(view));
+        assert_eq!(read(Mode::Strict, blob), Ok(view));
         assert_eq!(view.values().is_some(), *kind == VectorType::Float32Sparse);
         assert_eq!(VectorType::named(kind.byte()), Some(*kind));
     }
-    let sparse = read(BLOBS[4]).unwrap();
+    let sparse = read(Mode::Plain, BLOBS[4]).unwrap();
     assert_eq!(sparse.values(), Some(&BLOBS[4][..8]));
     assert_eq!(sparse.indices(), Some(&BLOBS[4][8..16]));
 }
@@ -68,8 +68,9 @@ fn each_kind_is_read_strictly_too() {
 fn the_readers_refusals_name_the_blob() {
     let (good, long) = (BLOBS[0], vec![0; LONGEST + 1]);
     for (number, bad) in (1..).zip(std::iter::once(&long[..]).chain(REFUSED)) {
-        assert_eq!(told(read(bad).unwrap_err()), (number, None, None));
-        assert_eq!(told(read_strict(bad).unwrap_err()), (number, None, None));
+        for mode in [Mode::Plain, Mode::Strict] {
+            assert_eq!(told(read(mode, bad).unwrap_err()), (number, None, None));
+        }
         let converted = convert(bad, VectorType::Float8, &mut [], &mut []);
         assert_eq!(told(converted.unwrap_err()), (number, None, None));
         for d in DISTANCES {
@@ -98,17 +99,17 @@ fn the_readers_refusals_name_the_blob() {
 }
 
 #[test]
-fn strictness_refuses_order_and_unused_bits() {
+fn the_strict_mode_refuses_order_and_unused_bits() {
     let unsorted = [
         0, 0, 0, 0, 0, 0, 0, 0, 1, 0, 0, 0, 0, 0, 0, 0, 2, 0, 0, 0, 9,
     ];
-    assert!(read(&unsorted).is_ok());
+    assert!(read(Mode::Plain, &unsorted).is_ok());
     assert_eq!(
-        read_strict(&unsorted).unwrap_err().reason(),
+        read(Mode::Strict, &unsorted).unwrap_err().reason(),
         Reason::SparseOrder
     );
     assert_eq!(
-        read_strict(&[0xff, 0x09, 3]).unwrap_err().reason(),
+        read(Mode::Strict, &[0xff, 0x09, 3]).unwrap_err().reason(),
         Reason::UnusedBitSet
     );
 }
@@ -116,7 +117,7 @@ fn strictness_refuses_order_and_unused_bits() {
 #[test]
 fn what_is_written_reads_back() {
     for (kind, blob) in KINDS.iter().zip(BLOBS) {
-        let view = read(blob).unwrap();
+        let view = read(Mode::Plain, blob).unwrap();
         let short = write(*kind, view.dims(), view.body(), &mut []).unwrap_err();
         let needed = short.needed().unwrap();
         assert_eq!(short.reason(), Reason::OutputTooShort);
@@ -127,7 +128,7 @@ fn what_is_written_reads_back() {
         );
         assert!(out.iter().all(|byte| *byte == 0x5a));
         assert_eq!(write(*kind, view.dims(), view.body(), &mut out), Ok(needed));
-        assert_eq!(read(&out[..needed]), Ok(view));
+        assert_eq!(read(Mode::Plain, &out[..needed]), Ok(view));
         assert_eq!(out[needed..], [0x5a; 3]);
     }
 }

@@ -1,7 +1,8 @@
 //! Files of vectors: what stands at a place, whole files, blobs appended and read back.
 
 use fulandewu::{
-    append_fvecs, bvecs, bvecs_at, fvecs, fvecs_at, read, Reason, Refusal, VectorType, LONGEST,
+    append_fvecs, bvecs, bvecs_at, fvecs, fvecs_at, read, Mode, Reason, Refusal, VectorType,
+    LONGEST,
 };
 
 /// Four rides, 60 with 80, none, 120 and 255, and where their vectors start.
@@ -246,7 +247,7 @@ fn ten_thousand_blobs_read_back() {
     while bodies.len() < 10_000 {
         let blob = numbers.blob();
         let answer = append_fvecs(&blob, &mut file, fill);
-        match read(&blob) {
+        match read(Mode::Plain, &blob) {
             Ok(view) if view.kind() == VectorType::Float32Dense => {
                 fill += 4 + 4 * view.dims();
                 assert_eq!(answer, Ok(fill));

@@ -2,7 +2,7 @@
 pub mod Appended
 pub mod Determined
 pub mod Rewritten
-pub mod RewrittenStrictly
+pub mod RewrittenModes
 pub mod Tails
 pub mod Unchanged
 pub mod Written

@@ -1,4 +1,5 @@
--- A blob that was read and written again is no longer than before, reads as before, and does not change a second time.
+-- A blob that was read and written again is no longer than before and does not change a second time. What it reads as is in
+-- RewrittenModes.antt.
 use mathlib.Core.Path.{_≡_, refl, sym, ap, _∙_}
 use mathlib.Core.Bool.{true, not, and-eq-true-iff}
 use mathlib.Core.List.{List}
@@ -23,6 +24,7 @@ use Rattle.vector_types.specs.declared.VectorType.{VectorType}
 use Rattle.vector_types.specs.declared.Named.the-variants.{Kind}
 use Rattle.vector_types.specs.declared.VectorType.the-variants.{Float32Dense, Float64Dense, Float32Sparse, Float1Bit, Float8}
 use Rattle.vector_types.specs.declared.ReadAnswer.the-variants.{Accepted, Refused}
+use Rattle.vector_types.specs.declared.Mode.the-variants.{Plain}
 use Rattle.vector_types.proofs.Bodies.{length-body, body-facts}
 use Rattle.vector_types.proofs.Views.{view-facts}
 use Rattle.vector_types.proofs.Bools.{and-three}
@@ -67,14 +69,14 @@ tail-room Float8 s names row =
     record { room = omega (arith, leb-true); lost = λ _. omega (arith, leb-true) }
 
 -- ---- the blob of a view: it can be written, is no longer than the one that was read, reads as that one, and stays
-pub rewritten-as : (s : List ℕ) (r : ReadAnswer) → readOf s ≡ r → rewritten s ≡ rewrittenAs r s
+pub rewritten-as : (s : List ℕ) (r : ReadAnswer) → readOf Plain s ≡ r → rewritten s ≡ rewrittenAs r s
 unfolding rewritten
 rewritten-as s r e = ap (λ (r : ReadAnswer). rewrittenAs r s) e
 
-abbrev blobFor : View → List ℕ → List ℕ
+abbrev pub blobFor : View → List ℕ → List ℕ
 blobFor v s = blobOf (v .kind) (v .dims .0) (bodyOf s)
 
-module _ (s : List ℕ) (v : View) (e : readOf s ≡ Accepted v) where
+module _ (s : List ℕ) (v : View) (e : readOf Plain s ≡ Accepted v) where
   view-tail-room : TailRoom (v .kind) s
   view-tail-room = let t = view-facts s v e in tail-room (v .kind) s (t .names) (t .accepts)
 
@@ -98,18 +100,18 @@ module _ (s : List ℕ) (v : View) (e : readOf s ≡ Accepted v) where
         elements = b .elements;
       })
 
-  pub blob-same : (readOf (blobFor v s) ≡ Accepted v) × (bodyOf (blobFor v s) ≡ bodyOf s)
+  pub blob-same : (readOf Plain (blobFor v s) ≡ Accepted v) × (bodyOf (blobFor v s) ≡ bodyOf s)
   blob-same = let (view, body) = reads-back (v .kind) (v .dims .0) (bodyOf s) rewritable in (rw (length-body s v e) at view, body)
 
   blob-once : rewritten (blobFor v s) ≡ blobFor v s
   blob-once = rewritten-as (blobFor v s) (Accepted v) (blob-same .0) ∙ rw (blob-same .1)
 
 -- ---- the same of any blob: one that is refused is not rewritten
-pub rewritten-by : (s : List ℕ) (P : List ℕ → Type 0) → ((v : View) → readOf s ≡ Accepted v → P (blobFor v s))
-    → ((r : Refusal) → readOf s ≡ Refused r → P s) → P (rewritten s)
-rewritten-by s P view refusal = by-answer (readOf s) refl
+pub rewritten-by : (s : List ℕ) (P : List ℕ → Type 0) → ((v : View) → readOf Plain s ≡ Accepted v → P (blobFor v s))
+    → ((r : Refusal) → readOf Plain s ≡ Refused r → P s) → P (rewritten s)
+rewritten-by s P view refusal = by-answer (readOf Plain s) refl
   where
-    by-answer : (r : ReadAnswer) → readOf s ≡ r → P (rewritten s)
+    by-answer : (r : ReadAnswer) → readOf Plain s ≡ r → P (rewritten s)
     by-answer (Accepted v) e = rw (rewritten-as s (Accepted v) e) (view v e)
     by-answer (Refused r) e = rw (rewritten-as s (Refused r) e) (refusal r e)
 
@@ -120,13 +122,9 @@ pub rewritten-little-shorter : (s : List ℕ) → AreBytes s → length s ≤ le
 rewritten-little-shorter s bytes =
     rewritten-by s (λ w. length s ≤ length w + 30) (λ v e. blob-little-shorter s v e bytes) (λ r e. omega arith)
 
-pub rewritten-same : (s : List ℕ) → (readOf (rewritten s) ≡ readOf s) × (bodyOf (rewritten s) ≡ bodyOf s)
-rewritten-same s =
-    rewritten-by s (λ w. (readOf w ≡ readOf s) × (bodyOf w ≡ bodyOf s)) (λ v e. rw e (blob-same s v e)) (λ r e. (refl, refl))
-
 pub rewritten-once : (s : List ℕ) → rewritten (rewritten s) ≡ rewritten s
 rewritten-once s = rewritten-by s (λ w. rewritten w ≡ w) (blob-once s) (λ r. rewritten-as s (Refused r))
 
 -- two blobs of one view and body become one
-pub rewritten-alike : (s t : List ℕ) (v : View) → readOf s ≡ Accepted v → readOf t ≡ Accepted v → bodyOf s ≡ bodyOf t → rewritten s ≡ rewritten t
+pub rewritten-alike : (s t : List ℕ) (v : View) → readOf Plain s ≡ Accepted v → readOf Plain t ≡ Accepted v → bodyOf s ≡ bodyOf t → rewritten s ≡ rewritten t
 rewritten-alike s t v e f body = rewritten-as s (Accepted v) e ∙ rw body (sym (rewritten-as t (Accepted v) f))

@@ -19,6 +19,7 @@ use Rattle.vector_types.specs.declared.VectorType.{VectorType}
 use Rattle.vector_types.specs.declared.Named.{Named}
 use Rattle.vector_types.specs.declared.Named.the-variants.{Kind, Unsupported, Unknown}
 use Rattle.vector_types.specs.declared.VectorType.the-variants.{Float32Dense, Float64Dense, Float32Sparse, Float1Bit, Float8}
+use Rattle.vector_types.specs.declared.Mode.the-variants.{Plain}
 use Rattle.vector_types.proofs.Bodies.{body-is}
 use Rattle.vector_types.proofs.Views.{view-facts}
 use Rattle.vector_types.proofs.Ends.{even-untyped, odd-typed, named-typed}
@@ -56,23 +57,23 @@ type-byte s k names other =
 
 -- ---- where the same follows the body, all is the same
 module _ (s : List ℕ) (d m : ℕ) where
-  same-tail : (k : VectorType) → readOf s ≡ acceptedAs k d m → tailOf k d ≡ drop m s → rewritten s ≡ s
+  same-tail : (k : VectorType) → readOf Plain s ≡ acceptedAs k d m → tailOf k d ≡ drop m s → rewritten s ≡ s
   unfolding blobOf
   same-tail k e end = rewritten-as s (acceptedAs k d m) e ∙ rw (body-is s _ e, end) (take-append-drop m s)
 
-  pub untyped-unchanged : readOf s ≡ acceptedAs Float32Dense d m → length s % 2 ≡ 0 → rewritten s ≡ s
+  pub untyped-unchanged : readOf Plain s ≡ acceptedAs Float32Dense d m → length s % 2 ≡ 0 → rewritten s ≡ s
   unfolding tailOf layoutRow
   untyped-unchanged e h =
       let all : m ≡ length s = view-facts s _ e .long ∙ even-untyped s h .1 in
       same-tail Float32Dense e (sym (rw all (drop-length s)))
 
-  pub float64-unchanged : readOf s ≡ acceptedAs Float64Dense d m → rewritten s ≡ s
+  pub float64-unchanged : readOf Plain s ≡ acceptedAs Float64Dense d m → rewritten s ≡ s
   unfolding tailOf layoutRow
   float64-unchanged e =
       let t = view-facts s _ e in
       same-tail Float64Dense e (sym (rw (t .long) (type-byte s Float64Dense (t .names) refl)))
 
-  pub sparse-unchanged : readOf s ≡ acceptedAs Float32Sparse d m → AreBytes s → rewritten s ≡ s
+  pub sparse-unchanged : readOf Plain s ≡ acceptedAs Float32Sparse d m → AreBytes s → rewritten s ≡ s
   unfolding tailOf layoutRow
   sparse-unchanged e bytes =
       let t = view-facts s _ e in

@@ -19,6 +19,7 @@ use Rattle.blob_writer.specs.Write.{filler, trailingBits, trailingBytes,
 use Rattle.vector_types.specs.declared.Refusal.{Refusal}
 use Rattle.vector_types.specs.declared.VectorType.{VectorType}
 use Rattle.vector_types.specs.declared.VectorType.the-variants.{Float32Dense, Float64Dense, Float32Sparse, Float1Bit, Float8}
+use Rattle.vector_types.specs.declared.Mode.the-variants.{Plain}
 use Rattle.blob_writer.specs.declared.WriteAnswer.{WriteAnswer}
 use Rattle.blob_writer.specs.declared.WriteAnswer.the-variants.{Written, Refused as WriteRefused}
 use Rattle.vector_types.proofs.Bodies.{body-is}
@@ -59,21 +60,21 @@ pub count-range : (d : ℕ) → (8 + 8 * (1 - ceil d 8 % 2) ≤ trailingBits d) 
 count-range d = rw length-filler (omega arith)
 
 module _ (d : ℕ) (body : List ℕ) where
-  float32-back : Writable Float32Dense d body → readOf (blobOf Float32Dense d body) ≡ acceptedAs Float32Dense d (length body)
+  float32-back : Writable Float32Dense d body → readOf Plain (blobOf Float32Dense d body) ≡ acceptedAs Float32Dense d (length body)
   unfolding blobOf bodyFits
   float32-back w =
       let e = eqb-true (length body) (4 * d) (w .fit) in
       let (names, size) = even-untyped body (omega arith) in
       rw append-nil (reads-float32 body (length body) d size (w .few) (rw append-nil at (w .short)) names e)
 
-  float64-back : Writable Float64Dense d body → readOf (blobOf Float64Dense d body) ≡ acceptedAs Float64Dense d (length body)
+  float64-back : Writable Float64Dense d body → readOf Plain (blobOf Float64Dense d body) ≡ acceptedAs Float64Dense d (length body)
   unfolding blobOf bodyFits byByte
   float64-back w =
       let e = eqb-true (length body) (8 * d) (w .fit) in
       let (names, size) = named-by-tail body (2 ∷ []) 0 refl (omega arith) in
       reads-float64 (body ++ (2 ∷ [])) (length body) d (size ∙ omega arith) (w .few) (w .short) names e
 
-  float8-back : Writable Float8 d body → readOf (blobOf Float8 d body) ≡ acceptedAs Float8 d (length body)
+  float8-back : Writable Float8 d body → readOf Plain (blobOf Float8 d body) ≡ acceptedAs Float8 d (length body)
   unfolding blobOf bodyFits byByte
   float8-back w =
       let t = trailingBytes d in
@@ -84,7 +85,7 @@ module _ (d : ℕ) (body : List ℕ) where
       let count = count-appended body (0 ∷ t ∷ 4 ∷ []) 1 in
       rw long at (reads-float8 (body ++ (0 ∷ t ∷ 4 ∷ [])) (length body + 2) d size (w .few) (w .short) names some (omega arith) count)
 
-  one-bit-back : Writable Float1Bit d body → readOf (blobOf Float1Bit d body) ≡ acceptedAs Float1Bit d (length body)
+  one-bit-back : Writable Float1Bit d body → readOf Plain (blobOf Float1Bit d body) ≡ acceptedAs Float1Bit d (length body)
   unfolding blobOf bodyFits byByte
   one-bit-back w =
       let front = body ++ filler (ceil d 8) in
@@ -98,7 +99,7 @@ module _ (d : ℕ) (body : List ℕ) where
       let short = rw (← append-assoc) at (w .short) in
       rw (e, ← append-assoc) (reads-one-bit (front ++ (t ∷ 3 ∷ [])) (length front + 1) d size (w .few) short names some (omega arith) count)
 
-  sparse-back : Writable Float32Sparse d body → readOf (blobOf Float32Sparse d body) ≡ acceptedAs Float32Sparse d (length body)
+  sparse-back : Writable Float32Sparse d body → readOf Plain (blobOf Float32Sparse d body) ≡ acceptedAs Float32Sparse d (length body)
   unfolding blobOf bodyFits byByte bytesOf
   sparse-back w =
       let k = length body / 8 in
@@ -111,7 +112,7 @@ module _ (d : ℕ) (body : List ℕ) where
       let inside = outside-appended body tail k d e ∙ w .inside in
       rw (← e) at (reads-sparse (body ++ tail) (length body + 4) d size (w .few) (w .short) k names (omega arith) stored inside)
 
-read-back : (k : VectorType) (d : ℕ) (body : List ℕ) → Writable k d body → readOf (blobOf k d body) ≡ acceptedAs k d (length body)
+read-back : (k : VectorType) (d : ℕ) (body : List ℕ) → Writable k d body → readOf Plain (blobOf k d body) ≡ acceptedAs k d (length body)
 read-back Float32Dense d body w = float32-back d body w
 read-back Float64Dense d body w = float64-back d body w
 read-back Float32Sparse d body w = sparse-back d body w
@@ -119,7 +120,7 @@ read-back Float1Bit d body w = one-bit-back d body w
 read-back Float8 d body w = float8-back d body w
 
 pub reads-back : (k : VectorType) (d : ℕ) (body : List ℕ) → firstGiven (writeRefusals k d body) ≡ none
-    → (readOf (blobOf k d body) ≡ acceptedAs k d (length body)) × (bodyOf (blobOf k d body) ≡ body)
+    → (readOf Plain (blobOf k d body) ≡ acceptedAs k d (length body)) × (bodyOf (blobOf k d body) ≡ body)
 unfolding blobOf
 reads-back k d body e =
     let view = read-back k d body (writable k d body e) in
@@ -169,7 +170,7 @@ written-blob k d body out n e =
     (clear, long, rw e (take-at blob (drop (length blob) out) n long))
 
 pub written-reads-back : (k : VectorType) (d : ℕ) (body out : List ℕ) (n : ℕ) → writeOf k d body (length out) ≡ written n
-    → (readOf (take n (writeOutcome k d body out .out)) ≡ acceptedAs k d (length body)) × (bodyOf (take n (writeOutcome k d body out .out)) ≡ body)
+    → (readOf Plain (take n (writeOutcome k d body out .out)) ≡ acceptedAs k d (length body)) × (bodyOf (take n (writeOutcome k d body out .out)) ≡ body)
 written-reads-back k d body out n e = let (clear, _, left) = written-blob k d body out n e in rw left (reads-back k d body clear)
 
 -- an outcome, part by part

@@ -16,6 +16,7 @@ use Rattle.vector_types.specs.declared.View.{View}
 use Rattle.vector_types.specs.declared.ReadAnswer.{ReadAnswer}
 use Rattle.vector_types.specs.declared.ReadAnswer.the-variants.{Accepted, Refused as Unread}
 use Rattle.vector_types.specs.declared.VectorType.{VectorType}
+use Rattle.vector_types.specs.declared.Mode.the-variants.{Plain}
 use Rattle.convert_parts.specs.Result.{resultOf, scratchBody}
 use Rattle.convert.specs.Convert.{convertedTo, Conversion, conversion, refusing, bodyConversion, readConversion, conversionOf, ConvertOutcome, convertLeaving, outcomeOf, convertOutcome}
 use Rattle.convert.specs.declared.ConvertAnswer.{ConvertAnswer}
@@ -47,7 +48,7 @@ module _ (k t : VectorType) (d : ℕ) (body scratch out : List ℕ) where
       both-put h r s o answer left put = rw (answer, left, put, le-ltb (length scratch) (length dense) (omega arith), le-ltb (length out) (length new) (omega arith), size)
 
 -- ---- a blob that is read, with room enough
-pub conversion-put : (s : List ℕ) (t : VectorType) (v : View) → readOf s ≡ Accepted v → (scratch room : ℕ)
+pub conversion-put : (s : List ℕ) (t : VectorType) (v : View) → readOf Plain s ≡ Accepted v → (scratch room : ℕ)
     → let dense = scratchBody (v .kind) t (v .dims .0) (bodyOf s) in let new = resultOf (v .kind) t (v .dims .0) (bodyOf s) in
     length dense ≤ scratch → length new ≤ room → conversionOf s t scratch room ≡ conversion (convertedTo t (v .dims .0) (length new)) dense new
 unfolding conversionOf
@@ -70,7 +71,7 @@ reach (Refused r) = 0
 pub conversion-fits : (s : List ℕ) (t : VectorType) (scratch room : ℕ) (v : View) → conversionOf s t scratch room .answer ≡ Converted v
     → (length (conversionOf s t scratch room .out) ≡ v .length) × (v .length ≤ room)
 unfolding conversionOf
-conversion-fits s t scratch room v = by (readOf s)
+conversion-fits s t scratch room v = by (readOf Plain s)
   where
     Fits : Conversion → Type 0
     Fits c = c .answer ≡ Converted v → (length (c .out) ≡ v .length) × (v .length ≤ room)

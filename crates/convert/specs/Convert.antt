@@ -10,6 +10,7 @@ use Rattle.vector_types.specs.declared.VectorType.{VectorType}
 use Rattle.vector_types.specs.declared.Refusal.{Refusal}
 use Rattle.vector_types.specs.declared.ReadAnswer.{ReadAnswer}
 use Rattle.vector_types.specs.declared.ReadAnswer.the-variants.{Accepted, Refused as Unread}
+use Rattle.vector_types.specs.declared.Mode.the-variants.{Plain}
 use Rattle.convert_parts.specs.Result.{resultOf, scratchBody}
 use Rattle.convert.specs.declared.ConvertAnswer.{ConvertAnswer}
 use Rattle.convert.specs.declared.ConvertAnswer.the-variants.{Converted, Refused}
@@ -52,7 +53,7 @@ readConversion (Unread r) body t scratch room = refusing r
 
 unfoldable pub conversionOf : List ℕ → VectorType → ℕ → ℕ → Conversion
 unfolding bodyConversion
-conversionOf s t scratch room = readConversion (readOf s) (bodyOf s) t scratch room
+conversionOf s t scratch room = readConversion (readOf Plain s) (bodyOf s) t scratch room
 
 -- the outcome of a call: the answer, and the two buffers afterwards
 pub record ConvertOutcome : Type 0 where

@@ -7,6 +7,7 @@ ghost use Rattle.vector_types.specs.Answers.{needing};
 ghost use Rattle.vector_types.specs.Read.{readOf};
 ghost use Rattle.vector_types.specs.Parts.{bodyOf};
 ghost use Rattle.vector_types.specs.declared.ReadAnswer.the-variants.{Accepted};
+ghost use Rattle.vector_types.specs.declared.Mode.the-variants.{Plain};
 ghost use Rattle.convert_parts.specs.inner.Fitting.{Fitting};
 ghost use Rattle.convert.specs.Convert.{convertedTo, bodyConversion, convertLeaving, outcomeOf, convertOutcome};
 ghost use Rattle.convert.specs.declared.ConvertAnswer.the-variants.{Refused};
@@ -14,6 +15,7 @@ use dispatch::put_result;
 use dispatch::result_length;
 use dispatch::scratch_length;
 use vector_types::Dims;
+use vector_types::Mode;
 use vector_types::ReadAnswer;
 use vector_types::Refusal;
 use vector_types::VectorType;
@@ -75,7 +77,7 @@ fn convert_view(
     scratch: &mut [u8],
     out: &mut [u8],
 ) -> ConvertAnswer
-    requires { ⌜ readOf (now blob) ≡ Accepted view ⌝ }
+    requires { ⌜ readOf Plain (now blob) ≡ Accepted view ⌝ }
     ensures { λ r. ⌜ convertLeaving r (now (scratch .exit)) (now (out .exit))
         ≡ outcomeOf (bodyConversion (view .kind) target (view .dims .0) (bodyOf (now (blob .entry))) (length (now (scratch .entry))) (length (now (out .entry)))) (now (scratch .entry)) (now (out .entry)) ⌝ }
 {
@@ -90,7 +92,7 @@ fn convert_view(
 pub fn convert(blob: &[u8], target: VectorType, scratch: &mut [u8], out: &mut [u8]) -> ConvertAnswer
     ensures { λ r. ⌜ convertLeaving r (now (scratch .exit)) (now (out .exit)) ≡ convertOutcome (now (blob .entry)) target (now (scratch .entry)) (now (out .entry)) ⌝ }
 {
-    match vector_types::read(blob) {
+    match vector_types::read(Mode::Plain, blob) {
         ReadAnswer::Accepted(view) => convert_view(blob, view, target, scratch, out),
         ReadAnswer::Refused(refusal) => ConvertAnswer::Refused(refusal),
     }

@@ -14,6 +14,7 @@ use Rattle.vector_types.specs.declared.Refusal.{Refusal}
 use Rattle.vector_types.specs.declared.VectorType.{VectorType}
 use Rattle.vector_types.specs.declared.View.{View}
 use Rattle.vector_types.specs.declared.ReadAnswer.the-variants.{Accepted}
+use Rattle.vector_types.specs.declared.Mode.the-variants.{Plain}
 use Rattle.vector_types.proofs.SameKind.{same-kind}
 use Rattle.vector_types.proofs.Views.{view-facts}
 use Rattle.distance.specs.Values.{Formula}
@@ -74,7 +75,7 @@ unfolding answerOfViews
 answer-by-pairing value v w a b = unless-by-pairing (firstGiven (mismatches v w)) refusedNeither (distanceAnswer (value (v .kind) (v .dims .0) a b))
 
 -- ---- the bodies
-module _ (s : List ℕ) (v : View) (e : readOf s ≡ Accepted v) where
+module _ (s : List ℕ) (v : View) (e : readOf Plain s ≡ Accepted v) where
   pub body-length : length (take (v .length) s) ≡ v .length
   body-length = length-take-le (v .length) s (view-facts s v e .within)
 
@@ -84,5 +85,5 @@ module _ (s : List ℕ) (v : View) (e : readOf s ≡ Accepted v) where
 fits-same : {k l : VectorType} {d e : ℕ} (n : ℕ) → k ≡ l → d ≡ e → bodyFits l e n ≡ true → bodyFits k d n ≡ true
 fits-same n p q h = rw (p, q) h
 
-pub other-fits : (t : List ℕ) (v w : View) → readOf t ≡ Accepted w → SameShape v w → bodyFits (v .kind) (v .dims .0) (length (take (w .length) t)) ≡ true
+pub other-fits : (t : List ℕ) (v w : View) → readOf Plain t ≡ Accepted w → SameShape v w → bodyFits (v .kind) (v .dims .0) (length (take (w .length) t)) ≡ true
 other-fits t v w e same = fits-same (length (take (w .length) t)) (same .kind) (same .dims) (body-fits t w e)

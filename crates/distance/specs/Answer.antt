@@ -12,6 +12,7 @@ use Rattle.vector_types.specs.Parts.{bodyOf}
 use Rattle.vector_types.specs.declared.View.{View}
 use Rattle.vector_types.specs.declared.ReadAnswer.{ReadAnswer}
 use Rattle.vector_types.specs.declared.ReadAnswer.the-variants.{Accepted, Refused as Unread}
+use Rattle.vector_types.specs.declared.Mode.the-variants.{Plain}
 use Rattle.distance.specs.Values.{Formula, valueOf}
 use Rattle.distance.specs.declared.Distance.{Distance}
 use Rattle.distance.specs.declared.Which.the-variants.{First, Second, Neither}
@@ -56,7 +57,7 @@ answerIn value (Accepted v) (Accepted w) a b = answerOfViews value v w a b
 
 unfoldable pub answerBy : Formula → List ℕ → List ℕ → DistanceAnswer
 unfolding answerOfViews
-answerBy value s t = answerIn value (readOf s) (readOf t) (bodyOf s) (bodyOf t)
+answerBy value s t = answerIn value (readOf Plain s) (readOf Plain t) (bodyOf s) (bodyOf t)
 
 unfoldable pub distanceOf : Distance → List ℕ → List ℕ → DistanceAnswer
 unfolding answerBy valueOf

@@ -13,6 +13,7 @@ use Rattle.vector_types.specs.Read.{readOf, refusals, shown}
 use Rattle.vector_types.specs.Parts.{bodyOf}
 use Rattle.vector_types.specs.declared.VectorType.the-variants.{Float32Dense, Float1Bit, Float8}
 use Rattle.vector_types.specs.declared.ReadAnswer.{ReadAnswer}
+use Rattle.vector_types.specs.declared.Mode.the-variants.{Plain}
 use Rattle.bodies.specs.Merged.{merged}
 use Rattle.distance_sums.specs.Examples.{zeroBytes as zero, oneBytes as one, nanPattern as nan}
 use Rattle.distance.specs.Answer.{distanceOf, pairRefused}
@@ -32,9 +33,9 @@ pub record Example : Type 0 where
   pub defined : Answer
   pub expected : Answer
 
--- a blob, what the plain reader answers, and the body shown
+-- a blob, what it shows in the plain mode, and the body shown
 abbrev pub shows : List ℕ → ReadAnswer → List ℕ → Example
-shows s r body = record { defined = read (readOf s) (bodyOf s); expected = read r body }
+shows s r body = record { defined = read (readOf Plain s) (bodyOf s); expected = read r body }
 
 abbrev pub refuses : List ℕ → ℕ → Example
 refuses s n = shows s (refused (refusal n)) []

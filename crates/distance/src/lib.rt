@@ -10,6 +10,7 @@ ghost use Rattle.vector_types.specs.Layout.{maxDims, bodyFits};
 ghost use Rattle.vector_types.specs.Read.{readOf};
 ghost use Rattle.vector_types.specs.Parts.{bodyOf};
 ghost use Rattle.vector_types.specs.declared.ReadAnswer.the-variants.{Accepted};
+ghost use Rattle.vector_types.specs.declared.Mode.the-variants.{Plain};
 ghost use Rattle.distance.specs.Values.{valueOf};
 ghost use Rattle.distance.specs.inner.Table.{existsFor};
 ghost use Rattle.distance.specs.Answer.{pairingOf, distanceAnswer, answerOfViews, distanceOf};
@@ -20,6 +21,7 @@ use distance_dot::measure_dot;
 use distance_l2::measure_l2;
 use jaccard::measure_jaccard;
 use table::exists;
+use vector_types::Mode;
 use vector_types::ReadAnswer;
 use vector_types::Refusal;
 use vector_types::VectorType;
@@ -92,8 +94,8 @@ pub fn measure_pair(
     second: &[u8],
     w: View,
 ) -> DistanceAnswer
-    requires { ⌜ readOf (now first) ≡ Accepted v ⌝ }
-    requires { ⌜ readOf (now second) ≡ Accepted w ⌝ }
+    requires { ⌜ readOf Plain (now first) ≡ Accepted v ⌝ }
+    requires { ⌜ readOf Plain (now second) ≡ Accepted w ⌝ }
     requires { ⌜ pairingOf v w ≡ Alike ⌝ }
     ensures { λ r. ⌜ r ≡ distanceAnswer (valueOf distance (v .kind) (v .dims .0) (bodyOf (now (first .entry))) (bodyOf (now (second .entry)))) ⌝ }
 {
@@ -118,8 +120,8 @@ fn measure_views(
     second: &[u8],
     w: View,
 ) -> DistanceAnswer
-    requires { ⌜ readOf (now first) ≡ Accepted v ⌝ }
-    requires { ⌜ readOf (now second) ≡ Accepted w ⌝ }
+    requires { ⌜ readOf Plain (now first) ≡ Accepted v ⌝ }
+    requires { ⌜ readOf Plain (now second) ≡ Accepted w ⌝ }
     ensures { λ r. ⌜ r ≡ answerOfViews (valueOf distance) v w (bodyOf (now (first .entry))) (bodyOf (now (second .entry))) ⌝ }
 {
     match check_pair(v, w) {
@@ -132,9 +134,9 @@ fn measure_views(
 pub fn vector_distance(distance: Distance, first: &[u8], second: &[u8]) -> DistanceAnswer
     ensures { λ r. ⌜ r ≡ distanceOf distance (now (first .entry)) (now (second .entry)) ⌝ }
 {
-    match vector_types::read(first) {
+    match vector_types::read(Mode::Plain, first) {
         ReadAnswer::Refused(refusal) => DistanceAnswer::Refused(refusal, Which::First),
-        ReadAnswer::Accepted(v) => match vector_types::read(second) {
+        ReadAnswer::Accepted(v) => match vector_types::read(Mode::Plain, second) {
             ReadAnswer::Refused(refusal) => DistanceAnswer::Refused(refusal, Which::Second),
             ReadAnswer::Accepted(w) => measure_views(distance, first, v, second, w),
         },

@@ -6,7 +6,6 @@ use denote.Ref.{now}
 use Rattle.promises.specs.Determined.{Determined}
 use Rattle.answer_fields.specs.Fields.{exportOutcome}
 use Rattle.fulandewu.proofs.reading.fulandewu_read.Reads as read
-use Rattle.fulandewu.proofs.reading.fulandewu_read_strict.Reads as read-strict
 use Rattle.fulandewu.proofs.writing.fulandewu_write.Reads as write
 use Rattle.fulandewu.proofs.converting.fulandewu_convert.Reads as convert
 use Rattle.fulandewu.proofs.distances.fulandewu_distance_cos.Reads as distance-cos
@@ -21,11 +20,8 @@ use Rattle.fulandewu.proofs.vecs_files.fulandewu_fvecs_read.Reads as fv
 use Rattle.fulandewu.proofs.vecs_files.fulandewu_bvecs_read.Reads as bvecs-read
 use Rattle.fulandewu.proofs.vecs_files.fulandewu_fvecs_append.Reads as fvecs-append
 
-pub read-determined : (κs : _) (a : _) → Determined (read.Post κs a) (λ r x. exportOutcome r (now (x .1 .0)) [])
+pub read-determined : (κs : _) (a : _) → Determined (read.Post κs a) (λ r x. exportOutcome r (now (x .1 .1 .0)) [])
 read-determined κs a r r′ x x′ p q = p ∙ sym q
-
-pub read-strict-determined : (κs : _) (a : _) → Determined (read-strict.Post κs a) (λ r x. exportOutcome r (now (x .1 .0)) [])
-read-strict-determined κs a r r′ x x′ p q = p ∙ sym q
 
 pub write-determined : (κs : _) (a : _) → Determined (write.Post κs a) (λ r x. exportOutcome r (now (x .1 .1 .1 .1 .0)) (now (x .1 .1 .1 .0) ∷ []))
 write-determined κs a r r′ x x′ p q = p ∙ sym q

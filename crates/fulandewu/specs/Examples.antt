@@ -9,10 +9,9 @@ use Rattle.little_endian.specs.Bytes.{numberAt, bytesOf, put}
 use Rattle.rounding.specs.Root.{root}
 use Rattle.vector_types.specs.Search.{firstFrom}
 use Rattle.vector_types.specs.Layout.{namedKind, byByte, lengthBeforeType, bodyFits, layoutRow}
-use Rattle.vector_types.specs.Read.{readOf, strictOf, refusals, strictRefusals, shown}
+use Rattle.vector_types.specs.Read.{readOf, refusals, shown}
 use Rattle.vector_types.specs.Parts.{bodyOf}
 use Rattle.blob_writer.specs.Write.{writeOf, writeOutcome, writeRefusals, tailOf, blobOf}
-use Rattle.vector_types.specs.declared.ReadAnswer.{ReadAnswer}
 use Rattle.convert.specs.Convert.{convertOutcome}
 use Rattle.distance.specs.Answer.{distanceOf}
 use Rattle.distance.specs.declared.Distance.{Distance}
@@ -25,6 +24,7 @@ use Rattle.vecs.specs.VecsExamples.{counted}
 use Rattle.answer_fields.specs.Fields.{ExportOutcome, exportOutcome}
 use Rattle.answer_fields.specs.Exported.{readExport, writeExport, convertExport, distanceExport, nearerExport, vecsExport, bvecsExport, appendExport}
 use Rattle.fulandewu.specs.Kinds.{writtenBy, convertedBy}
+use Rattle.fulandewu.specs.Modes.{modeOf}
 
 -- what the definitions say that an export leaves, and what is expected
 pub record Example : Type 0 where
@@ -50,8 +50,9 @@ abbrev pub fileRow : ℕ → ℕ → ℕ → ℕ → ℕ → ℕ → ℕ → ℕ
 fileRow n dims needed start next place found fill =
     exportOutcome n (old ∷ old ∷ dims ∷ old ∷ needed ∷ replicate 5 old ++ (start ∷ next ∷ place ∷ found ∷ fill ∷ replicate 17 old))
 
-abbrev pub reads : (List ℕ → ReadAnswer) → List ℕ → ExportOutcome → Example
-reads reader s = example (readExport (reader s) oldAnswer)
+-- the first number is the byte that names the mode
+abbrev pub reads : ℕ → List ℕ → ExportOutcome → Example
+reads byte s = example (readExport (readOf (modeOf byte) s) oldAnswer)
 
 -- for an output of so many bytes
 abbrev pub writes : ℕ → ℕ → List ℕ → ℕ → ExportOutcome → Example
@@ -108,14 +109,17 @@ oneVector = counted 1 ++ one
 
 abbrev pub table : List Example
 table =
-    reads readOf [] (row 0 old 1 0 0 old old old [])
-    ∷ reads readOf (bits 0xaa) (row 0 old 3 8 1 old old old [])
-    ∷ reads readOf noEntry (row 0 old 9 2 0 old old old [])
-    ∷ reads readOf unsupported (row 2 old old old old old old old [])
-    ∷ reads readOf (0xaa ∷ 0x07 ∷ 0x03 ∷ []) (row 6 old old old old old old old [])
+    reads 0 [] (row 0 old 1 0 0 old old old [])
+    ∷ reads 0 (bits 0xaa) (row 0 old 3 8 1 old old old [])
+    ∷ reads 0 noEntry (row 0 old 9 2 0 old old old [])
+    ∷ reads 0 unsupported (row 2 old old old old old old old [])
+    ∷ reads 0 (0xaa ∷ 0x07 ∷ 0x03 ∷ []) (row 6 old old old old old old old [])
     -- an unused bit is set
-    ∷ reads readOf (0x3f ∷ 11 ∷ 3 ∷ []) (row 0 old 3 5 1 old old old [])
-    ∷ reads strictOf (0x3f ∷ 11 ∷ 3 ∷ []) (row 11 old old old old old old old [])
+    ∷ reads 0 (0x3f ∷ 11 ∷ 3 ∷ []) (row 0 old 3 5 1 old old old [])
+    ∷ reads 1 (0x3f ∷ 11 ∷ 3 ∷ []) (row 11 old old old old old old old [])
+    -- a byte that names no mode reads strictly
+    ∷ reads 2 (0x3f ∷ 11 ∷ 3 ∷ []) (row 11 old old old old old old old [])
+    ∷ reads 255 (0x1f ∷ 11 ∷ 3 ∷ []) (row 0 old 3 5 1 old old old [])
     -- a byte that names no kind is refused before all else
     ∷ writes 3 8 (0xaa ∷ []) 4 (row 0 old old old 3 old old old ((0xaa ∷ 0x08 ∷ 0x03 ∷ old ∷ []) ∷ []))
     ∷ writes 3 8 (0xaa ∷ []) 2 (row 15 old old old old 3 old old (replicate 2 old ∷ []))
@@ -164,5 +168,5 @@ table =
     ∷ []
 
 pub table-holds : map (λ (e : Example). e .defined) table ≡ map (λ (e : Example). e .expected) table
-unfolding readOf strictOf bodyOf namedKind byByte lengthBeforeType bodyFits refusals strictRefusals shown firstFrom numberAt layoutRow writtenBy writeOf writeOutcome writeRefusals tailOf blobOf bytesOf convertedBy convertOutcome distanceOf nearerOf vectorAt vecsAnswerBy vecsRefusals bvecsOutcome bvecsOf pieces appendOutcome appendOf put running total root add sub mul div neg eq lt le isNan ofInt ofBits toBits
+unfolding readOf bodyOf namedKind byByte lengthBeforeType bodyFits refusals shown firstFrom numberAt layoutRow writtenBy writeOf writeOutcome writeRefusals tailOf blobOf bytesOf convertedBy convertOutcome distanceOf nearerOf vectorAt vecsAnswerBy vecsRefusals bvecsOutcome bvecsOf pieces appendOutcome appendOf put running total root add sub mul div neg eq lt le isNan ofInt ofBits toBits
 table-holds = refl

@@ -1,2 +1,3 @@
 pub mod Kinds
+pub mod Modes
 pub mod Examples

@@ -21,7 +21,6 @@ pub use nearest::fulandewu_nearer_dot;
 pub use nearest::fulandewu_nearer_jaccard;
 pub use nearest::fulandewu_nearer_l2;
 pub use reading::fulandewu_read;
-pub use reading::fulandewu_read_strict;
 pub use vecs_files::fulandewu_bvecs_read;
 pub use vecs_files::fulandewu_fvecs_append;
 pub use vecs_files::fulandewu_fvecs_read;

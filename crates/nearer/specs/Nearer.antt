@@ -11,6 +11,7 @@ use Rattle.vector_types.specs.declared.Refusal.{Refusal}
 use Rattle.vector_types.specs.declared.View.{View}
 use Rattle.vector_types.specs.declared.ReadAnswer.{ReadAnswer}
 use Rattle.vector_types.specs.declared.ReadAnswer.the-variants.{Accepted, Refused as Unread}
+use Rattle.vector_types.specs.declared.Mode.the-variants.{Plain}
 use Rattle.distance.specs.Values.{valueOf}
 use Rattle.distance.specs.Answer.{mismatches}
 use Rattle.distance.specs.declared.Distance.{Distance}
@@ -62,7 +63,7 @@ nearerIn m (Accepted v) (Accepted w) (Accepted u) p a b = comparedOf m v w u p a
 unfoldable pub nearerOf : Distance → List ℕ → List ℕ → List ℕ → NearerAnswer
 unfolding comparedOf
 nearerOf m probe first second =
-    nearerIn m (readOf probe) (readOf first) (readOf second) (bodyOf probe) (bodyOf first) (bodyOf second)
+    nearerIn m (readOf Plain probe) (readOf Plain first) (readOf Plain second) (bodyOf probe) (bodyOf first) (bodyOf second)
 
 -- of the two candidates, the one that is meant
 abbrev pub ofBoth : {A : Type 0} → Candidate → A → A → A

@@ -5,12 +5,14 @@ ghost use Rattle.vector_types.specs.Answers.{firstGiven, unless};
 ghost use Rattle.vector_types.specs.Read.{readOf};
 ghost use Rattle.vector_types.specs.Parts.{bodyOf};
 ghost use Rattle.vector_types.specs.declared.ReadAnswer.the-variants.{Accepted};
+ghost use Rattle.vector_types.specs.declared.Mode.the-variants.{Plain};
 ghost use Rattle.distance.specs.Answer.{mismatches};
 ghost use Rattle.distance.specs.declared.Pairing.the-variants.{Alike, Mismatched};
 ghost use Rattle.nearer.specs.Nearer.{near, nearerBy, comparedOf, nearerOf, partOf, placeOf};
 use distance::Distance;
 use distance::DistanceAnswer;
 use distance::Pairing;
+use vector_types::Mode;
 use vector_types::ReadAnswer;
 use vector_types::Refusal;
 use vector_types::View;
@@ -84,9 +86,9 @@ fn compare(
     second: &[u8],
     u: View,
 ) -> NearerAnswer
-    requires { ⌜ readOf (now probe) ≡ Accepted v ⌝ }
-    requires { ⌜ readOf (now first) ≡ Accepted w ⌝ }
-    requires { ⌜ readOf (now second) ≡ Accepted u ⌝ }
+    requires { ⌜ readOf Plain (now probe) ≡ Accepted v ⌝ }
+    requires { ⌜ readOf Plain (now first) ≡ Accepted w ⌝ }
+    requires { ⌜ readOf Plain (now second) ≡ Accepted u ⌝ }
     ensures { λ r. ⌜ r ≡ comparedOf distance v w u (bodyOf (now (probe .entry))) (bodyOf (now (first .entry))) (bodyOf (now (second .entry))) ⌝ }
 {
     match check_pairs(v, w, u) {
@@ -109,11 +111,11 @@ fn compare(
 pub fn nearer(distance: Distance, probe: &[u8], first: &[u8], second: &[u8]) -> NearerAnswer
     ensures { λ r. ⌜ r ≡ nearerOf distance (now (probe .entry)) (now (first .entry)) (now (second .entry)) ⌝ }
 {
-    match vector_types::read(probe) {
+    match vector_types::read(Mode::Plain, probe) {
         ReadAnswer::Refused(refusal) => NearerAnswer::Refused(refusal, Among::Probe),
-        ReadAnswer::Accepted(v) => match vector_types::read(first) {
+        ReadAnswer::Accepted(v) => match vector_types::read(Mode::Plain, first) {
             ReadAnswer::Refused(refusal) => NearerAnswer::Refused(refusal, Among::First),
-            ReadAnswer::Accepted(w) => match vector_types::read(second) {
+            ReadAnswer::Accepted(w) => match vector_types::read(Mode::Plain, second) {
                 ReadAnswer::Refused(refusal) => NearerAnswer::Refused(refusal, Among::Second),
                 ReadAnswer::Accepted(u) => compare(distance, probe, v, first, w, second, u),
             },

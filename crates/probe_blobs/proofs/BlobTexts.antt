@@ -17,6 +17,7 @@ use Rattle.vector_types.specs.Read.{readOf}
 use Rattle.vector_types.specs.declared.Named.{Named}
 use Rattle.vector_types.specs.declared.Named.the-variants.{Kind, Unsupported, Unknown}
 use Rattle.vector_types.specs.declared.VectorType.{VectorType}
+use Rattle.vector_types.specs.declared.Mode.{Mode}
 use Rattle.vector_types.specs.declared.View.{View}
 use Rattle.vector_types.specs.declared.ReadAnswer.the-variants.{Accepted}
 use Rattle.convert.specs.Convert.{conversionOf}
@@ -24,20 +25,14 @@ use Rattle.convert.specs.declared.ConvertAnswer.the-variants.{Converted}
 use Rattle.convert.proofs.Answered.{conversion-fits}
 use Rattle.vector_types.proofs.Named.{the-type}
 use Rattle.vector_types.proofs.Views.{view-facts}
-use Rattle.vector_types.proofs.Strict.{strict-plain}
+use Rattle.vector_types.proofs.Modes.{shown-plainly}
 use Rattle.lines.specs.Fields.{exactly, malformed}
 use Rattle.lines.proofs.Fields.{afterField, from-hex-tab, fields-last, fields-last-two}
-use Rattle.probe_blobs.specs.Blobs.{readerOf, readBlobText, readReply, kindOf, convertBlobText, convertFoundReply, convertReply}
-use Rattle.probe_blobs.specs.declared.Reader.{Reader}
-use Rattle.probe_blobs.specs.declared.Reader.the-variants.{Plain, Strict}
+use Rattle.probe_blobs.specs.Blobs.{readBlobText, readReply, kindOf, convertBlobText, convertFoundReply, convertReply}
 
 -- ---- what is shown
-plain-within : (s : List ℕ) (v : View) → readOf s ≡ Accepted v → (v .length ≤ length s) × (v .length ≤ maxBlobLength)
-plain-within s v e = let t = view-facts s v e in (t .within, omega (arith, t .within, t .short))
-
-pub seen-within : (reader : Reader) (s : List ℕ) (v : View) → readerOf reader s ≡ Accepted v → (v .length ≤ length s) × (v .length ≤ maxBlobLength)
-seen-within Plain s v e = plain-within s v e
-seen-within Strict s v e = plain-within s v (strict-plain s v e)
+pub seen-within : (mode : Mode) (s : List ℕ) (v : View) → readOf mode s ≡ Accepted v → (v .length ≤ length s) × (v .length ≤ maxBlobLength)
+seen-within mode s v e = let t = view-facts s v (shown-plainly mode s v e) in (t .within, omega (arith, t .within, t .short))
 
 -- the first bytes of the room are the new body
 pub converted-room : (t : VectorType) (v : View) (s made : List ℕ) (scratch : ℕ) → let c = conversionOf s t scratch (length made) in
@@ -48,9 +43,9 @@ converted-room t v s made scratch e =
     (room, take-at new (drop (length new) made) (v .length) size)
 
 -- ---- H is the last field
-pub read-last : (reader : Reader) (s : List ℕ) → exactly 1 (readReply reader) (fieldsOf s) ≡ readReply reader s
+pub read-last : (mode : Mode) (s : List ℕ) → exactly 1 (readReply mode) (fieldsOf s) ≡ readReply mode s
 unfolding readReply
-read-last reader s = fields-last (readReply reader) s (from-hex-tab (readBlobText reader) s)
+read-last mode s = fields-last (readReply mode) s (from-hex-tab (readBlobText mode) s)
 
 convert-tab : (kind : Named) (s : List ℕ) → indexOf tab s < length s → convertFoundReply kind s ≡ malformed
 convert-tab (Kind t) s less = from-hex-tab (convertBlobText t) s less

@@ -14,8 +14,9 @@ use Rattle.lines.specs.declared.hex.Parsed.the-variants.{Number, Nothing}
 use Rattle.vector_types.specs.Layout.{maxBlobLength, byteOf, byByte}
 use Rattle.vector_types.specs.declared.Named.{Named}
 use Rattle.vector_types.specs.declared.Named.the-variants.{Kind, Unsupported, Unknown}
-use Rattle.vector_types.specs.Read.{readOf, strictOf}
+use Rattle.vector_types.specs.Read.{readOf}
 use Rattle.vector_types.specs.declared.VectorType.{VectorType}
+use Rattle.vector_types.specs.declared.Mode.{Mode}
 use Rattle.vector_types.specs.declared.View.{View}
 use Rattle.vector_types.specs.declared.ReadAnswer.{ReadAnswer}
 use Rattle.vector_types.specs.declared.ReadAnswer.the-variants.{Accepted, Refused}
@@ -24,28 +25,22 @@ use Rattle.convert.specs.declared.ConvertAnswer.{ConvertAnswer}
 use Rattle.convert.specs.declared.ConvertAnswer.the-variants.{Converted, Refused as Unconverted}
 use Rattle.probe_texts.specs.Texts.{refusalText, shownText}
 use Rattle.probe_blobs.specs.Limits.{scratchRoom}
-use Rattle.probe_blobs.specs.declared.Reader.{Reader}
-use Rattle.probe_blobs.specs.declared.Reader.the-variants.{Plain, Strict}
 
 -- a vector after a mark: its kind, dims and body
 abbrev pub vectorText : List ℕ → View → List ℕ → List ℕ
 vectorText mark v body = shownText mark (byteOf (v .kind)) (v .dims .0) body
 
--- ---- read and strict: the answer about the blob s
+-- ---- read and strict, which name the mode: the answer about the blob s
 unfoldable pub readText : ReadAnswer → List ℕ → List ℕ
 readText (Accepted v) s = vectorText (word "V\t") v (take (v .length) s)
 readText (Refused r) s = refusalText r
 
-abbrev pub readerOf : Reader → List ℕ → ReadAnswer
-readerOf Plain s = readOf s
-readerOf Strict s = strictOf s
+abbrev pub readBlobText : Mode → List ℕ → List ℕ
+readBlobText mode s = readText (readOf mode s) s
 
-abbrev pub readBlobText : Reader → List ℕ → List ℕ
-readBlobText reader s = readText (readerOf reader s) s
-
-unfoldable pub readReply : Reader → List ℕ → List ℕ
+unfoldable pub readReply : Mode → List ℕ → List ℕ
 unfolding readText fromHex
-readReply reader field = fromHex (readBlobText reader) field
+readReply mode field = fromHex (readBlobText mode) field
 
 -- ---- the kind that K names, a type byte in one decimal digit
 abbrev pub kindFound : Parsed → Named

@@ -7,23 +7,18 @@ ghost use Rattle.lines.specs.Parts.{fieldsOf};
 ghost use Rattle.lines.specs.Fields.{exactly};
 ghost use Rattle.vector_types.specs.Layout.{maxBlobLength, byByte};
 ghost use Rattle.probe_blobs.specs.Limits.{replyRoom, scratchRoom, blobRoom};
-ghost use Rattle.probe_blobs.specs.Blobs.{vectorText, readerOf, readBlobText, readReply, kindOf, convertBlobText, convertFoundReply, convertReply};
+ghost use Rattle.probe_blobs.specs.Blobs.{vectorText, readBlobText, readReply, kindOf, convertBlobText, convertFoundReply, convertReply};
 use convert::ConvertAnswer;
 use lines::hex::Parsed;
 use lines::text::put_malformed;
 use probe_texts::put_refusal;
 use probe_texts::put_shown;
+use vector_types::Mode;
 use vector_types::Named;
 use vector_types::ReadAnswer;
 use vector_types::VectorType;
 use vector_types::View;
 use vector_types::type_byte;
-
-// Which of the two readers is asked.
-pub enum Reader {
-    Plain,
-    Strict,
-}
 
 // Puts a vector at the start of out: a mark, its kind and dims, and its body, the first of these bytes.
 fn put_vector(mark: &[u8], view: View, bytes: &[u8], out: &mut [u8]) -> usize
@@ -40,37 +35,28 @@ fn put_vector(mark: &[u8], view: View, bytes: &[u8], out: &mut [u8]) -> usize
     put_shown(mark, byte, dims.0 as u64, &bytes[..length], out)
 }
 
-fn read_by(reader: Reader, blob: &[u8]) -> ReadAnswer
-    ensures { λ r. ⌜ r ≡ readerOf reader (now (blob .entry)) ⌝ }
-{
-    match reader {
-        Reader::Plain => vector_types::read(blob),
-        Reader::Strict => vector_types::read_strict(blob),
-    }
-}
-
-// Puts what a reader answers of a blob at the start of out.
-fn put_read(reader: Reader, blob: &[u8], out: &mut [u8]) -> usize
+// Puts what a blob shows in a mode at the start of out.
+fn put_read(mode: Mode, blob: &[u8], out: &mut [u8]) -> usize
     requires { ⌜ replyRoom ≤ length (now out) ⌝ }
-    ensures { λ r. ⌜ Puts (readBlobText reader (now (blob .entry))) (now (out .entry)) r (now (out .exit)) ⌝ }
+    ensures { λ r. ⌜ Puts (readBlobText mode (now (blob .entry))) (now (out .entry)) r (now (out .exit)) ⌝ }
 {
-    match read_by(reader, blob) {
+    match vector_types::read(mode, blob) {
         ReadAnswer::Accepted(view) => put_vector(b"V\t", view, blob, out),
         ReadAnswer::Refused(refusal) => put_refusal(refusal, out),
     }
 }
 
-// The reply to read|H or strict|H. H is decoded into `decoded`.
-pub fn read_line(reader: Reader, field: &[u8], decoded: &mut [u8], out: &mut [u8]) -> usize
+// The reply to read|H or strict|H, which name the mode. H is decoded into `decoded`.
+pub fn read_line(mode: Mode, field: &[u8], decoded: &mut [u8], out: &mut [u8]) -> usize
     requires { ⌜ length (now field) ≤ 2 * length (now decoded) ⌝ }
     requires { ⌜ replyRoom ≤ length (now out) ⌝ }
-    ensures { λ r. ⌜ Puts (readReply reader (now (field .entry))) (now (out .entry)) r (now (out .exit)) ⌝ }
+    ensures { λ r. ⌜ Puts (readReply mode (now (field .entry))) (now (out .entry)) r (now (out .exit)) ⌝ }
 {
     let count = lines::hex::bytes(field, decoded);
     if 2 * count != field.len() {
         return put_malformed(out);
     }
-    put_read(reader, &decoded[..count], out)
+    put_read(mode, &decoded[..count], out)
 }
 
 // The kind that a number names as a type byte.

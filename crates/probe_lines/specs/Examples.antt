@@ -7,7 +7,7 @@ use Rattle.rounding.specs.Root.{root}
 use Rattle.rounding.specs.Narrow.{narrowed}
 use Rattle.rounding.specs.Truncate.{truncated}
 use Rattle.vector_types.specs.Search.{firstFrom}
-use Rattle.vector_types.specs.Read.{readOf, strictOf}
+use Rattle.vector_types.specs.Read.{readOf}
 use Rattle.blob_writer.specs.Write.{writeOf}
 use Rattle.vector_types.specs.Parts.{bodyOf}
 use Rattle.little_endian.specs.Bytes.{bytesOf, numberAt, put}
@@ -41,7 +41,7 @@ floats =
     ∷ example "" "X"
     ∷ []
 
--- the customer's examples of reading, and lines of the strict reader and of the writer
+-- the customer's examples of reading, and lines of the strict mode and of the writer
 abbrev pub blobs : List Example
 blobs =
     example "read\t" "V\t1\t0\t"
@@ -126,6 +126,6 @@ pub examples-hold :
     RepliesAs vecprobeReply floats × RepliesAs vecprobeReply blobs × RepliesAs vecprobeReply conversions × RepliesAs vecprobeReply nearest
     × RepliesAs vecprobeReply files × RepliesAs vecprobeReply appended
 unfolding partsOf same vecprobeReply detailText decimalOf numeralOf patternOf numberFrom digitOf hexPair hexBytes hexOf
-    root narrowed truncated toBits readOf strictOf writeOf firstFrom bodyOf
+    root narrowed truncated toBits readOf writeOf firstFrom bodyOf
     conversionOf bytesOf numberAt put nearerOf vectorAt elementsAt appendOutcome running total merged ofBits ofInt add sub mul div neg eq lt le isNan
 examples-hold = (refl, refl, refl, refl, refl, refl)

@@ -24,7 +24,7 @@ unfoldable pub verbReply : Verb → List (List ℕ) → List ℕ
 unfolding exactly floatReply rootReply readReply writeReply convertReply nearReply fileReply appendReply
 verbReply Root fields = exactly 2 rootReply fields
 verbReply (Float work) fields = exactly 1 (floatReply work) fields
-verbReply (Read reader) fields = exactly 1 (readReply reader) fields
+verbReply (Read mode) fields = exactly 1 (readReply mode) fields
 verbReply Write fields = exactly 3 writeReply fields
 verbReply Convert fields = exactly 2 convertReply fields
 verbReply Near fields = exactly 4 nearReply fields

@@ -40,7 +40,7 @@ fn answer_to(
     match verb {
         Verb::Root => probe_floats::root_line(rest, out),
         Verb::Float(work) => probe_floats::float_line(work, rest, out),
-        Verb::Read(reader) => probe_blobs::read_line(reader, rest, decoded, out),
+        Verb::Read(mode) => probe_blobs::read_line(mode, rest, decoded, out),
         Verb::Write => probe_write::write_line(rest, decoded, made, out),
         Verb::Convert => probe_blobs::convert_line(rest, decoded, scratch, made, out),
         Verb::Near => probe_near::near_line(rest, decoded, out),

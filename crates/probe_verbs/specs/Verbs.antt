@@ -4,7 +4,7 @@ use mathlib.Core.List.{List, [], _∷_}
 use Rattle.lines.specs.Text.{word}
 use Rattle.lines.specs.Fields.{firstNamed}
 use Rattle.probe_floats.specs.declared.Work.the-variants.{Narrow, Widen, Trunc}
-use Rattle.probe_blobs.specs.declared.Reader.the-variants.{Plain, Strict}
+use Rattle.vector_types.specs.declared.Mode.the-variants.{Plain, Strict}
 use Rattle.probe_vecs.specs.declared.FileKind.the-variants.{Fvecs, Bvecs}
 use Rattle.probe_verbs.specs.declared.Verb.{Verb}
 use Rattle.probe_verbs.specs.declared.Verb.the-variants.{Root, Float, Read, Write, Convert, Near, File, Append, Other}

@@ -2,15 +2,15 @@
 ghost use mathlib.Core.Path.{_≡_};
 ghost use Rattle.probe_verbs.specs.Verbs.{verbOf};
 use lines::text::word_place;
-use probe_blobs::Reader;
 use probe_floats::Work;
 use probe_vecs::FileKind;
+use vector_types::Mode;
 
 // What a line asks for, by its first field.
 pub enum Verb {
     Root,
     Float(Work),
-    Read(Reader),
+    Read(Mode),
     Write,
     Convert,
     Near,
@@ -30,8 +30,8 @@ pub fn verb_of(word: &[u8]) -> Verb
         1 => Verb::Float(Work::Narrow),
         2 => Verb::Float(Work::Widen),
         3 => Verb::Float(Work::Trunc),
-        4 => Verb::Read(Reader::Plain),
-        5 => Verb::Read(Reader::Strict),
+        4 => Verb::Read(Mode::Plain),
+        5 => Verb::Read(Mode::Strict),
         6 => Verb::Write,
         7 => Verb::Convert,
         8 => Verb::Near,

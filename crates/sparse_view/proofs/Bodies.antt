@@ -9,20 +9,21 @@ use Rattle.vector_types.specs.Read.{readOf}
 use Rattle.vector_types.specs.Parts.{shownHalf, valuesOf, indicesOf}
 use Rattle.vector_types.specs.declared.ReadAnswer.{ReadAnswer}
 use Rattle.vector_types.specs.declared.ReadAnswer.the-variants.{Accepted, Refused}
+use Rattle.vector_types.specs.declared.Mode.the-variants.{Plain}
 use Rattle.vector_types.proofs.Views.{half-within}
 use Rattle.sparse_view.specs.Halves.{half}
 
 module _ (s : List ℕ) where
   -- how many bytes the values have, and the indices as many
   abbrev h : ℕ
-  h = shownHalf (readOf s)
+  h = shownHalf (readOf Plain s)
 
-  within : (x : ReadAnswer) → readOf s ≡ x → 2 * shownHalf x ≤ length s
+  within : (x : ReadAnswer) → readOf Plain s ≡ x → 2 * shownHalf x ≤ length s
   within (Accepted v) e = half-within s v e
   within (Refused r) e = omega arith
 
   pub both-within : 2 * h ≤ length s
-  both-within = within (readOf s) refl
+  both-within = within (readOf Plain s) refl
 
   pub joined : take (2 * h) s ≡ valuesOf s ++ indicesOf s
   unfolding valuesOf indicesOf

@@ -3,6 +3,7 @@ mod halves;
 
 ghost use mathlib.Core.Path.{_≡_};
 ghost use Rattle.vector_types.specs.Read.{readOf};
+ghost use Rattle.vector_types.specs.declared.Mode.the-variants.{Plain};
 ghost use Rattle.vector_types.specs.Parts.{shownHalf, valuesOf, indicesOf, past};
 ghost use Rattle.sparse_view.specs.Halves.{SparseBody, FirstHalf, SecondHalf};
 use halves::back;
@@ -44,7 +45,7 @@ pub fn values_of<'a>(blob: &'a [u8]) -> &'a [u8]
 
 // Its indices, right after the values.
 pub fn indices_of<'a>(blob: &'a [u8]) -> &'a [u8]
-    ensures { λ r. ⌜ (now r ≡ indicesOf (now (blob .entry))) × (r .ptr ≡ past (blob .entry .ptr) (shownHalf (readOf (now (blob .entry))))) ⌝ }
+    ensures { λ r. ⌜ (now r ≡ indicesOf (now (blob .entry))) × (r .ptr ≡ past (blob .entry .ptr) (shownHalf (readOf Plain (now (blob .entry))))) ⌝ }
 {
     indices(view_of(blob))
 }

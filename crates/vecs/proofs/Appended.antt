@@ -23,6 +23,7 @@ use Rattle.vector_types.specs.declared.Refusal.{Refusal}
 use Rattle.vector_types.specs.declared.VectorType.the-variants.{Float32Dense}
 use Rattle.vector_types.specs.declared.ReadAnswer.{ReadAnswer}
 use Rattle.vector_types.specs.declared.ReadAnswer.the-variants.{Accepted, Refused}
+use Rattle.vector_types.specs.declared.Mode.the-variants.{Plain}
 use Rattle.vector_types.proofs.SameKind.{same-kind}
 use Rattle.vector_types.proofs.Views.{view-facts}
 use Rattle.vector_types.proofs.Bodies.{length-body}
@@ -40,18 +41,18 @@ put-part fill out ys w e =
     tail-onto fill out ys w e ∙ rw (drop-drop (length w) fill out) (sym (append-assoc (take fill out) w (drop (fill + length w) out)))
 
 -- ---- the outcome by what the reader answers
-outcome-by : (blob out : List ℕ) (fill : ℕ) (r : ReadAnswer) → readOf blob ≡ r
+outcome-by : (blob out : List ℕ) (fill : ℕ) (r : ReadAnswer) → readOf Plain blob ≡ r
     → appendOutcome blob out fill
     ≡ (let a = appendRead r (length out) fill in appendLeaving a (appendedAfter a (vectorBytes (shownDims r) (bodyOf blob)) out fill))
 unfolding appendOutcome appendOf
 outcome-by blob out fill r e =
     ap (λ (r : ReadAnswer). let a = appendRead r (length out) fill in appendLeaving a (appendedAfter a (vectorBytes (shownDims r) (bodyOf blob)) out fill)) e
 
-pub append-unread : (blob out : List ℕ) (fill : ℕ) (r : Refusal) → readOf blob ≡ Refused r → appendOutcome blob out fill ≡ appendLeaving (appendRefused r) out
+pub append-unread : (blob out : List ℕ) (fill : ℕ) (r : Refusal) → readOf Plain blob ≡ Refused r → appendOutcome blob out fill ≡ appendLeaving (appendRefused r) out
 append-unread blob out fill r e = outcome-by blob out fill (Refused r) e
 
 -- ---- the body of a Float32Dense blob has four bytes for each element
-module _ (blob : List ℕ) (v : View) (e : readOf blob ≡ Accepted v) (dense : hasByte 1 (v .kind) ≡ true) where
+module _ (blob : List ℕ) (v : View) (e : readOf Plain blob ≡ Accepted v) (dense : hasByte 1 (v .kind) ≡ true) where
   view-long : v .length ≡ 4 * v .dims .0
   unfolding bodyFits
   view-long = eqb-true (v .length) (4 * v .dims .0) (rw (same-kind (v .kind) Float32Dense dense) at (view-facts blob v e .fit))
@@ -60,7 +61,7 @@ module _ (blob : List ℕ) (v : View) (e : readOf blob ≡ Accepted v) (dense : 
   body-long = length-body blob v e ∙ view-long
 
 -- ---- of a blob with a view
-module _ (blob out : List ℕ) (fill : ℕ) (v : View) (e : readOf blob ≡ Accepted v) where
+module _ (blob out : List ℕ) (fill : ℕ) (v : View) (e : readOf Plain blob ≡ Accepted v) where
   pub append-other : hasByte 1 (v .kind) ≡ false → appendOutcome blob out fill ≡ appendLeaving (appendRefused (refusal 13)) out
   append-other other = outcome-by blob out fill (Accepted v) e ∙ rw other
 
@@ -87,7 +88,7 @@ Unchanged blob out fill r = appendOutcome blob out fill ≡ appendLeaving (appen
 abbrev pub EitherWay : List ℕ → List ℕ → ℕ → Type 0
 EitherWay blob out fill = ((r : Refusal) × Unchanged blob out fill r) ⊎ ((d : ℕ) × Grown blob out fill d)
 
-by-view : (blob out : List ℕ) (fill : ℕ) (v : View) → readOf blob ≡ Accepted v → EitherWay blob out fill
+by-view : (blob out : List ℕ) (fill : ℕ) (v : View) → readOf Plain blob ≡ Accepted v → EitherWay blob out fill
 by-view blob out fill v e = by-tests (hasByte 1 (v .kind)) (ltb (length out - fill) (vectorLength (v .dims .0))) refl refl
   where
     by-tests : (b c : Bool) → hasByte 1 (v .kind) ≡ b → ltb (length out - fill) (vectorLength (v .dims .0)) ≡ c → EitherWay blob out fill
@@ -107,9 +108,9 @@ by-view blob out fill v e = by-tests (hasByte 1 (v .kind)) (ltb (length out - fi
         )
 
 pub append-either : (blob out : List ℕ) (fill : ℕ) → EitherWay blob out fill
-append-either blob out fill = by-answer (readOf blob) refl
+append-either blob out fill = by-answer (readOf Plain blob) refl
   where
-    by-answer : (r : ReadAnswer) → readOf blob ≡ r → EitherWay blob out fill
+    by-answer : (r : ReadAnswer) → readOf Plain blob ≡ r → EitherWay blob out fill
     by-answer (Accepted v) e = by-view blob out fill v e
     by-answer (Refused r) e = inl (r, append-unread blob out fill r e)
 

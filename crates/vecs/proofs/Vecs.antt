@@ -23,6 +23,7 @@ use Rattle.vector_types.specs.Answers.{acceptedAs}
 use Rattle.vector_types.specs.Read.{readOf}
 use Rattle.vector_types.specs.Parts.{bodyOf}
 use Rattle.vector_types.specs.declared.VectorType.the-variants.{Float32Dense}
+use Rattle.vector_types.specs.declared.Mode.the-variants.{Plain}
 use Rattle.vector_types.proofs.Ends.{even-untyped}
 use Rattle.vector_types.proofs.Shapes.{reads-float32}
 use Rattle.bodies.specs.Elements.{denseElement}
@@ -142,7 +143,7 @@ module _ (w : ℕ) (file : List ℕ) (place : ℕ) (v : Found) (e : vectorAt w f
 
 -- ---- fvecs: the elements that are shown are a Float32Dense blob of their own, of as many dims
 pub elements-accepted : (file : List ℕ) (place : ℕ) (v : Found) → vectorAt 4 file place ≡ Vector v
-    → readOf (elementsAt 4 file place) ≡ acceptedAs Float32Dense (v .dims .0) (4 * v .dims .0)
+    → readOf Plain (elementsAt 4 file place) ≡ acceptedAs Float32Dense (v .dims .0) (4 * v .dims .0)
 elements-accepted file place v e =
     let s = elementsAt 4 file place in
     let few : v .dims .0 ≤ maxDims = let t = vector-facts 4 file place v e in rw (t .is) (t .few) in

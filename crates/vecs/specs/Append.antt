@@ -12,6 +12,7 @@ use Rattle.vector_types.specs.declared.View.{View}
 use Rattle.vector_types.specs.declared.Refusal.{Refusal}
 use Rattle.vector_types.specs.declared.ReadAnswer.{ReadAnswer}
 use Rattle.vector_types.specs.declared.ReadAnswer.the-variants.{Accepted, Refused as ReadRefused}
+use Rattle.vector_types.specs.declared.Mode.the-variants.{Plain}
 use Rattle.vecs.specs.declared.AppendAnswer.{AppendAnswer}
 use Rattle.vecs.specs.declared.AppendAnswer.the-variants.{Filled, Refused}
 
@@ -37,7 +38,7 @@ appendRead (ReadRefused r) size fill = Refused r
 
 unfoldable pub appendOf : List ℕ → ℕ → ℕ → AppendAnswer
 unfolding readOf
-appendOf blob size fill = appendRead (readOf blob) size fill
+appendOf blob size fill = appendRead (readOf Plain blob) size fill
 
 -- how many elements an answer shows: none on a refusal
 abbrev pub shownDims : ReadAnswer → ℕ
@@ -61,4 +62,4 @@ unfoldable pub appendOutcome : List ℕ → List ℕ → ℕ → AppendOutcome
 unfolding appendOf readOf bodyOf put bytesOf
 appendOutcome blob out fill =
     let r = appendOf blob (length out) fill in
-    appendLeaving r (appendedAfter r (vectorBytes (shownDims (readOf blob)) (bodyOf blob)) out fill)
+    appendLeaving r (appendedAfter r (vectorBytes (shownDims (readOf Plain blob)) (bodyOf blob)) out fill)

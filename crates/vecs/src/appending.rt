@@ -6,9 +6,11 @@ ghost use Rattle.promises.specs.Onto.{onto};
 ghost use Rattle.vector_types.specs.Layout.{maxDims};
 ghost use Rattle.vector_types.specs.Read.{readOf};
 ghost use Rattle.vector_types.specs.declared.ReadAnswer.the-variants.{Accepted};
+ghost use Rattle.vector_types.specs.declared.Mode.the-variants.{Plain};
 ghost use Rattle.vecs.specs.Append.{vectorBytes, appendLeaving, appendOutcome};
 use crate::AppendAnswer;
 use vector_types::Dims;
+use vector_types::Mode;
 use vector_types::ReadAnswer;
 use vector_types::Refusal;
 use vector_types::VectorType;
@@ -34,7 +36,7 @@ fn put_vector(dims: Dims, body: &[u8], out: &mut [u8])
 
 // Appends a blob that the reader accepts.
 fn append_view(view: View, blob: &[u8], out: &mut [u8], fill: usize) -> AppendAnswer
-    requires { ⌜ readOf (now blob) ≡ Accepted view ⌝ }
+    requires { ⌜ readOf Plain (now blob) ≡ Accepted view ⌝ }
     ensures { λ r. ⌜ appendLeaving r (now (out .exit)) ≡ appendOutcome (now (blob .entry)) (now (out .entry)) fill ⌝ }
 {
     let kind = view.kind;
@@ -55,7 +57,7 @@ fn append_view(view: View, blob: &[u8], out: &mut [u8], fill: usize) -> AppendAn
 pub fn fvecs_append(blob: &[u8], out: &mut [u8], fill: usize) -> AppendAnswer
     ensures { λ r. ⌜ appendLeaving r (now (out .exit)) ≡ appendOutcome (now (blob .entry)) (now (out .entry)) fill ⌝ }
 {
-    match vector_types::read(blob) {
+    match vector_types::read(Mode::Plain, blob) {
         ReadAnswer::Accepted(view) => append_view(view, blob, out, fill),
         ReadAnswer::Refused(refusal) => AppendAnswer::Refused(refusal),
     }

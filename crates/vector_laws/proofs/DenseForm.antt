@@ -18,6 +18,7 @@ use Rattle.vector_types.specs.declared.View.{View}
 use Rattle.vector_types.specs.declared.VectorType.{VectorType}
 use Rattle.vector_types.specs.declared.VectorType.the-variants.{Float32Dense, Float32Sparse}
 use Rattle.vector_types.specs.declared.ReadAnswer.the-variants.{Accepted}
+use Rattle.vector_types.specs.declared.Mode.the-variants.{Plain}
 use Rattle.vector_types.proofs.Views.{view-facts}
 use Rattle.vector_types.proofs.Bodies.{body-facts}
 use Rattle.blob_writer.specs.Answers.{written}
@@ -67,7 +68,7 @@ denseFormBody s v = resultOf Float32Sparse Float32Dense (v .dims .0) (bodyOf s)
 abbrev denseFormView : List ℕ → View → View
 denseFormView s v = record { kind = Float32Dense; dims = v .dims; length = length (denseFormBody s v) }
 
-module _ (s : List ℕ) (v : View) (e : readOf s ≡ Accepted v) (k : v .kind ≡ Float32Sparse) where
+module _ (s : List ℕ) (v : View) (e : readOf Plain s ≡ Accepted v) (k : v .kind ≡ Float32Sparse) where
   abbrev d : ℕ
   d = v .dims .0
 
@@ -90,7 +91,7 @@ module _ (s : List ℕ) (v : View) (e : readOf s ≡ Accepted v) (k : v .kind �
         elements = refl;
       })
 
-  dense-form-read : (readOf (denseForm s v) ≡ acceptedAs Float32Dense d (length (denseFormBody s v))) × (bodyOf (denseForm s v) ≡ denseFormBody s v)
+  dense-form-read : (readOf Plain (denseForm s v) ≡ acceptedAs Float32Dense d (length (denseFormBody s v))) × (bodyOf (denseForm s v) ≡ denseFormBody s v)
   dense-form-read = reads-back Float32Dense d (denseFormBody s v) unrefusing
 
   -- with so much room the converter leaves that body at the start of its output, and the writer makes that blob of it
@@ -112,7 +113,7 @@ module _ (s : List ℕ) (v : View) (e : readOf s ≡ Accepted v) (k : v .kind �
       )
 
 -- ---- two blobs
-pub dense-form-same-distance : (m : Distance) (s t : List ℕ) (v w : View) → readOf s ≡ Accepted v → readOf t ≡ Accepted w → v .kind ≡ Float32Sparse → w .kind ≡ Float32Sparse
+pub dense-form-same-distance : (m : Distance) (s t : List ℕ) (v w : View) → readOf Plain s ≡ Accepted v → readOf Plain t ≡ Accepted w → v .kind ≡ Float32Sparse → w .kind ≡ Float32Sparse
     → Rising (entriesOf (bodyOf s)) → Rising (entriesOf (bodyOf t)) → Premises m (bodyOf s) (bodyOf t)
     → distanceOf m (denseForm s v) (denseForm t w) ≡ distanceOf m s t
 unfolding distanceOf

@@ -14,6 +14,7 @@ use Rattle.vector_types.specs.declared.Refusal.{Refusal}
 use Rattle.vector_types.specs.declared.View.{View}
 use Rattle.vector_types.specs.declared.ReadAnswer.{ReadAnswer}
 use Rattle.vector_types.specs.declared.ReadAnswer.the-variants.{Accepted, Refused as Unread}
+use Rattle.vector_types.specs.declared.Mode.the-variants.{Plain}
 use Rattle.distance.specs.Values.{Formula, valueOf}
 use Rattle.distance.specs.Answer.{pairingOf, distanceAnswer, answerOfViews, answerIn, answerBy, distanceOf}
 use Rattle.distance.specs.declared.Distance.{Distance}
@@ -43,14 +44,14 @@ views-same f g v w v′ w′ a b a′ b′ e same =
     go (Mismatched r) k = refl
 
 -- ---- two pairs of blobs that are read alike
-pub answers-same : (f g : Formula) (s t s′ t′ : List ℕ) → readOf s ≡ readOf s′ → readOf t ≡ readOf t′
-    → ((v w : View) → readOf s ≡ Accepted v → readOf t ≡ Accepted w → SameShape v w
+pub answers-same : (f g : Formula) (s t s′ t′ : List ℕ) → readOf Plain s ≡ readOf Plain s′ → readOf Plain t ≡ readOf Plain t′
+    → ((v w : View) → readOf Plain s ≡ Accepted v → readOf Plain t ≡ Accepted w → SameShape v w
     → f (v .kind) (v .dims .0) (bodyOf s) (bodyOf t) ≡ g (v .kind) (v .dims .0) (bodyOf s′) (bodyOf t′))
     → answerBy f s t ≡ answerBy g s′ t′
 unfolding answerBy
-answers-same f g s t s′ t′ p q same = rw (← p, ← q) (go (readOf s) refl (readOf t) refl)
+answers-same f g s t s′ t′ p q same = rw (← p, ← q) (go (readOf Plain s) refl (readOf Plain t) refl)
   where
-    go : (r : ReadAnswer) → readOf s ≡ r → (q : ReadAnswer) → readOf t ≡ q → answerIn f r q (bodyOf s) (bodyOf t) ≡ answerIn g r q (bodyOf s′) (bodyOf t′)
+    go : (r : ReadAnswer) → readOf Plain s ≡ r → (q : ReadAnswer) → readOf Plain t ≡ q → answerIn f r q (bodyOf s) (bodyOf t) ≡ answerIn g r q (bodyOf s′) (bodyOf t′)
     go (Unread r) e q k = refl
     go (Accepted v) e (Unread r) k = refl
     go (Accepted v) e (Accepted w) k = views-same f g v w v w (bodyOf s) (bodyOf t) (bodyOf s′) (bodyOf t′) refl (same v w e k)
@@ -59,8 +60,8 @@ answers-same f g s t s′ t′ p q same = rw (← p, ← q) (go (readOf s) refl 
 pub record MeasuredPair (m : Distance) (s t : List ℕ) (x : Float) : Type 0 where
   pub first : View
   pub second : View
-  pub firstRead : readOf s ≡ Accepted first
-  pub secondRead : readOf t ≡ Accepted second
+  pub firstRead : readOf Plain s ≡ Accepted first
+  pub secondRead : readOf Plain t ≡ Accepted second
   pub kind : first .kind ≡ second .kind
   pub dims : first .dims .0 ≡ second .dims .0
   pub value : valueOf m (first .kind) (first .dims .0) (bodyOf s) (bodyOf t) ≡ some x
@@ -85,9 +86,9 @@ module _ (x : Float) where
 module _ (m : Distance) (s t : List ℕ) (x : Float) where
   pub measured-alike : distanceOf m s t ≡ Measured x → MeasuredPair m s t x
   unfolding distanceOf
-  measured-alike e = go (readOf s) refl (readOf t) refl e
+  measured-alike e = go (readOf Plain s) refl (readOf Plain t) refl e
     where
-      go : (r : ReadAnswer) → readOf s ≡ r → (q : ReadAnswer) → readOf t ≡ q → answerIn (valueOf m) r q (bodyOf s) (bodyOf t) ≡ Measured x → MeasuredPair m s t x
+      go : (r : ReadAnswer) → readOf Plain s ≡ r → (q : ReadAnswer) → readOf Plain t ≡ q → answerIn (valueOf m) r q (bodyOf s) (bodyOf t) ≡ Measured x → MeasuredPair m s t x
       go (Unread r) p q k e = absurd (refused-not-measured x _ _ e)
       go (Accepted v) p (Unread r) q e = absurd (refused-not-measured x _ _ e)
       go (Accepted v) p (Accepted w) q e =

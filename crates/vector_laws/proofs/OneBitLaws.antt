@@ -29,6 +29,7 @@ use Rattle.vector_types.specs.Parts.{bodyOf}
 use Rattle.vector_types.specs.declared.VectorType.the-variants.{Float1Bit}
 use Rattle.vector_types.specs.declared.View.{View}
 use Rattle.vector_types.specs.declared.ReadAnswer.the-variants.{Accepted}
+use Rattle.vector_types.specs.declared.Mode.the-variants.{Plain}
 use Rattle.vector_types.proofs.Given.{accepted-same-view}
 use Rattle.vector_types.proofs.Views.{view-facts}
 use Rattle.vector_types.proofs.Bodies.{body-is, body-facts}
@@ -90,7 +91,7 @@ module _ (a b : List ℕ) (B : AreBytes a) (C : AreBytes b) where
 -- ---- a 1-bit blob of d elements
 record OneBit (d : ℕ) (s : List ℕ) : Type 0 where
   view : View
-  read : readOf s ≡ Accepted view
+  read : readOf Plain s ≡ Accepted view
   kind : view .kind ≡ Float1Bit
   dims : view .dims .0 ≡ d
 
@@ -149,7 +150,7 @@ zero-whole (fin s m i) (suc n) e v =
 pub counts-triangle : (d : ℕ) (s t u : List ℕ) → bitsApart d s u ≤ bitsApart d s t + bitsApart d t u
 counts-triangle d s t u = differing-triangle (bodyOf s) (bodyOf t) (bodyOf u) (wholeBits d)
 
-module _ (s : List ℕ) (v : View) (e : readOf s ≡ Accepted v) (k : v .kind ≡ Float1Bit) where
+module _ (s : List ℕ) (v : View) (e : readOf Plain s ≡ Accepted v) (k : v .kind ≡ Float1Bit) where
   abbrev d : ℕ
   d = v .dims .0
 
@@ -157,7 +158,7 @@ module _ (s : List ℕ) (v : View) (e : readOf s ≡ Accepted v) (k : v .kind �
   one-bit = record { view = v; read = e; kind = k; dims = refl }
 
   -- another of the same dims is measured against it, by the count
-  pub cosine-counts : (t : List ℕ) (w : View) → readOf t ≡ Accepted w → w .kind ≡ Float1Bit → v .dims .0 ≡ w .dims .0
+  pub cosine-counts : (t : List ℕ) (w : View) → readOf Plain t ≡ Accepted w → w .kind ≡ Float1Bit → v .dims .0 ≡ w .dims .0
       → distanceOf Cos s t ≡ Measured (bitCosine (bitsApart (v .dims .0) s t))
   unfolding valueOf cosineOf
   cosine-counts t w g l same =

@@ -14,13 +14,15 @@ use Rattle.float_laws.specs.Running.{running, total}
 use Rattle.float_laws.proofs.Running.{running-same}
 use Rattle.little_endian.specs.Bytes.{numberAt, f32At, floatBytes}
 use Rattle.vector_types.specs.Layout.{ceil, namedKind, lengthBeforeType, bodyFits, layoutRow}
-use Rattle.vector_types.specs.Read.{readOf, strictOf}
+use Rattle.vector_types.specs.Read.{readOf}
 use Rattle.vector_types.specs.Parts.{bodyOf}
 use Rattle.vector_types.specs.declared.VectorType.{VectorType}
 use Rattle.vector_types.specs.declared.VectorType.the-variants.{Float32Dense, Float64Dense, Float32Sparse, Float1Bit, Float8}
 use Rattle.vector_types.specs.declared.Named.the-variants.{Kind}
 use Rattle.vector_types.specs.declared.View.{View}
 use Rattle.vector_types.specs.declared.ReadAnswer.the-variants.{Accepted}
+use Rattle.vector_types.specs.declared.Mode.{Mode}
+use Rattle.vector_types.specs.declared.Mode.the-variants.{Plain, Strict}
 use Rattle.vector_types.proofs.Given.{accepted-same-view}
 use Rattle.vector_types.proofs.Ends.{named-typed}
 use Rattle.vector_types.proofs.ByKind.{read-float8}
@@ -106,7 +108,7 @@ module _ {d : ℕ} {a a′ : List ℕ} (s : SameElements d a a′) where
   result-same Float8 other = absurd (other refl)
 
 -- ---- two blobs, of which one is accepted
-module _ (s s′ : List ℕ) (v : View) (e : readOf s ≡ Accepted v) (k : v .kind ≡ Float8) (same : AlikeButPadding (v .dims .0) s s′) where
+module _ (s s′ : List ℕ) (v : View) (e : readOf Plain s ≡ Accepted v) (k : v .kind ≡ Float8) (same : AlikeButPadding (v .dims .0) s s′) where
   abbrev d : ℕ
   d = v .dims .0
 
@@ -133,17 +135,18 @@ module _ (s s′ : List ℕ) (v : View) (e : readOf s ≡ Accepted v) (k : v .ki
   unfolding namedKind
   names′ = rw (← same .sameLength, ← end-same (length s - 1) (omega (arith, ends))) names
 
-  pub padding-same-read : readOf s′ ≡ readOf s
-  padding-same-read =
+  same-plain-read : readOf Plain s′ ≡ readOf Plain s
+  same-plain-read =
       let short = view-facts s v e .short in
       let count = end-same (length s - 1 - 1) (omega (arith, ends)) in
       read-float8 s′ (rw (← same .sameLength) short) names′ ∙ rw (← same .sameLength, ← count) (sym (read-float8 s short names))
 
-  accepted′ : readOf s′ ≡ Accepted v
-  accepted′ = padding-same-read ∙ e
+  accepted′ : readOf Plain s′ ≡ Accepted v
+  accepted′ = same-plain-read ∙ e
 
-  pub padding-same-strict : strictOf s′ ≡ strictOf s
-  padding-same-strict = strict-other s′ v accepted′ (rw k) (rw k) ∙ sym (strict-other s v e (rw k) (rw k))
+  pub padding-same-read : (mode : Mode) → readOf mode s′ ≡ readOf mode s
+  padding-same-read Plain = same-plain-read
+  padding-same-read Strict = strict-other s′ v accepted′ (rw k) (rw k) ∙ sym (strict-other s v e (rw k) (rw k))
 
   -- ---- the bytes below d, alpha and shift, so the elements
   body-byte-same : (i : ℕ) → (IsPadding d i → ⊥) → i < 4 * ceil d 4 + 8 → getD (bodyOf s) i 0 ≡ getD (bodyOf s′) i 0
@@ -165,18 +168,18 @@ module _ (s s′ : List ℕ) (v : View) (e : readOf s ≡ Accepted v) (k : v .ki
   }
 
   -- ---- what is answered
-  kind-is : (w : View) → readOf s ≡ Accepted w → w .kind ≡ Float8
+  kind-is : (w : View) → readOf Plain s ≡ Accepted w → w .kind ≡ Float8
   kind-is w g = rw (accepted-same-view w v (sym g ∙ e)) k
 
-  dims-are : (w : View) → readOf s ≡ Accepted w → w .dims .0 ≡ d
+  dims-are : (w : View) → readOf Plain s ≡ Accepted w → w .dims .0 ≡ d
   dims-are w g = ap (λ (x : View). x .dims .0) (accepted-same-view w v (sym g ∙ e))
 
   pub padding-same-distance : (m : Distance) (u : List ℕ) → (distanceOf m s′ u ≡ distanceOf m s u) × (distanceOf m u s′ ≡ distanceOf m u s)
   unfolding distanceOf
   padding-same-distance m u = (
-    sym (answers-same (valueOf m) (valueOf m) s u s′ u (sym padding-same-read) refl
+    sym (answers-same (valueOf m) (valueOf m) s u s′ u (sym same-plain-read) refl
         (λ w x g h shape. rw (kind-is w g, dims-are w g) (value-same same-elements (same-self d (bodyOf u)) m))),
-    sym (answers-same (valueOf m) (valueOf m) u s u s′ refl (sym padding-same-read)
+    sym (answers-same (valueOf m) (valueOf m) u s u s′ refl (sym same-plain-read)
         (λ x w g h shape. rw (shape .kind ∙ kind-is w h, shape .dims ∙ dims-are w h) (value-same (same-self d (bodyOf u)) same-elements m))),
   )
 

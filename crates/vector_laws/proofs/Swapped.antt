@@ -16,6 +16,7 @@ use Rattle.vector_types.specs.declared.VectorType.{VectorType}
 use Rattle.vector_types.specs.declared.VectorType.the-variants.{Float32Dense, Float64Dense, Float32Sparse, Float1Bit, Float8}
 use Rattle.vector_types.specs.declared.View.{View}
 use Rattle.vector_types.specs.declared.ReadAnswer.the-variants.{Accepted}
+use Rattle.vector_types.specs.declared.Mode.the-variants.{Plain}
 use Rattle.bodies.specs.Elements.{denseElement, float8Element}
 use Rattle.bodies.proofs.Elements.{dense-fits, float8-fits}
 use Rattle.distance_sums.specs.Dense.{denseCosine, dotBy, l2By, jaccardBy}
@@ -91,7 +92,7 @@ pairing-swap : (v w : View) → pairingOf v w ≡ pairingOf w v
 pairing-swap v w = rw (eqb-swap (v .dims .0) (w .dims .0), eqb-swap (byteOf (v .kind)) (byteOf (w .kind)))
 
 -- ---- two blobs
-pub distance-swap : (m : Distance) (s t : List ℕ) (v w : View) → readOf s ≡ Accepted v → readOf t ≡ Accepted w → symmetric m (v .kind) ≡ true
+pub distance-swap : (m : Distance) (s t : List ℕ) (v w : View) → readOf Plain s ≡ Accepted v → readOf Plain t ≡ Accepted w → symmetric m (v .kind) ≡ true
     → distanceOf m s t ≡ distanceOf m t s
 unfolding distanceOf
 distance-swap m s t v w e g o =

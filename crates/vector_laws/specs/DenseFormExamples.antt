@@ -17,6 +17,7 @@ use Rattle.blob_writer.specs.Write.{tailOf, blobOf}
 use Rattle.vector_types.specs.declared.ReadAnswer.{ReadAnswer}
 use Rattle.vector_types.specs.declared.ReadAnswer.the-variants.{Accepted, Refused as Unread}
 use Rattle.vector_types.specs.declared.VectorType.the-variants.{Float32Sparse}
+use Rattle.vector_types.specs.declared.Mode.the-variants.{Plain}
 use Rattle.convert_parts.specs.Spread.{spread}
 use Rattle.convert_parts.specs.Result.{resultOf}
 use Rattle.distance_sums.specs.Extremes.{lesser, greater}
@@ -108,7 +109,7 @@ abbrev pub defined : Example → DistanceAnswer × DistanceAnswer
 defined e =
     let s = e .firstBlob in
     let t = e .secondBlob in
-    (distanceOf (e .measure) s t, distanceOf (e .measure) (denseFormIn (readOf s) s) (denseFormIn (readOf t) t))
+    (distanceOf (e .measure) s t, distanceOf (e .measure) (denseFormIn (readOf Plain s) s) (denseFormIn (readOf Plain t) t))
 
 pub table-holds : map defined table ≡ map (λ (e : Example). (answer (e .sparse), answer (e .dense))) table
 unfolding distanceOf readOf bodyOf namedKind byByte lengthBeforeType bodyFits refusals shown firstFrom numberAt bytesOf put layoutRow tailOf blobOf resultOf spread running root merged productsWith squaresWith dotsWith sharesWith lesser greater add sub mul div neg eq lt ofBits

@@ -20,6 +20,7 @@ use Rattle.vector_types.specs.declared.VectorType.{VectorType}
 use Rattle.vector_types.specs.declared.VectorType.the-variants.{Float32Dense, Float64Dense, Float32Sparse, Float1Bit, Float8}
 use Rattle.vector_types.specs.declared.ReadAnswer.{ReadAnswer}
 use Rattle.vector_types.specs.declared.ReadAnswer.the-variants.{Accepted}
+use Rattle.vector_types.specs.declared.Mode.the-variants.{Plain}
 use Rattle.vector_types.proofs.Bools.{and-three}
 use Rattle.vector_types.proofs.Statements.{none-outside}
 use Rattle.vector_types.proofs.Views.{ViewFacts, view-facts}
@@ -56,7 +57,7 @@ pub record BodyFacts (k : VectorType) (d : ℕ) (body : List ℕ) : Type 0 where
   pub inside : hasIndexOutside k d body ≡ false
   pub elements : (hasTrailingCount k && eqb d 0) ≡ false
 
-module _ (s : List ℕ) (v : View) (e : readOf s ≡ Accepted v) where
+module _ (s : List ℕ) (v : View) (e : readOf Plain s ≡ Accepted v) where
   facts : ViewFacts s v
   facts = view-facts s v e
 

@@ -17,6 +17,7 @@ use Rattle.vector_types.specs.declared.ReadAnswer.{ReadAnswer}
 use Rattle.vector_types.specs.declared.VectorType.{VectorType}
 use Rattle.vector_types.specs.declared.Named.the-variants.{Kind, Unsupported, Unknown}
 use Rattle.vector_types.specs.declared.VectorType.the-variants.{Float32Dense, Float64Dense, Float32Sparse, Float1Bit, Float8}
+use Rattle.vector_types.specs.declared.Mode.the-variants.{Plain}
 use Rattle.vector_types.proofs.Ends.{named-typed}
 
 abbrev refusedBy : ℕ → ReadAnswer
@@ -28,7 +29,7 @@ unless-cond true r g x = refl
 unless-cond false r g x = refl
 
 module _ (s : List ℕ) where
-  pub read-long : maxBlobLength < length s → readOf s ≡ refusedBy 1
+  pub read-long : maxBlobLength < length s → readOf Plain s ≡ refusedBy 1
   unfolding readOf refusals
   read-long h = rw (lt-ltb maxBlobLength (length s) h)
 
@@ -54,35 +55,35 @@ before-typed : (s : List ℕ) (k : VectorType) → namedKind s ≡ Kind k → ha
 before-typed s k e other = omega (arith, named-typed s k e other .one-more)
 
 module _ (s : List ℕ) (short : length s ≤ maxBlobLength) where
-  pub read-dense32 : (n : ℕ) → namedKind s ≡ Kind Float32Dense → lengthBeforeType s ≡ n → readOf s ≡ denseBy Float32Dense 4 n
+  pub read-dense32 : (n : ℕ) → namedKind s ≡ Kind Float32Dense → lengthBeforeType s ≡ n → readOf Plain s ≡ denseBy Float32Dense 4 n
   unfolding readOf refusals shown bodyFits layoutRow
   read-dense32 n e size = rw (e, size) (simp (le-ltb maxBlobLength (length s) short, unless-cond, or-false))
 
-  pub read-dense64 : (n : ℕ) → namedKind s ≡ Kind Float64Dense → lengthBeforeType s ≡ n → readOf s ≡ denseBy Float64Dense 8 n
+  pub read-dense64 : (n : ℕ) → namedKind s ≡ Kind Float64Dense → lengthBeforeType s ≡ n → readOf Plain s ≡ denseBy Float64Dense 8 n
   unfolding readOf refusals shown bodyFits layoutRow
   read-dense64 n e size = rw (e, size) (simp (le-ltb maxBlobLength (length s) short, unless-cond, or-false))
 
-  pub read-one-bit : namedKind s ≡ Kind Float1Bit → readOf s ≡ oneBitBy (length s - 1) (getD s (length s - 1 - 1) 0)
+  pub read-one-bit : namedKind s ≡ Kind Float1Bit → readOf Plain s ≡ oneBitBy (length s - 1) (getD s (length s - 1 - 1) 0)
   unfolding readOf refusals shown bodyFits layoutRow
   read-one-bit e =
       let m = ceil (8 * (length s - 1) - getD s (length s - 1 - 1) 0) 8 in
       rw (e, before-typed s Float1Bit e refl) (simp (le-ltb maxBlobLength (length s) short, eq-eqb m m refl, unless-cond, or-false))
 
-  pub read-float8 : namedKind s ≡ Kind Float8 → readOf s ≡ float8By (length s - 1) (getD s (length s - 1 - 1) 0)
+  pub read-float8 : namedKind s ≡ Kind Float8 → readOf Plain s ≡ float8By (length s - 1) (getD s (length s - 1 - 1) 0)
   unfolding readOf refusals shown bodyFits layoutRow
   read-float8 e = rw (e, before-typed s Float8 e refl) (simp (le-ltb maxBlobLength (length s) short, unless-cond, or-false))
 
-  pub read-sparse : namedKind s ≡ Kind Float32Sparse → readOf s ≡ sparseBy s (length s - 1)
+  pub read-sparse : namedKind s ≡ Kind Float32Sparse → readOf Plain s ≡ sparseBy s (length s - 1)
   unfolding readOf refusals shown bodyFits layoutRow
   read-sparse e =
       let m = 8 * ((length s - 1) / 8) in
       let whole : m % 8 ≡ 0 = omega arith in
       rw (e, before-typed s Float32Sparse e refl) (simp (le-ltb maxBlobLength (length s) short, eq-eqb (m % 8) 0 whole, unless-cond, or-false))
 
-  pub read-unsupported : namedKind s ≡ Unsupported → readOf s ≡ refusedBy 2
+  pub read-unsupported : namedKind s ≡ Unsupported → readOf Plain s ≡ refusedBy 2
   unfolding readOf refusals
   read-unsupported e = rw e (simp (le-ltb maxBlobLength (length s) short))
 
-  pub read-unknown : namedKind s ≡ Unknown → readOf s ≡ refusedBy 3
+  pub read-unknown : namedKind s ≡ Unknown → readOf Plain s ≡ refusedBy 3
   unfolding readOf refusals
   read-unknown e = rw e (simp (le-ltb maxBlobLength (length s) short))

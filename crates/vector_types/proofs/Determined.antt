@@ -14,7 +14,6 @@ use Rattle.vector_types.proofs.Refusal.starting.Reads as starting
 use Rattle.vector_types.proofs.reading.align4.Reads as align4
 use Rattle.vector_types.proofs.reading.has_index_outside.Reads as has-index-outside
 use Rattle.vector_types.proofs.reading.read.Reads as read
-use Rattle.vector_types.proofs.strictness.read_strict.Reads as read-strict
 use Rattle.vector_types.proofs.parts.body.Reads as body
 use Rattle.vector_types.proofs.parts.values.Reads as values
 use Rattle.vector_types.proofs.parts.indices.Reads as indices
@@ -49,9 +48,6 @@ has-index-outside-determined κs a r r′ x x′ p q = p ∙ sym q
 
 pub read-determined : (κs : _) (a : _) → Determined (read.Post κs a) (λ r x. r)
 read-determined κs a r r′ x x′ p q = p ∙ sym q
-
-pub read-strict-determined : (κs : _) (a : _) → Determined (read-strict.Post κs a) (λ r x. r)
-read-strict-determined κs a r r′ x x′ p q = p ∙ sym q
 
 pub body-determined : (κs : _) (a : _) → Determined (body.Post κs a) (λ r x. part (now r) (r .ptr))
 body-determined κs a r r′ x x′ p q = ap₂ part (p .0 ∙ sym (q .0)) (p .1 ∙ sym (q .1))

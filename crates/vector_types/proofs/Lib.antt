@@ -6,6 +6,7 @@ pub mod ByKind
 pub mod Determined
 pub mod Ends
 pub mod Given
+pub mod Modes
 pub mod Rows
 pub mod SameKind
 pub mod Search

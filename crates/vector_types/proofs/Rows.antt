@@ -13,6 +13,7 @@ use Rattle.vector_types.specs.Read.{refusals}
 use Rattle.vector_types.specs.declared.VectorType.{VectorType}
 use Rattle.vector_types.specs.declared.Named.the-variants.{Kind}
 use Rattle.vector_types.specs.declared.VectorType.the-variants.{Float32Dense, Float64Dense, Float32Sparse, Float1Bit, Float8}
+use Rattle.vector_types.specs.declared.Mode.the-variants.{Plain}
 use Rattle.vector_types.proofs.Bools.{or-both, and-three}
 use Rattle.vector_types.proofs.Ends.{named-typed, before-within}
 use Rattle.vector_types.proofs.Given.{Passed}
@@ -27,7 +28,7 @@ length-within s Float8 = omega (arith, before-within s)
 length-within s Float32Sparse = omega (arith, before-within s)
 
 -- what the tests tell where all of them fail
-module _ (s : List ℕ) (k : VectorType) (p : Passed (refusals (Kind k) s)) where
+module _ (s : List ℕ) (k : VectorType) (p : Passed (refusals Plain (Kind k) s)) where
   pub passed-short : length s ≤ maxBlobLength
   unfolding refusals
   passed-short = ltb-false maxBlobLength (length s) (p .0)
@@ -41,7 +42,7 @@ module _ (s : List ℕ) (k : VectorType) (p : Passed (refusals (Kind k) s)) wher
   passed-fit = not-false _ (or-both _ _ (or-both _ _ (p .1 .1 .1 .1 .1 .1 .0) .0) .0)
 
 module _ (s : List ℕ) where
-  pub passed-accepted : (k : VectorType) → namedKind s ≡ Kind k → Passed (refusals (Kind k) s) → rowAccepts k s ≡ true
+  pub passed-accepted : (k : VectorType) → namedKind s ≡ Kind k → Passed (refusals Plain (Kind k) s) → rowAccepts k s ≡ true
   unfolding refusals layoutRow
   passed-accepted Float32Dense e p =
       let whole = eqb-true (lengthBeforeType s) (4 * (lengthBeforeType s / 4)) (passed-fit s Float32Dense p) in
@@ -74,7 +75,7 @@ module _ (s : List ℕ) where
 
   -- and where the row and the limits accept the blob, every test fails
   pub accepted-passed : (k : VectorType) → rowAccepts k s ≡ true → ltb maxBlobLength (length s) ≡ false → ltb maxDims (dimsOf k s) ≡ false
-      → Passed (refusals (Kind k) s)
+      → Passed (refusals Plain (Kind k) s)
   unfolding refusals layoutRow
   accepted-passed Float32Dense e short few =
       let whole = eqb-true (lengthBeforeType s % 4) 0 e in

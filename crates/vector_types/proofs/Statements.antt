@@ -1,4 +1,4 @@
--- The tests of the readers against the statements: a test finds nothing exactly if the statement holds of every place.
+-- The tests of the modes against the statements: a test finds nothing exactly if the statement holds of every place.
 use mathlib.Core.Path.{_≡_, refl}
 use mathlib.Core.Bool.{false}
 use mathlib.Core.Logic.{_↔_}

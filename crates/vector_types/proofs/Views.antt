@@ -1,4 +1,4 @@
--- What a view tells of its blob: the law of the reader that callers cite.
+-- What a view tells of its blob: the law of reading that callers cite.
 use mathlib.Core.Path.{_≡_, refl, subst}
 use mathlib.Core.Bool.{true}
 use mathlib.Core.List.{List}
@@ -14,6 +14,7 @@ use Rattle.vector_types.specs.declared.Named.the-variants.{Kind, Unsuppo
 use Rattle.vector_types.specs.declared.VectorType.the-variants.{Float32Dense, Float64Dense, Float32Sparse, Float1Bit, Float8}
 use Rattle.vector_types.specs.declared.View.{View}
 use Rattle.vector_types.specs.declared.ReadAnswer.the-variants.{Accepted}
+use Rattle.vector_types.specs.declared.Mode.the-variants.{Plain}
 use Rattle.vector_types.specs.Answers.{firstGiven, dims, refusal}
 use Rattle.vector_types.proofs.Given.{Passed, none-passed, unless-accepted, accepted-same-view, refused-not-accepted}
 use Rattle.vector_types.proofs.Rows.{passed-accepted, passed-fit, passed-few, passed-short, length-within}
@@ -33,7 +34,7 @@ pub record ViewFacts (s : List ℕ) (v : View) : Type 0 where
 abbrev viewOf : VectorType → List ℕ → View
 viewOf k s = record { kind = k; dims = dims (dimsOf k s); length = lengthOf k s }
 
-row-facts : (s : List ℕ) (k : VectorType) → namedKind s ≡ Kind k → Passed (refusals (Kind k) s) → ViewFacts s (viewOf k s)
+row-facts : (s : List ℕ) (k : VectorType) → namedKind s ≡ Kind k → Passed (refusals Plain (Kind k) s) → ViewFacts s (viewOf k s)
 row-facts s k e p = record {
   names = e;
   sized = refl;
@@ -45,13 +46,13 @@ row-facts s k e p = record {
   within = length-within s k;
 }
 
-pub view-facts : (s : List ℕ) (v : View) → readOf s ≡ Accepted v → ViewFacts s v
+pub view-facts : (s : List ℕ) (v : View) → readOf Plain s ≡ Accepted v → ViewFacts s v
 unfolding readOf
 view-facts s v e =
-    let (none, shows) = unless-accepted (firstGiven (refusals (namedKind s) s)) (shown (namedKind s) s) v e in
-    by-name (namedKind s) refl (none-passed (refusals (namedKind s) s) none) shows
+    let (none, shows) = unless-accepted (firstGiven (refusals Plain (namedKind s) s)) (shown (namedKind s) s) v e in
+    by-name (namedKind s) refl (none-passed (refusals Plain (namedKind s) s) none) shows
   where
-    by-name : (n : Named) → namedKind s ≡ n → Passed (refusals n s) → shown n s ≡ Accepted v → ViewFacts s v
+    by-name : (n : Named) → namedKind s ≡ n → Passed (refusals Plain n s) → shown n s ≡ Accepted v → ViewFacts s v
     by-name (Kind k) h p shows = subst (ViewFacts s) (accepted-same-view (viewOf k s) v shows) (row-facts s k h p)
     by-name Unsupported h p shows = absurd (refused-not-accepted (refusal 2) v shows)
     by-name Unknown h p shows = absurd (refused-not-accepted (refusal 3) v shows)
@@ -64,5 +65,5 @@ two-halves Float32Sparse m = omega arith
 two-halves Float1Bit m = omega arith
 two-halves Float8 m = omega arith
 
-pub half-within : (s : List ℕ) (v : View) → readOf s ≡ Accepted v → 2 * halfOf (v .kind) (v .length) ≤ length s
+pub half-within : (s : List ℕ) (v : View) → readOf Plain s ≡ Accepted v → 2 * halfOf (v .kind) (v .length) ≤ length s
 half-within s v e = omega (arith, two-halves (v .kind) (v .length), view-facts s v e .within)

@@ -23,7 +23,7 @@ needing n need = record { number = n; detail = Needs need }
 abbrev pub starting : ℕ → ℕ → Refusal
 starting n place = record { number = n; detail = Starts place }
 
--- a reader's answers: a view of kind, dims and body length, and a refusal
+-- the reader's answers: a view of kind, dims and body length, and a refusal
 abbrev pub acceptedAs : VectorType → ℕ → ℕ → ReadAnswer
 acceptedAs k d m = Accepted (record { kind = k; dims = dims d; length = m })
 

@@ -1,4 +1,4 @@
--- Blobs that the two readers answer differently, and refusals that the customer's own examples (distance/specs/Examples.antt) do not have: one table, which antt computes.
+-- Blobs that the two modes answer differently, and refusals that the customer's own examples (distance/specs/Examples.antt) do not have: one table, which antt computes.
 -- The P examples of reading stand with those of distances, in the crate `distance`.
 use mathlib.Core.Path.{_≡_, refl}
 use mathlib.Core.List.{List, [], _∷_, map}
@@ -7,11 +7,12 @@ use Rattle.little_endian.specs.Bytes.{numberAt}
 use Rattle.vector_types.specs.Answers.{acceptedAs, refused, refusal}
 use Rattle.vector_types.specs.Search.{firstFrom}
 use Rattle.vector_types.specs.Layout.{namedKind, byByte, lengthBeforeType, bodyFits, layoutRow}
-use Rattle.vector_types.specs.Read.{readOf, strictOf, refusals, strictRefusals, shown}
+use Rattle.vector_types.specs.Read.{readOf, refusals, shown}
 use Rattle.vector_types.specs.declared.VectorType.the-variants.{Float32Sparse, Float1Bit}
 use Rattle.vector_types.specs.declared.ReadAnswer.{ReadAnswer}
+use Rattle.vector_types.specs.declared.Mode.the-variants.{Plain, Strict}
 
--- the answers of the plain reader and of the strict one
+-- the answers in the plain mode and in the strict one
 pub record Answers : Type 0 where
   pub plain : ReadAnswer
   pub strict : ReadAnswer
@@ -23,7 +24,7 @@ pub record Example : Type 0 where
 
 abbrev pub answers : List ℕ → ReadAnswer → ReadAnswer → Example
 answers s plain strict = record {
-  defined = record { plain = readOf s; strict = strictOf s };
+  defined = record { plain = readOf Plain s; strict = readOf Strict s };
   expected = record { plain = plain; strict = strict };
 }
 
@@ -60,5 +61,5 @@ table =
     ∷ []
 
 pub table-holds : map (λ (e : Example). e .defined) table ≡ map (λ (e : Example). e .expected) table
-unfolding readOf strictOf namedKind byByte lengthBeforeType bodyFits refusals strictRefusals shown firstFrom numberAt layoutRow
+unfolding readOf namedKind byByte lengthBeforeType bodyFits refusals shown firstFrom numberAt layoutRow
 table-holds = refl

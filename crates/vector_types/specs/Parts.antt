@@ -7,6 +7,7 @@ use Rattle.vector_types.specs.declared.VectorType.{VectorType}
 use Rattle.vector_types.specs.declared.VectorType.the-variants.{Float32Dense, Float64Dense, Float32Sparse, Float1Bit, Float8}
 use Rattle.vector_types.specs.declared.ReadAnswer.{ReadAnswer}
 use Rattle.vector_types.specs.declared.ReadAnswer.the-variants.{Accepted, Refused}
+use Rattle.vector_types.specs.declared.Mode.the-variants.{Plain}
 
 -- how long the body is that an answer shows: nothing on a refusal
 abbrev pub shownLength : ReadAnswer → ℕ
@@ -27,15 +28,15 @@ shownHalf (Refused r) = 0
 
 unfoldable pub bodyOf : List ℕ → List ℕ
 unfolding readOf
-bodyOf s = take (shownLength (readOf s)) s
+bodyOf s = take (shownLength (readOf Plain s)) s
 
 unfoldable pub valuesOf : List ℕ → List ℕ
 unfolding readOf
-valuesOf s = take (shownHalf (readOf s)) s
+valuesOf s = take (shownHalf (readOf Plain s)) s
 
 unfoldable pub indicesOf : List ℕ → List ℕ
 unfolding readOf
-indicesOf s = let h = shownHalf (readOf s) in take h (drop h s)
+indicesOf s = let h = shownHalf (readOf Plain s) in take h (drop h s)
 
 -- the place in memory that is k bytes past another
 abbrev pub past : ℕ × ℕ → ℕ → ℕ × ℕ

@@ -1,8 +1,8 @@
--- What reading a blob answers: the refusals of docs/RULES.md in their order, each with its 'given exactly when'; the first that holds
--- answers, and where none does, the view by the blob's row of the layout table.
+-- What reading a blob in a mode answers: the refusals of docs/RULES.md in their order, each with its 'given exactly when'; the first that
+-- holds answers, and where none does, the view by the blob's row of the layout table.
 use Prim.Native.Nat.{ℕ, zero, suc, _+_, _-_, _*_}
 use mathlib.Core.Bool.{Bool, true, false, _&&_, _||_}
-use mathlib.Core.List.{List, [], _∷_, _++_}
+use mathlib.Core.List.{List, [], _∷_}
 use lib.Dec.{ltb, leb, eqb}
 use lib.ListN.{length}
 use Rattle.vector_types.specs.Answers.{Test, test, firstGiven, unless, acceptedAs, refused, refusal}
@@ -12,6 +12,8 @@ use Rattle.vector_types.specs.declared.VectorType.{VectorType}
 use Rattle.vector_types.specs.declared.Named.{Named}
 use Rattle.vector_types.specs.declared.Named.the-variants.{Kind, Unsupported, Unknown}
 use Rattle.vector_types.specs.declared.ReadAnswer.{ReadAnswer}
+use Rattle.vector_types.specs.declared.Mode.{Mode}
+use Rattle.vector_types.specs.declared.Mode.the-variants.{Plain, Strict}
 
 abbrev pub isUnsupported : Named → Bool
 isUnsupported (Kind k) = false
@@ -29,10 +31,28 @@ ofKind (Kind k) p = p k
 ofKind Unsupported p = false
 ofKind Unknown p = false
 
--- the refusals of the plain reader
-unfoldable pub refusals : Named → List ℕ → List Test
+-- whether entry j of the k of a sparse body is below the one before it
+abbrev pub isBelowPrevious : List ℕ → ℕ → ℕ → Bool
+isBelowPrevious s k zero = false
+isBelowPrevious s k (suc j) = ltb (indexAt s k (suc j)) (indexAt s k j)
+
+-- whether bit i of those past d is set
+abbrev pub unusedSet : List ℕ → ℕ → ℕ → Bool
+unusedSet s d i = eqb (bitAt s (d + i)) 1
+
+-- the refusals that a mode gives besides those of every mode
+abbrev pub ownRefusals : Mode → Named → List ℕ → List Test
+unfolding lengthBeforeType layoutRow
+ownRefusals Plain names s = []
+ownRefusals Strict names s =
+    test 10 (ofKind names (λ k. hasByte 9 k && anyIndex (isBelowPrevious s (entryCount s)) (entryCount s)))
+    ∷ test 11 (ofKind names (λ k. hasByte 3 k && anyIndex (unusedSet s (dimsOf k s)) (8 * lengthOf k s - dimsOf k s)))
+    ∷ []
+
+-- the refusals of a mode in their order: those of every mode, and then its own
+unfoldable pub refusals : Mode → Named → List ℕ → List Test
 unfolding lengthBeforeType bodyFits layoutRow
-refusals names s =
+refusals mode names s =
     let n = lengthBeforeType s in
     let t = trailingCount s in
     test 1 (ltb maxBlobLength (length s))
@@ -44,24 +64,7 @@ refusals names s =
     ∷ test 7 (ofKind names (λ k. bodyUnfit k s || (hasTrailingCount k && eqb (dimsOf k s) 0)))
     ∷ test 8 (ofKind names (λ k. hasByte 9 k && anyIndex (isOutside s (entryCount s) (dimsOf k s)) (entryCount s)))
     ∷ test 9 (ofKind names (λ k. ltb maxDims (dimsOf k s)))
-    ∷ []
-
--- whether entry j of the k of a sparse body is below the one before it
-abbrev pub isBelowPrevious : List ℕ → ℕ → ℕ → Bool
-isBelowPrevious s k zero = false
-isBelowPrevious s k (suc j) = ltb (indexAt s k (suc j)) (indexAt s k j)
-
--- whether bit i of those past d is set
-abbrev pub unusedSet : List ℕ → ℕ → ℕ → Bool
-unusedSet s d i = eqb (bitAt s (d + i)) 1
-
--- the further refusals of the strict reader
-unfoldable pub strictRefusals : Named → List ℕ → List Test
-unfolding lengthBeforeType layoutRow
-strictRefusals names s =
-    test 10 (ofKind names (λ k. hasByte 9 k && anyIndex (isBelowPrevious s (entryCount s)) (entryCount s)))
-    ∷ test 11 (ofKind names (λ k. hasByte 3 k && anyIndex (unusedSet s (dimsOf k s)) (8 * lengthOf k s - dimsOf k s)))
-    ∷ []
+    ∷ ownRefusals mode names s
 
 -- the view of a kind by its row; a byte that names none has its refusal
 unfoldable pub shown : Named → List ℕ → ReadAnswer
@@ -70,10 +73,6 @@ shown (Kind k) s = acceptedAs k (dimsOf k s) (lengthOf k s)
 shown Unsupported s = refused (refusal 2)
 shown Unknown s = refused (refusal 3)
 
-unfoldable pub readOf : List ℕ → ReadAnswer
+unfoldable pub readOf : Mode → List ℕ → ReadAnswer
 unfolding namedKind refusals shown
-readOf s = unless (firstGiven (refusals (namedKind s) s)) refused (shown (namedKind s) s)
-
-unfoldable pub strictOf : List ℕ → ReadAnswer
-unfolding namedKind refusals strictRefusals shown
-strictOf s = unless (firstGiven (refusals (namedKind s) s ++ strictRefusals (namedKind s) s)) refused (shown (namedKind s) s)
+readOf mode s = unless (firstGiven (refusals mode (namedKind s) s)) refused (shown (namedKind s) s)

@@ -1,4 +1,4 @@
--- What the readers ask of indices and unused bits, as statements about every one of them, without a test.
+-- What the modes ask of indices and unused bits, as statements about every one of them, without a test.
 use Prim.Native.Nat.{ℕ, suc, _*_, _<_, _≤_}
 use mathlib.Core.Path.{_≡_}
 use mathlib.Core.List.{List}

@@ -1,11 +1,11 @@
-// Blobs: the five kinds, answers, reading, strict reading, and the parts of a blob.
+// Blobs: the five kinds, answers, reading in a mode, and the parts of a blob.
 mod kinds;
 mod parts;
 mod reading;
 mod strictness;
 
 ghost use mathlib.Core.Path.{_≡_};
-ghost use Rattle.vector_types.specs.Answers.{refusal, needing, starting};
+ghost use Rattle.vector_types.specs.Answers.{refusal, needing, starting, refused};
 pub use kinds::is_same_kind;
 pub use kinds::kind_of_byte;
 pub use kinds::type_byte;
@@ -15,7 +15,6 @@ pub use parts::values;
 pub use reading::align4;
 pub use reading::has_index_outside;
 pub use reading::read;
-pub use strictness::read_strict;
 
 // The kinds of vectors, in the order of the Rust.
 pub enum VectorType {
@@ -95,9 +94,22 @@ impl Refusal {
     }
 }
 
+// How a blob is read. Plain: as the Rust reads it. Strict: sorted indices and zero unused bits are asked for besides.
+pub enum Mode {
+    Plain,
+    Strict,
+}
+
 pub enum ReadAnswer {
     Accepted(View),
     Refused(Refusal),
+}
+
+// Refuses a blob by a number of the rules.
+fn refuse(number: u8) -> ReadAnswer
+    ensures { λ r. ⌜ r ≡ refused (refusal number) ⌝ }
+{
+    ReadAnswer::Refused(Refusal::plain(number))
 }
 
 // The longest blob, and the most elements of a vector.

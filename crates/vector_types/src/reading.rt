@@ -10,24 +10,20 @@ ghost use Rattle.vector_types.specs.Layout.{maxBlobLength, maxDims, name
 ghost use Rattle.vector_types.specs.Read.{readOf};
 ghost use Rattle.vector_types.specs.declared.VectorType.the-variants.{Float32Sparse, Float1Bit, Float8};
 ghost use Rattle.vector_types.specs.declared.Named.the-variants.{Kind};
+ghost use Rattle.vector_types.specs.declared.Mode.the-variants.{Plain};
 use crate::Dims;
 use crate::MAX_BLOB_LENGTH;
 use crate::MAX_DIMS;
+use crate::Mode;
 use crate::Named;
 use crate::ReadAnswer;
-use crate::Refusal;
 use crate::TrailingBits;
 use crate::TrailingBytes;
 use crate::VectorType;
 use crate::View;
 use crate::kinds::kind_of_byte;
-
-// Refuses by a number of the rules.
-pub(crate) fn refuse(number: u8) -> ReadAnswer
-    ensures { λ r. ⌜ r ≡ refused (refusal number) ⌝ }
-{
-    ReadAnswer::Refused(Refusal::plain(number))
-}
+use crate::refuse;
+use crate::strictness::check_strict;
 
 // Shows a view, unless it has too many dims.
 fn show(kind: VectorType, dims: Dims, length: usize) -> ReadAnswer
@@ -55,7 +51,7 @@ fn dense(kind: VectorType, width: usize, n: usize) -> ReadAnswer
 fn one_bit(blob: &[u8]) -> ReadAnswer
     requires { ⌜ length (now blob) ≤ maxBlobLength ⌝ }
     requires { ⌜ namedKind (now blob) ≡ Kind Float1Bit ⌝ }
-    ensures { λ r. ⌜ r ≡ readOf (now (blob .entry)) ⌝ }
+    ensures { λ r. ⌜ r ≡ readOf Plain (now (blob .entry)) ⌝ }
 {
     let n = blob.len() - 1;
     if n == 0 {
@@ -88,7 +84,7 @@ pub fn align4(n: usize) -> usize
 fn float8(blob: &[u8]) -> ReadAnswer
     requires { ⌜ length (now blob) ≤ maxBlobLength ⌝ }
     requires { ⌜ namedKind (now blob) ≡ Kind Float8 ⌝ }
-    ensures { λ r. ⌜ r ≡ readOf (now (blob .entry)) ⌝ }
+    ensures { λ r. ⌜ r ≡ readOf Plain (now (blob .entry)) ⌝ }
 {
     let n = blob.len() - 1;
     if n == 0 {
@@ -148,7 +144,7 @@ pub fn has_index_outside(kind: VectorType, dims: Dims, body: &[u8]) -> bool
 fn sparse(blob: &[u8]) -> ReadAnswer
     requires { ⌜ length (now blob) ≤ maxBlobLength ⌝ }
     requires { ⌜ namedKind (now blob) ≡ Kind Float32Sparse ⌝ }
-    ensures { λ r. ⌜ r ≡ readOf (now (blob .entry)) ⌝ }
+    ensures { λ r. ⌜ r ≡ readOf Plain (now (blob .entry)) ⌝ }
 {
     let n = blob.len() - 1;
     let count = n / 8;
@@ -178,7 +174,7 @@ fn named_kind(blob: &[u8]) -> Named
 fn read_as(kind: VectorType, blob: &[u8]) -> ReadAnswer
     requires { ⌜ length (now blob) ≤ maxBlobLength ⌝ }
     requires { ⌜ namedKind (now blob) ≡ Kind kind ⌝ }
-    ensures { λ r. ⌜ r ≡ readOf (now (blob .entry)) ⌝ }
+    ensures { λ r. ⌜ r ≡ readOf Plain (now (blob .entry)) ⌝ }
 {
     let length = blob.len();
     let n = length - length % 2;
@@ -191,9 +187,9 @@ fn read_as(kind: VectorType, blob: &[u8]) -> ReadAnswer
     }
 }
 
-// What a blob shows, or the first refusal in the order of the rules.
-pub fn read(blob: &[u8]) -> ReadAnswer
-    ensures { λ r. ⌜ r ≡ readOf (now (blob .entry)) ⌝ }
+// The tests that every mode makes: what a blob shows, or the first refusal in the order of the rules.
+fn read_by_row(blob: &[u8]) -> ReadAnswer
+    ensures { λ r. ⌜ r ≡ readOf Plain (now (blob .entry)) ⌝ }
 {
     if MAX_BLOB_LENGTH < blob.len() {
         return refuse(1);
@@ -202,5 +198,16 @@ pub fn read(blob: &[u8]) -> ReadAnswer
         Named::Kind(kind) => read_as(kind, blob),
         Named::Unsupported => refuse(2),
         Named::Unknown => refuse(3),
+    }
+}
+
+// What a blob shows in a mode, or the first refusal in the order of the rules, those of the mode last.
+pub fn read(mode: Mode, blob: &[u8]) -> ReadAnswer
+    ensures { λ r. ⌜ r ≡ readOf mode (now (blob .entry)) ⌝ }
+{
+    let answer = read_by_row(blob);
+    match mode {
+        Mode::Plain => answer,
+        Mode::Strict => check_strict(blob, answer),
     }
 }

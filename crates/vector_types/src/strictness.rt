@@ -1,16 +1,16 @@
-// The strict reader: what the plain one accepts, if sparse indices are sorted and unused bits zero.
+// The tests of the strict mode: sparse indices are sorted, and unused bits are zero.
 ghost use mathlib.Core.Path.{_≡_};
 ghost use Prim.Native.Nat.{_*_, _-_, _≤_, _<_};
 ghost use lib.ListN.{length};
 ghost use Rattle.vector_types.specs.Search.{firstIndex, anyIndex};
 ghost use Rattle.vector_types.specs.Layout.{ceil};
-ghost use Rattle.vector_types.specs.Read.{readOf, strictOf, isBelowPrevious, unusedSet};
+ghost use Rattle.vector_types.specs.Read.{readOf, isBelowPrevious, unusedSet};
 ghost use Rattle.vector_types.specs.declared.ReadAnswer.the-variants.{Accepted};
+ghost use Rattle.vector_types.specs.declared.Mode.the-variants.{Plain, Strict};
 use crate::ReadAnswer;
 use crate::VectorType;
 use crate::View;
-use crate::reading::read;
-use crate::reading::refuse;
+use crate::refuse;
 
 // The first of the count indices of a sparse body that is below the one before it, or count.
 fn first_below_previous(s: &[u8], count: usize) -> usize
@@ -42,10 +42,10 @@ fn unused_set(s: &[u8], dims: usize) -> bool
     s[dims / 8] >> used != 0
 }
 
-// The view of a blob that the plain reader accepts, unless a strict test refuses it.
-fn check_strict(blob: &[u8], view: View) -> ReadAnswer
-    requires { ⌜ readOf (now blob) ≡ Accepted view ⌝ }
-    ensures { λ r. ⌜ r ≡ strictOf (now (blob .entry)) ⌝ }
+// A view that the plain mode shows, unless a strict test refuses it.
+fn check_view(blob: &[u8], view: View) -> ReadAnswer
+    requires { ⌜ readOf Plain (now blob) ≡ Accepted view ⌝ }
+    ensures { λ r. ⌜ r ≡ readOf Strict (now (blob .entry)) ⌝ }
 {
     let kind = view.kind;
     match kind {
@@ -68,12 +68,13 @@ fn check_strict(blob: &[u8], view: View) -> ReadAnswer
     }
 }
 
-// What a blob shows, or the first refusal in the order of the rules, the strict ones last.
-pub fn read_strict(blob: &[u8]) -> ReadAnswer
-    ensures { λ r. ⌜ r ≡ strictOf (now (blob .entry)) ⌝ }
+// The strict answer about a blob of which this is the plain one.
+pub(crate) fn check_strict(blob: &[u8], plain: ReadAnswer) -> ReadAnswer
+    requires { ⌜ plain ≡ readOf Plain (now blob) ⌝ }
+    ensures { λ r. ⌜ r ≡ readOf Strict (now (blob .entry)) ⌝ }
 {
-    match read(blob) {
-        ReadAnswer::Accepted(view) => check_strict(blob, view),
+    match plain {
+        ReadAnswer::Accepted(view) => check_view(blob, view),
         ReadAnswer::Refused(refusal) => ReadAnswer::Refused(refusal),
     }
 }

@@ -1,9 +1,10 @@
--- `put_read` meets its contract: what the reader shows is put, or the refusal.
+-- `put_read` meets its contract: what the blob shows is put, or the refusal.
 use mathlib.Core.Path.{_≡_, refl, sym, ap, _∙_}
+use Rattle.vector_types.specs.Read.{readOf}
 use Rattle.vector_types.specs.declared.ReadAnswer.{ReadAnswer}
 use Rattle.vector_types.specs.declared.ReadAnswer.the-variants.{Accepted, Refused}
 use Rattle.promises.proofs.Puts.{puts-same}
-use Rattle.probe_blobs.specs.Blobs.{readText, readerOf}
+use Rattle.probe_blobs.specs.Blobs.{readText}
 use Rattle.probe_blobs.proofs.BlobTexts.{seen-within}
 use borrow.Author.Needs.{needs}
 use native.Mathlib.Omega.{arith}
@@ -11,17 +12,17 @@ use Rattle.probe_blobs.proofs.put_read.Statement.{statement}
 use Rattle.probe_blobs.proofs.put_read.Tie as tie
 
 -- what the reader answers, in each arm
-shown : (c : tie.After-view) → let a = c .before .before .before .before .before .args in readerOf (a .reader) (a .blob .now) ≡ Accepted (c .view .given .0 .0)
-shown c = sym (c .before .before .read-by .ensures) ∙ c .view .given .1
+shown : (c : tie.After-view) → let a = c .before .before .before .before .before .args in readOf (a .mode) (a .blob .now) ≡ Accepted (c .view .given .0 .0)
+shown c = sym (c .before .before .read .ensures) ∙ c .view .given .1
 
-refused : (c : tie.After-refusal) → let a = c .before .before .before .before .before .args in readerOf (a .reader) (a .blob .now) ≡ Refused (c .refusal .given .0 .0)
-refused c = sym (c .before .before .read-by .ensures) ∙ c .refusal .given .1
+refused : (c : tie.After-refusal) → let a = c .before .before .before .before .before .args in readOf (a .mode) (a .blob .now) ≡ Refused (c .refusal .given .0 .0)
+refused c = sym (c .before .before .read .ensures) ∙ c .refusal .given .1
 
 put-vector-requires : tie.Need-put-vector-requires
 put-vector-requires c κs =
     let arm = c .before .before .before in
     let a = arm .before .before .before .before .before .args in
-    let w = seen-within (a .reader) (a .blob .now) _ (shown arm) in
+    let w = seen-within (a .mode) (a .blob .now) _ (shown arm) in
     (refl, (w .0, (w .1, omega arith)))
 
 returns : tie.Need-returns

@@ -1,4 +1,4 @@
--- `read_line` meets its contract: X, or what the reader shows of the bytes that the field is in hexadecimal.
+-- `read_line` meets its contract: X, or what is shown of the bytes that the field is in hexadecimal.
 use mathlib.Core.Path.{sym}
 use lib.Seq.{length-take-le}
 use Rattle.promises.proofs.Puts.{puts-same}
@@ -16,7 +16,7 @@ returns c =
     let decoded = test .before .before .before in
     let a = decoded .before .before .before .before .before .args in
     let s = decoded .bytes in
-    puts-same (from-hex-part (readBlobText (a .reader)) (a .field .now) (s .result) (s .ensures .0 .size) (test .if1 .taken)) (c .before .before .put-malformed .ensures)
+    puts-same (from-hex-part (readBlobText (a .mode)) (a .field .now) (s .result) (s .ensures .0 .size) (test .if1 .taken)) (c .before .before .put-malformed .ensures)
 
 slice-aggregate-put-read : tie.Need-slice-aggregate-put-read
 slice-aggregate-put-read c = sym (length-take-le _ _ (omega arith))
@@ -27,7 +27,7 @@ returns-2 c =
     let test = c .before .before .before .before .before in
     let decoded = test .before .before .before in
     let a = decoded .before .before .before .before .before .args in
-    puts-same (from-hex-put (readBlobText (a .reader)) (a .field .now) (decoded .bytes .ensures .0) (test .if1 .left)) (c .before .before .put-read .ensures)
+    puts-same (from-hex-put (readBlobText (a .mode)) (a .field .now) (decoded .bytes .ensures .0) (test .if1 .left)) (c .before .before .put-read .ensures)
 
 pub read-line-spec : {M : Type 1} → statement M
 read-line-spec =

@@ -8,6 +8,7 @@ use denote.Triple.Spec.{tripleOf}
 use denote.Triple.Table.{entered, cited}
 use lib.ListN.{drop}
 use Rattle.vector_types.specs.Read.{readOf}
+use Rattle.vector_types.specs.declared.Mode.the-variants.{Plain}
 use Rattle.vector_types.specs.Parts.{indicesOf, shownHalf, past}
 use Rattle.sparse_view.specs.Halves.{SparseBody, half, SecondHalf}
 use Rattle.sparse_view.proofs.Bodies.{second-is, half-is}
@@ -23,7 +24,7 @@ use Rattle.sparse_view.proofs.indices_of.Statement.{statement}
 use Rattle.sparse_view.proofs.indices_of.Code as code
 
 abbrev Indices : Relation
-Indices blob r = (now r ≡ indicesOf (now blob)) × (r .ptr ≡ past (blob .ptr) (shownHalf (readOf (now blob))))
+Indices blob r = (now r ≡ indicesOf (now blob)) × (r .ptr ≡ past (blob .ptr) (shownHalf (readOf Plain (now blob))))
 
 both : (blob body r : RefT (List ℕ)) → SparseBody blob body → SecondHalf body r → Indices blob r
 both blob body r b h = (h .0 ∙ (ap (λ (s : List ℕ). drop (half s) s) (b .0) ∙ second-is (now blob)), h .1 ∙ ap₂ past (b .1) (ap half (b .0) ∙ half-is (now blob)))

@@ -4,6 +4,7 @@ use native.Mathlib.Omega.{arith}
 use denote.Ref.{now}
 use lib.ListN.{length, length-take}
 use Rattle.vector_types.specs.Read.{readOf}
+use Rattle.vector_types.specs.declared.Mode.the-variants.{Plain}
 use Rattle.vector_types.specs.Parts.{shownHalf}
 use Rattle.sparse_view.proofs.Bodies.{both-within, length-values, joined}
 use borrow.Author.Needs.{needs}
@@ -11,7 +12,7 @@ use Rattle.sparse_view.proofs.halves.sparse_body.Statement.{statement}
 use Rattle.sparse_view.proofs.halves.sparse_body.Tie as tie
 
 -- how many bytes the values have
-size : (c : tie.After-values) → length (now (c .values .result)) ≡ shownHalf (readOf (now (c .before .before .args .blob)))
+size : (c : tie.After-values) → length (now (c .values .result)) ≡ shownHalf (readOf Plain (now (c .before .before .args .blob)))
 size c = ap length (c .values .ensures .0) ∙ length-values _
 
 slice-aggregate-result : tie.Need-slice-aggregate-result

@@ -14,6 +14,7 @@ use Rattle.vector_types.specs.Read.{readOf}
 use Rattle.vector_types.specs.declared.View.{View}
 use Rattle.vector_types.specs.declared.Refusal.{Refusal}
 use Rattle.vector_types.specs.declared.ReadAnswer.the-variants.{Accepted}
+use Rattle.vector_types.specs.declared.Mode.the-variants.{Plain}
 use Rattle.vector_types.proofs.Views.{view-facts}
 use Rattle.vector_types.proofs.Bodies.{body-is}
 use Rattle.vecs.specs.Append.{appendRefused, vectorLength, appendLeaving}
@@ -35,7 +36,7 @@ out c = c .before .before .before .args .out .now
 abbrev fill : tie.After-is-same-kind → ℕ
 fill c = c .before .before .before .args .fill
 
-read : (c : tie.After-is-same-kind) → readOf (blob c) ≡ Accepted (view c)
+read : (c : tie.After-is-same-kind) → readOf Plain (blob c) ≡ Accepted (view c)
 read c = c .before .before .before .pre
 
 few : (c : tie.After-is-same-kind) → view c .dims .0 ≤ maxDims

@@ -1,33 +1,15 @@
--- By the length and by what the blob names to the laws of the kinds.
-use mathlib.Core.Path.{sym, _∙_}
-use Rattle.vector_types.proofs.ByKind.{read-long, read-unsupported, read-unknown}
+-- The tests of every mode answer in the plain mode; the tests of the strict mode come after them.
 use borrow.Author.Needs.{needs}
 use Rattle.vector_types.proofs.reading.read.Statement.{statement}
 use Rattle.vector_types.proofs.reading.read.Tie as tie
 
 returns : tie.Need-returns
-returns c = c .refuse .ensures ∙ sym (read-long _ (c .before .if1 .taken))
+returns c = rw (c .enum-told .given .1) (c .before .before .read-by-row .ensures)
 
-read-as-requires : tie.Need-read-as-requires
-read-as-requires c κs = let named = c .before .before .before in (named .before .if1 .left, sym (named .named-kind .ensures) ∙ c .before .kind .given .1)
-
-returns-3 : tie.Need-returns-3
-returns-3 c =
-    let named = c .before .before .before in
-    c .refuse2 .ensures ∙ sym (read-unsupported _ (named .before .if1 .left) (sym (named .named-kind .ensures) ∙ c .before .enum-told .given .1))
-
-returns-4 : tie.Need-returns-4
-returns-4 c =
-    let named = c .before .before .before in
-    c .refuse3 .ensures ∙ sym (read-unknown _ (named .before .if1 .left) (sym (named .named-kind .ensures) ∙ c .before .enum-told2 .given .1))
+returns-2 : tie.Need-returns-2
+returns-2 c = rw (c .before .enum-told2 .given .1) (c .check-strict .ensures)
 
 pub read-spec : {M : Type 1} → statement M
 read-spec =
     tie.close
-    (tie.spec
-    (λ c κs. search needs) returns
-    (λ c κs. search needs)
-    (λ c. search needs) read-as-requires
-    (λ c. search needs) (λ c κs. search needs)
-    (λ c. search needs) (λ c κs. search needs)
-    (λ c. search needs) returns-3 returns-4)
+    (tie.spec (λ c κs. search needs) (λ c. search needs) (λ c. search needs) (λ c κs. search needs) returns returns-2)
