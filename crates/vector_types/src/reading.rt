@@ -205,9 +205,11 @@ fn read_by_row(blob: &[u8]) -> ReadAnswer
 pub fn read(mode: Mode, blob: &[u8]) -> ReadAnswer
     ensures { λ r. ⌜ r ≡ readOf mode (now (blob .entry)) ⌝ }
 {
-    let answer = read_by_row(blob);
     match mode {
-        Mode::Plain => answer,
-        Mode::Strict => check_strict(blob, answer),
+        Mode::Plain => read_by_row(blob),
+        Mode::Strict => match read_by_row(blob) {
+            ReadAnswer::Accepted(view) => check_strict(blob, view),
+            ReadAnswer::Refused(refusal) => ReadAnswer::Refused(refusal),
+        },
     }
 }

@@ -42,8 +42,8 @@ fn unused_set(s: &[u8], dims: usize) -> bool
     s[dims / 8] >> used != 0
 }
 
-// A view that the plain mode shows, unless a strict test refuses it.
-fn check_view(blob: &[u8], view: View) -> ReadAnswer
+// The view that the plain mode shows, unless a strict test refuses it.
+pub(crate) fn check_strict(blob: &[u8], view: View) -> ReadAnswer
     requires { ⌜ readOf Plain (now blob) ≡ Accepted view ⌝ }
     ensures { λ r. ⌜ r ≡ readOf Strict (now (blob .entry)) ⌝ }
 {
@@ -65,16 +65,5 @@ fn check_view(blob: &[u8], view: View) -> ReadAnswer
         VectorType::Float32Dense => ReadAnswer::Accepted(view),
         VectorType::Float64Dense => ReadAnswer::Accepted(view),
         VectorType::Float8 => ReadAnswer::Accepted(view),
-    }
-}
-
-// The strict answer about a blob of which this is the plain one.
-pub(crate) fn check_strict(blob: &[u8], plain: ReadAnswer) -> ReadAnswer
-    requires { ⌜ plain ≡ readOf Plain (now blob) ⌝ }
-    ensures { λ r. ⌜ r ≡ readOf Strict (now (blob .entry)) ⌝ }
-{
-    match plain {
-        ReadAnswer::Accepted(view) => check_view(blob, view),
-        ReadAnswer::Refused(refusal) => ReadAnswer::Refused(refusal),
     }
 }
