@@ -20,7 +20,7 @@ use vector_types::has_index_outside;
 fn refuse(number: u8) -> WriteAnswer
     ensures { λ r. ⌜ r ≡ writeRefused (refusal number) ⌝ }
 {
-    WriteAnswer::Refused(Refusal::plain(number))
+    WriteAnswer::Refused(Refusal::by_number(number))
 }
 
 // Whether a body of so many bytes is what a vector of this kind and dims has.

@@ -76,12 +76,12 @@ pub fn check_pair(v: View, w: View) -> Pairing
     let dims = v.dims;
     let others = w.dims;
     if dims.0 != others.0 {
-        return Pairing::Mismatched(Refusal::plain(12));
+        return Pairing::Mismatched(Refusal::by_number(12));
     }
     let kind = v.kind;
     let other = w.kind;
     if !vector_types::is_same_kind(kind, other) {
-        return Pairing::Mismatched(Refusal::plain(13));
+        return Pairing::Mismatched(Refusal::by_number(13));
     }
     Pairing::Alike
 }
@@ -101,7 +101,7 @@ pub fn measure_pair(
 {
     let kind = v.kind;
     if !exists(distance, kind) {
-        return DistanceAnswer::Refused(Refusal::plain(14), Which::Neither);
+        return DistanceAnswer::Refused(Refusal::by_number(14), Which::Neither);
     }
     let dims = v.dims;
     let m = v.length;

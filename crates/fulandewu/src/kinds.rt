@@ -17,7 +17,7 @@ pub enum Chosen {
 fn refuse(number: u8) -> Chosen
     ensures { λ r. ⌜ r ≡ Chosen.Refused (refusal number) ⌝ }
 {
-    Chosen::Refused(Refusal::plain(number))
+    Chosen::Refused(Refusal::by_number(number))
 }
 
 pub(crate) fn kind_of(byte: u8) -> Chosen

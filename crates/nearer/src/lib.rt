@@ -63,7 +63,7 @@ fn choose(x: f64, y: f64) -> NearerAnswer
     if x == x {
         return answer(Candidate::First, x);
     }
-    NearerAnswer::Refused(Refusal::plain(18), Among::Neither)
+    NearerAnswer::Refused(Refusal::by_number(18), Among::Neither)
 }
 
 // Whether both candidates have the probe's dims and kind: 12 and 13 for the first, then for the second.

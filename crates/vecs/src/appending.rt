@@ -41,7 +41,7 @@ fn append_view(view: View, blob: &[u8], out: &mut [u8], fill: usize) -> AppendAn
 {
     let kind = view.kind;
     if !is_same_kind(kind, VectorType::Float32Dense) {
-        return AppendAnswer::Refused(Refusal::plain(13));
+        return AppendAnswer::Refused(Refusal::by_number(13));
     }
     let need = 4 + 4 * view.dims.0;
     if room_after(out.len(), fill) < need {

@@ -35,7 +35,7 @@ fn vector_at(width: usize, file: &[u8], place: usize) -> VecsAnswer
     }
     let count = little_endian::u32_at(file, place) as usize;
     if MAX_DIMS < count {
-        return VecsAnswer::Refused(Refusal::plain(9));
+        return VecsAnswer::Refused(Refusal::by_number(9));
     }
     let length = width * count;
     if left - 4 < length {

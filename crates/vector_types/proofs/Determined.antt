@@ -8,7 +8,7 @@ use Rattle.promises.specs.Determined.{Determined}
 use Rattle.vector_types.proofs.kinds.type_byte.Reads as type-byte
 use Rattle.vector_types.proofs.kinds.is_same_kind.Reads as is-same-kind
 use Rattle.vector_types.proofs.kinds.kind_of_byte.Reads as kind-of-byte
-use Rattle.vector_types.proofs.Refusal.plain.Reads as plain
+use Rattle.vector_types.proofs.Refusal.by_number.Reads as by-number
 use Rattle.vector_types.proofs.Refusal.needing.Reads as needing
 use Rattle.vector_types.proofs.Refusal.starting.Reads as starting
 use Rattle.vector_types.proofs.reading.align4.Reads as align4
@@ -31,8 +31,8 @@ is-same-kind-determined κs a r r′ x x′ p q = p ∙ sym q
 pub kind-of-byte-determined : (κs : _) (a : _) → Determined (kind-of-byte.Post κs a) (λ r x. r)
 kind-of-byte-determined κs a r r′ x x′ p q = p ∙ sym q
 
-pub plain-determined : (κs : _) (a : _) → Determined (plain.Post κs a) (λ r x. r)
-plain-determined κs a r r′ x x′ p q = p ∙ sym q
+pub by-number-determined : (κs : _) (a : _) → Determined (by-number.Post κs a) (λ r x. r)
+by-number-determined κs a r r′ x x′ p q = p ∙ sym q
 
 pub needing-determined : (κs : _) (a : _) → Determined (needing.Post κs a) (λ r x. r)
 needing-determined κs a r r′ x x′ p q = p ∙ sym q

@@ -64,7 +64,7 @@ pub enum Detail {
 
 impl Refusal {
     // One that carries nothing.
-    pub fn plain(number: u8) -> Self
+    pub fn by_number(number: u8) -> Self
         ensures { λ r. ⌜ r ≡ refusal number ⌝ }
     {
         Refusal {
@@ -94,7 +94,8 @@ impl Refusal {
     }
 }
 
-// How a blob is read. Plain: as the Rust reads it. Strict: sorted indices and zero unused bits are asked for besides.
+// How a blob is read. Plain: as the Rust reads it. Strict: indices have to be sorted besides, and unused
+// bits zero.
 pub enum Mode {
     Plain,
     Strict,
@@ -109,7 +110,7 @@ pub enum ReadAnswer {
 fn refuse(number: u8) -> ReadAnswer
     ensures { λ r. ⌜ r ≡ refused (refusal number) ⌝ }
 {
-    ReadAnswer::Refused(Refusal::plain(number))
+    ReadAnswer::Refused(Refusal::by_number(number))
 }
 
 // The longest blob, and the most elements of a vector.

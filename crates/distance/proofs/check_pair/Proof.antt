@@ -10,7 +10,7 @@ use Rattle.distance.proofs.check_pair.Tie as tie
 returns : tie.Need-returns
 returns c =
     let a = c .before .before .before .before .before .before .args in
-    ap Mismatched (c .plain .ensures) ∙ sym (dims-differ (a .v) (a .w) (c .before .if1 .taken))
+    ap Mismatched (c .by-number .ensures) ∙ sym (dims-differ (a .v) (a .w) (c .before .if1 .taken))
 
 returns-2 : tie.Need-returns-2
 returns-2 c =
@@ -18,7 +18,7 @@ returns-2 c =
     let dims = kinds .before in
     let a = dims .before .before .before .before .before .args in
     let differ = sym (kinds .is-same-kind .ensures) ∙ not-true _ (c .before .if2 .taken) in
-    ap Mismatched (c .plain2 .ensures) ∙ sym (kinds-differ (a .v) (a .w) (dims .if1 .left) differ)
+    ap Mismatched (c .by-number2 .ensures) ∙ sym (kinds-differ (a .v) (a .w) (dims .if1 .left) differ)
 
 returns-3 : tie.Need-returns-3
 returns-3 c =

@@ -13,7 +13,7 @@ returns : tie.Need-returns
 returns c =
     let table = c .before .before in
     let a = table .before .before .before .args in
-    rw (c .plain .ensures, absent (a .distance) (a .v .kind) (a .v .dims .0) _ _ (sym (table .exists .ensures) ∙ not-true _ (c .before .if1 .taken)))
+    rw (c .by-number .ensures, absent (a .distance) (a .v .kind) (a .v .dims .0) _ _ (sym (table .exists .ensures) ∙ not-true _ (c .before .if1 .taken)))
 
 slice-aggregate-a : tie.Need-slice-aggregate-a
 slice-aggregate-a c =

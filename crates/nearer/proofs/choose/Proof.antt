@@ -25,7 +25,7 @@ returns-3 c =
 returns-4 : tie.Need-returns-4
 returns-4 c =
     let a = c .before .before .before .before .args in
-    ap refusedNamingNone (c .plain .ensures)
+    ap refusedNamingNone (c .by-number .ensures)
     ∙ sym (nearer-by-tests (a .x) (a .y) (c .before .before .before .if1 .left) (c .before .before .if2 .left) (c .before .if3 .left))
 
 pub choose-spec : {M : Type 1} → statement M

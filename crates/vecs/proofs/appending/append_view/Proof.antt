@@ -52,7 +52,7 @@ returns : tie.Need-returns
 returns c =
     let a = c .before .before in
     let other = sym (a .is-same-kind .ensures) ∙ not-true _ (c .before .if1 .taken) in
-    ap (λ (r : Refusal). appendLeaving (appendRefused r) (out a)) (c .plain .ensures)
+    ap (λ (r : Refusal). appendLeaving (appendRefused r) (out a)) (c .by-number .ensures)
     ∙ sym (append-other (blob a) (out a) (fill a) (view a) (read a) other)
 
 mul-need : tie.Need-mul-need

@@ -48,7 +48,7 @@ returns-3 c =
     let two = three .before .before in
     let a = two .before in
     let many = rw (three .before .u32-at .ensures) at (three .if3 .taken) in
-    ap vecsRefused (c .plain .ensures) ∙ sym (count-over (width a) (file a) (place a) (inside a) (counted two) many)
+    ap vecsRefused (c .by-number .ensures) ∙ sym (count-over (width a) (file a) (place a) (inside a) (counted two) many)
 
 mul-length : tie.Need-mul-length
 mul-length c =
