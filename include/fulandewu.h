@@ -139,8 +139,8 @@ typedef char fulandewu_lengths_have_8_bytes[sizeof(size_t) == 8 ? 1 : -1];
 uint32_t fulandewu_read(uint8_t mode, const uint8_t *blob, size_t blob_length, struct fulandewu_answer *answer);
 
 /* Writes the blob of a kind, dims and body (a sparse body: values, then indices, without dims) to the
- * first `length` bytes of `out`, and changes no byte past them. It reads back as the same kind, dims
- * and body. `out` may have length 0, to ask how long it has to be.
+ * first `length` bytes of `out`, and changes no byte past them. It reads back plainly as the same kind,
+ * dims and body. `out` may have length 0, to ask how long it has to be.
  * An answer writes `length`, refusal 15 `needed`, another refusal nothing.
  * Refusals: 2 or 3 where `kind` names no kind, then 9, 7, 1, 8, 16, 15, in that order. */
 uint32_t fulandewu_write(uint8_t kind, size_t dims, const uint8_t *body, size_t body_length,

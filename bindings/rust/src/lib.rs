@@ -124,9 +124,9 @@ pub fn read(mode: Mode, blob: &[u8]) -> Result<View<'_>, Refusal> {
 }
 
 /// Writes the blob of a kind, dims and body (a sparse body: values, then indices, without dims) to the
-/// first bytes of `out`, changes no byte past them, and answers its length. It reads back as the same
-/// kind, dims and body. Refusals: 9, 7, 1, 8, 16, 15, in that order; 15 carries the need, so an empty
-/// `out` asks for it.
+/// first bytes of `out`, changes no byte past them, and answers its length. It reads back plainly as the
+/// same kind, dims and body. Refusals: 9, 7, 1, 8, 16, 15, in that order; 15 carries the need, so an
+/// empty `out` asks for it.
 ///
 /// ```
 /// use fulandewu::{write, VectorType};

@@ -1,5 +1,4 @@
--- A blob that was read and written again is no longer than before and does not change a second time. What it reads as is in
--- RewrittenModes.antt.
+-- A blob that was read and written again is no longer than before, by its row of the layout table, and does not change a second time.
 use mathlib.Core.Path.{_≡_, refl, sym, ap, _∙_}
 use mathlib.Core.Bool.{true, not, and-eq-true-iff}
 use mathlib.Core.List.{List}

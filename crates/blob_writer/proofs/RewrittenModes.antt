@@ -59,13 +59,14 @@ own-by-body Strict s v e =
     let kind = ap (λ (n : Named). ownRefusals Strict n s) (t .names) in
     kind ∙ strict-by-body (v .kind) s (v .length) (v .dims .0) (t .within) (t .long) (t .sized) ∙ rw (body-is s v e)
 
+read-by-body : (mode : Mode) (s : List ℕ) (v : View) → readOf Plain s ≡ Accepted v
+    → readOf mode s ≡ unless (firstGiven (bodyTests mode (v .kind) (v .dims .0) (bodyOf s))) refused (Accepted v)
+read-by-body mode s v e = read-by-own mode s v e ∙ rw (own-by-body mode s v e)
+
 -- ---- so two blobs of one view and body are read alike in every mode
 same-body-same-read : (mode : Mode) (s t : List ℕ) (v : View) → readOf Plain s ≡ Accepted v → readOf Plain t ≡ Accepted v → bodyOf s ≡ bodyOf t
     → readOf mode s ≡ readOf mode t
-same-body-same-read mode s t v e f same =
-    let by : (u : List ℕ) → readOf Plain u ≡ Accepted v → readOf mode u ≡ unless (firstGiven (bodyTests mode (v .kind) (v .dims .0) (bodyOf u))) refused (Accepted v)
-    = λ u h. read-by-own mode u v h ∙ rw (own-by-body mode u v h) in
-    by s e ∙ rw same (sym (by t f))
+same-body-same-read mode s t v e f same = read-by-body mode s v e ∙ rw same (sym (read-by-body mode t v f))
 
 pub rewritten-same : (mode : Mode) (s : List ℕ) → (readOf mode (rewritten s) ≡ readOf mode s) × (bodyOf (rewritten s) ≡ bodyOf s)
 rewritten-same mode s = rewritten-by s (λ w. (readOf mode w ≡ readOf mode s) × (bodyOf w ≡ bodyOf s)) of-view (λ r e. (refl, refl))

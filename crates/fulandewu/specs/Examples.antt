@@ -13,7 +13,9 @@ use Rattle.vector_types.specs.Read.{readOf, refusals, shown}
 use Rattle.vector_types.specs.Parts.{bodyOf}
 use Rattle.blob_writer.specs.Write.{writeOf, writeOutcome, writeRefusals, tailOf, blobOf}
 use Rattle.convert.specs.Convert.{convertOutcome}
+use Rattle.distance_sums.specs.Examples.{zeroBytes as zero, oneBytes as one}
 use Rattle.distance.specs.Answer.{distanceOf}
+use Rattle.distance.specs.Examples.{bits, three, four, noEntry}
 use Rattle.distance.specs.declared.Distance.{Distance}
 use Rattle.distance.specs.declared.Distance.the-variants.{Cos, L2, Dot, Jaccard}
 use Rattle.nearer.specs.Nearer.{nearerOf}
@@ -78,25 +80,7 @@ readsBvecs file place room = example (bvecsExport (bvecsOutcome file place (repl
 abbrev pub appendsTo : ℕ → List ℕ → ℕ → ExportOutcome → Example
 appendsTo room blob fill = example (appendExport (appendOutcome blob (replicate room old) fill) oldAnswer)
 
--- a 1-bit blob of dims 8; dense f32 0.0, 1.0, 3.0 and 4.0; a sparse blob of dims 2 with no entry; blobs refused by 2 and by 3
-abbrev pub bits : ℕ → List ℕ
-bits byte = byte ∷ 0x08 ∷ 0x03 ∷ []
-
-abbrev pub zero : List ℕ
-zero = 0 ∷ 0 ∷ 0 ∷ 0 ∷ []
-
-abbrev pub one : List ℕ
-one = 0 ∷ 0 ∷ 0x80 ∷ 0x3f ∷ []
-
-abbrev pub three : List ℕ
-three = 0 ∷ 0 ∷ 0x40 ∷ 0x40 ∷ []
-
-abbrev pub four : List ℕ
-four = 0 ∷ 0 ∷ 0x80 ∷ 0x40 ∷ []
-
-abbrev pub noEntry : List ℕ
-noEntry = 2 ∷ 0 ∷ 0 ∷ 0 ∷ 9 ∷ []
-
+-- blobs refused by 2 and by 3
 abbrev pub unsupported : List ℕ
 unsupported = 0x05 ∷ []
 

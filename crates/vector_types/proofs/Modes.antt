@@ -1,5 +1,4 @@
--- The modes of the reader against each other: what one shows, the plain one shows, and what the plain one refuses, each refuses. A mode's
--- own tests come after those of every mode.
+-- The modes against each other, by their lists: a mode's own tests come after those of every mode, which are all that the plain one has.
 use mathlib.Core.Path.{_≡_, refl, sym, _∙_}
 use mathlib.Core.Bool.{true≢false}
 use mathlib.Core.List.{List}

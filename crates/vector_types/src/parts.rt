@@ -1,4 +1,5 @@
-// The body of a blob, and the two halves of a sparse one: parts of the caller's blob, nothing copied.
+// The body of a blob, and the two halves of a sparse one, as the plain mode shows them: parts of the
+// caller's blob, nothing copied.
 ghost use mathlib.Core.Path.{_≡_};
 ghost use Prim.Native.Nat.{_*_, _≤_};
 ghost use lib.ListN.{length};
