@@ -13,7 +13,7 @@ use Rattle.line_stream.proofs.ServingAll.{stopped, turn-shorter}
 use Rattle.vecs_lines.specs.inner.Rooms.{vectorLineRoom}
 use Rattle.lines.specs.Text.{newline}
 use Rattle.lines.specs.Printed.{headOf, numberedReply}
-use Rattle.probe_texts.specs.Texts.{refusalText}
+use Rattle.reply_texts.specs.Texts.{refusalText}
 use Rattle.vecs.specs.Vecs.{vectorAt}
 use Rattle.vecs.specs.declared.VecsAnswer.{VecsAnswer}
 use Rattle.vecs.specs.declared.VecsAnswer.the-variants.{Vector, End, Refused}

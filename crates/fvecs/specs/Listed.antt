@@ -2,7 +2,7 @@
 use Prim.Native.Nat.{ℕ, zero, suc, _+_}
 use mathlib.Core.List.{List, [], _++_}
 use Rattle.lines.specs.Printed.{numberedReply}
-use Rattle.probe_texts.specs.Texts.{refusalText}
+use Rattle.reply_texts.specs.Texts.{refusalText}
 use Rattle.vecs.specs.Vecs.{bytesLeft, vectorAt, elementsAt}
 use Rattle.vecs.specs.declared.VecsAnswer.{VecsAnswer}
 use Rattle.vecs.specs.declared.VecsAnswer.the-variants.{Vector, End, Refused}

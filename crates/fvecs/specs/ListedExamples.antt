@@ -9,7 +9,7 @@ use Rattle.lines.specs.Text.{word}
 use Rattle.lines.specs.Hex.{hexOf}
 use Rattle.lines.specs.Decimal.{decimalIn, decimalOf}
 use Rattle.lines.specs.Printed.{numberedReply}
-use Rattle.probe_texts.specs.Texts.{detailText}
+use Rattle.reply_texts.specs.Texts.{detailText}
 use Rattle.vecs.specs.Vecs.{vecsRefusals, vecsAnswerBy, vectorAt, elementsAt}
 use Rattle.vecs.specs.VecsExamples.{one32, two32, counted, twoVectors}
 use Rattle.fvecs.specs.Listed.{listedIn, listed}

@@ -17,7 +17,7 @@ use Rattle.vector_types.specs.Layout.{maxBlobLength}
 use Rattle.vecs.specs.Append.{AppendOutcome, appendOutcome}
 use Rattle.vecs.specs.declared.AppendAnswer.{AppendAnswer}
 use Rattle.vecs.specs.declared.AppendAnswer.the-variants.{Filled, Refused}
-use Rattle.probe_texts.specs.Texts.{refusalText}
+use Rattle.reply_texts.specs.Texts.{refusalText}
 
 -- the new fill, and the buffer
 abbrev pub filledText : ℕ → List ℕ → List ℕ

@@ -11,7 +11,7 @@ ghost use Rattle.probe_append.specs.Appending.{filledText, outcomeText, 
 use lines::hex::Parsed;
 use lines::text::put_head;
 use lines::text::put_malformed;
-use probe_texts::put_refusal;
+use reply_texts::put_refusal;
 use vecs::AppendAnswer;
 
 // Puts a buffer and its new fill at the start of out: A, a tab, the fill, a tab, and the buffer.

@@ -23,7 +23,7 @@ use Rattle.vector_types.specs.declared.ReadAnswer.the-variants.{Accepted, Refus
 use Rattle.convert.specs.Convert.{conversionOf}
 use Rattle.convert.specs.declared.ConvertAnswer.{ConvertAnswer}
 use Rattle.convert.specs.declared.ConvertAnswer.the-variants.{Converted, Refused as Unconverted}
-use Rattle.probe_texts.specs.Texts.{refusalText, shownText}
+use Rattle.reply_texts.specs.Texts.{refusalText, shownText}
 use Rattle.probe_blobs.specs.Limits.{scratchRoom}
 
 -- a vector after a mark: its kind, dims and body

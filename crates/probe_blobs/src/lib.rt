@@ -11,8 +11,8 @@ ghost use Rattle.probe_blobs.specs.Blobs.{vectorText, readBlobText, read
 use convert::ConvertAnswer;
 use lines::hex::Parsed;
 use lines::text::put_malformed;
-use probe_texts::put_refusal;
-use probe_texts::put_shown;
+use reply_texts::put_refusal;
+use reply_texts::put_shown;
 use vector_types::Mode;
 use vector_types::Named;
 use vector_types::ReadAnswer;

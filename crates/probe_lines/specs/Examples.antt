@@ -21,7 +21,7 @@ use Rattle.lines.specs.Hex.{digitOf, numberFrom, patternOf, hexPair, hexBytes, 
 use Rattle.lines.specs.Decimal.{decimalOf, numeralOf}
 use Rattle.lines.specs.Parts.{partsOf}
 use Rattle.lines.specs.Examples.{Example, example, RepliesAs}
-use Rattle.probe_texts.specs.Texts.{detailText}
+use Rattle.reply_texts.specs.Texts.{detailText}
 use Rattle.probe_lines.specs.Line.{vecprobeReply}
 
 abbrev pub floats : List Example

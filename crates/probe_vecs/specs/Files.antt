@@ -14,7 +14,7 @@ use Rattle.lines.specs.declared.hex.Parsed.the-variants.{Number, Nothing}
 use Rattle.vecs.specs.Vecs.{vectorAt, elementsAt, byteFloats}
 use Rattle.vecs.specs.declared.VecsAnswer.{VecsAnswer}
 use Rattle.vecs.specs.declared.VecsAnswer.the-variants.{Vector, End, Refused}
-use Rattle.probe_texts.specs.Texts.{refusalText, shownText}
+use Rattle.reply_texts.specs.Texts.{refusalText, shownText}
 use Rattle.probe_vecs.specs.declared.FileKind.{FileKind}
 use Rattle.probe_vecs.specs.declared.FileKind.the-variants.{Fvecs, Bvecs}
 

@@ -12,8 +12,8 @@ ghost use Rattle.probe_vecs.specs.inner.Floats.{floatsLength};
 ghost use Rattle.probe_vecs.specs.declared.FileKind.the-variants.{Fvecs, Bvecs};
 use lines::hex::Parsed;
 use lines::text::put_malformed;
-use probe_texts::put_refusal;
-use probe_texts::put_shown;
+use reply_texts::put_refusal;
+use reply_texts::put_shown;
 use vecs::VecsAnswer;
 
 // Which of the two formats a file has.

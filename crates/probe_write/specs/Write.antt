@@ -16,7 +16,7 @@ use Rattle.blob_writer.specs.Write.{blobOf, writeOf}
 use Rattle.vector_types.specs.declared.VectorType.{VectorType}
 use Rattle.blob_writer.specs.declared.WriteAnswer.{WriteAnswer}
 use Rattle.blob_writer.specs.declared.WriteAnswer.the-variants.{Written, Refused}
-use Rattle.probe_texts.specs.Texts.{refusalText}
+use Rattle.reply_texts.specs.Texts.{refusalText}
 use Rattle.probe_blobs.specs.Blobs.{kindOf}
 use Rattle.vector_types.specs.declared.Named.{Named}
 use Rattle.vector_types.specs.declared.Named.the-variants.{Kind, Unsupported, Unknown}

@@ -11,7 +11,7 @@ use blob_writer::WriteAnswer;
 use lines::hex::Parsed;
 use lines::text::put_malformed;
 use probe_blobs::kind_of;
-use probe_texts::put_refusal;
+use reply_texts::put_refusal;
 use vector_types::Dims;
 use vector_types::Named;
 use vector_types::VectorType;

@@ -7,7 +7,7 @@ use Rattle.vector_types.specs.Answers.{starting}
 use Rattle.vector_types.specs.declared.Refusal.{Refusal}
 use Rattle.vector_types.specs.declared.Detail.the-variants.{Nothing, Needs, Starts}
 use Rattle.lines.specs.Printed.{numberedReply}
-use Rattle.probe_texts.specs.Texts.{refusalText}
+use Rattle.reply_texts.specs.Texts.{refusalText}
 use Rattle.vecs.specs.Vecs.{vecsRefused}
 use Rattle.vecs_lines.specs.inner.Cut.{answerAt, toldLine}
 

@@ -3,7 +3,7 @@ use mathlib.Core.Path.{_≡_, sym, ap}
 use Prim.Native.Nat.{ℕ}
 use lib.ListN.{length, take}
 use lib.Seq.{length-take-le}
-use Rattle.probe_texts.specs.Texts.{shownText}
+use Rattle.reply_texts.specs.Texts.{shownText}
 use Rattle.promises.proofs.Puts.{puts-same}
 use borrow.Author.Needs.{needs}
 use native.Mathlib.Omega.{arith}

@@ -5,7 +5,7 @@ use lib.ListN.{length, length-set}
 use Rattle.lines.specs.Text.{newline}
 use Rattle.lines.specs.Printed.{headOf, numberedReply}
 use Rattle.line_stream.proofs.NumberedReply.{NumberedReplyPut, numbered-reply-put}
-use Rattle.probe_texts.specs.Texts.{refusalText}
+use Rattle.reply_texts.specs.Texts.{refusalText}
 use borrow.Author.Needs.{needs}
 use Rattle.vecs_lines.proofs.put_refusal_line.Statement.{statement}
 use Rattle.vecs_lines.proofs.put_refusal_line.Tie as tie

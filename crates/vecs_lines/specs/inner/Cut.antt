@@ -14,7 +14,7 @@ use Rattle.vecs.specs.declared.VecsAnswer.{VecsAnswer}
 use Rattle.vecs.specs.declared.VecsAnswer.the-variants.{Vector, End, Refused}
 use Rattle.lines.specs.Printed.{numberedReply, numberedReplies}
 use Rattle.line_stream.specs.inner.Serving.{answeredLines}
-use Rattle.probe_texts.specs.Texts.{refusalText}
+use Rattle.reply_texts.specs.Texts.{refusalText}
 use Rattle.vecs_lines.specs.Line.{vectorReply}
 use Rattle.vecs_lines.specs.inner.Rooms.{vectorLineRoom}
 use Rattle.vecs_lines.specs.declared.ListedVectors.{ListedVectors}

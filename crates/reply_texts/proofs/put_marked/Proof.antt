@@ -3,8 +3,8 @@ use mathlib.Core.Path.{refl}
 use Rattle.promises.proofs.Puts.{puts-copy, puts-then}
 use borrow.Author.Needs.{needs}
 use native.Mathlib.Omega.{arith}
-use Rattle.probe_texts.proofs.put_marked.Statement.{statement}
-use Rattle.probe_texts.proofs.put_marked.Tie as tie
+use Rattle.reply_texts.proofs.put_marked.Statement.{statement}
+use Rattle.reply_texts.proofs.put_marked.Tie as tie
 
 returns : tie.Need-returns
 returns c =

@@ -3,7 +3,7 @@ ghost use mathlib.Core.Path.{_≡_};
 ghost use Prim.Native.Nat.{_+_, _*_, _≤_};
 ghost use lib.ListN.{length};
 ghost use Rattle.promises.specs.Puts.{Puts};
-ghost use Rattle.probe_texts.specs.Texts.{markedText, detailText, refusalText, headerText, shownText};
+ghost use Rattle.reply_texts.specs.Texts.{markedText, detailText, refusalText, headerText, shownText};
 use lines::text::put_decimal;
 use lines::text::put_head;
 use vector_types::Detail;

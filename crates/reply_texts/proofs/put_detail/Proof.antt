@@ -1,10 +1,10 @@
 -- `put_detail` meets its contract: nothing, or what `put_marked` puts.
 use Rattle.promises.proofs.Puts.{puts-none}
-use Rattle.probe_texts.specs.Texts.{detailText}
+use Rattle.reply_texts.specs.Texts.{detailText}
 use borrow.Author.Needs.{needs}
 use native.Mathlib.Omega.{arith}
-use Rattle.probe_texts.proofs.put_detail.Statement.{statement}
-use Rattle.probe_texts.proofs.put_detail.Tie as tie
+use Rattle.reply_texts.proofs.put_detail.Statement.{statement}
+use Rattle.reply_texts.proofs.put_detail.Tie as tie
 
 returns : tie.Need-returns
 unfolding detailText

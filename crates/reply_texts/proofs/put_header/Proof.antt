@@ -4,8 +4,8 @@ use Prim.Native.Nat.{ℕ, _+_, _≤_}
 use Rattle.promises.proofs.Puts.{puts-copy, puts-then}
 use borrow.Author.Needs.{needs}
 use native.Mathlib.Omega.{arith}
-use Rattle.probe_texts.proofs.put_header.Statement.{statement}
-use Rattle.probe_texts.proofs.put_header.Tie as tie
+use Rattle.reply_texts.proofs.put_header.Statement.{statement}
+use Rattle.reply_texts.proofs.put_header.Tie as tie
 
 -- how long the three are
 within : (h k n size : ℕ) → h ≡ size → size ≡ 2 → k ≤ 21 → n ≤ 21 → h + k + n ≤ 44

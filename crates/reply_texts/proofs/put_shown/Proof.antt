@@ -1,8 +1,8 @@
 -- `put_shown` meets its contract: the bytes are written after what stands before them.
 use Rattle.promises.proofs.Puts.{puts-then}
 use borrow.Author.Needs.{needs}
-use Rattle.probe_texts.proofs.put_shown.Statement.{statement}
-use Rattle.probe_texts.proofs.put_shown.Tie as tie
+use Rattle.reply_texts.proofs.put_shown.Statement.{statement}
+use Rattle.reply_texts.proofs.put_shown.Tie as tie
 
 returns : tie.Need-returns
 returns c =

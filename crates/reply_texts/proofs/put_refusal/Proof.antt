@@ -1,8 +1,8 @@
 -- `put_refusal` meets its contract: what the refusal carries is put after its number.
 use Rattle.promises.proofs.Puts.{puts-then}
 use borrow.Author.Needs.{needs}
-use Rattle.probe_texts.proofs.put_refusal.Statement.{statement}
-use Rattle.probe_texts.proofs.put_refusal.Tie as tie
+use Rattle.reply_texts.proofs.put_refusal.Statement.{statement}
+use Rattle.reply_texts.proofs.put_refusal.Tie as tie
 
 returns : tie.Need-returns
 returns c =
