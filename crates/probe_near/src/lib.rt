@@ -4,6 +4,7 @@ ghost use lib.ListN.{length, take};
 ghost use Rattle.promises.specs.Puts.{Puts};
 ghost use Rattle.lines.specs.Parts.{fieldsOf};
 ghost use Rattle.lines.specs.Fields.{exactly};
+ghost use Rattle.vecdist_lines.specs.Limits.{vecdistRoom};
 ghost use Rattle.probe_near.specs.Near.{nearerText, candidatesText, nearFoundReply, nearReply};
 ghost use Rattle.probe_near.specs.inner.Parts.{partsText};
 use distance::Distance;
@@ -18,7 +19,7 @@ use vecdist_lines::put_value;
 
 // Puts which candidate is nearer and its distance, or a refusal, at the start of out.
 fn put_nearer(answer: NearerAnswer, out: &mut [u8]) -> usize
-    requires { ⌜ 32 ≤ length (now out) ⌝ }
+    requires { ⌜ vecdistRoom ≤ length (now out) ⌝ }
     ensures { λ r. ⌜ Puts (nearerText answer) (now (out .entry)) r (now (out .exit)) ⌝ }
 {
     match answer {
@@ -43,7 +44,7 @@ fn put_nearer(answer: NearerAnswer, out: &mut [u8]) -> usize
 fn put_blobs(distance: Distance, probe: usize, pair: usize, blobs: &[u8], out: &mut [u8]) -> usize
     requires { ⌜ probe ≤ pair ⌝ }
     requires { ⌜ pair ≤ length (now blobs) ⌝ }
-    requires { ⌜ 32 ≤ length (now out) ⌝ }
+    requires { ⌜ vecdistRoom ≤ length (now out) ⌝ }
     ensures { λ r. ⌜ Puts (partsText distance probe pair (now (blobs .entry))) (now (out .entry)) r (now (out .exit)) ⌝ }
 {
     let both = &blobs[..pair];
@@ -64,7 +65,7 @@ fn near_candidates(
     out: &mut [u8],
 ) -> usize
     requires { ⌜ 2 * probe + (length (now first) + length (now second)) ≤ 2 * length (now decoded) ⌝ }
-    requires { ⌜ 32 ≤ length (now out) ⌝ }
+    requires { ⌜ vecdistRoom ≤ length (now out) ⌝ }
     ensures { λ r. ⌜ Puts (candidatesText distance (take probe (now (decoded .entry))) (now (first .entry)) (now (second .entry))) (now (out .entry)) r (now (out .exit)) ⌝ }
 {
     let m = lines::hex::bytes(first, &mut decoded[probe..]);
@@ -90,7 +91,7 @@ fn near_found(
     out: &mut [u8],
 ) -> usize
     requires { ⌜ length (now probe) + (length (now first) + length (now second)) ≤ 2 * length (now decoded) ⌝ }
-    requires { ⌜ 32 ≤ length (now out) ⌝ }
+    requires { ⌜ vecdistRoom ≤ length (now out) ⌝ }
     ensures { λ r. ⌜ Puts (nearFoundReply asked (now (probe .entry)) (now (first .entry)) (now (second .entry))) (now (out .entry)) r (now (out .exit)) ⌝ }
 {
     let Asked::Known(distance) = asked else {
@@ -106,7 +107,7 @@ fn near_found(
 // The reply to near|D|P|A|B, of which this is D|P|A|B.
 pub fn near_line(rest: &[u8], decoded: &mut [u8], out: &mut [u8]) -> usize
     requires { ⌜ length (now rest) ≤ 2 * length (now decoded) ⌝ }
-    requires { ⌜ 32 ≤ length (now out) ⌝ }
+    requires { ⌜ vecdistRoom ≤ length (now out) ⌝ }
     ensures { λ r. ⌜ Puts (exactly 4 nearReply (fieldsOf (now (rest .entry)))) (now (out .entry)) r (now (out .exit)) ⌝ }
 {
     let end = lines::text::field_end(rest);

@@ -7,7 +7,7 @@ ghost use Prim.Native.Nat.{_*_, _/_, _≤_};
 ghost use lib.ListN.{length};
 ghost use Rattle.line_stream.specs.inner.Rooms.{numberedRoom, inputRoom};
 ghost use Rattle.line_stream.specs.inner.Serving.{TextReady, ServesAll};
-ghost use Rattle.vecdist_lines.specs.Limits.{vecdistLimit};
+ghost use Rattle.vecdist_lines.specs.Limits.{vecdistLimit, vecdistRoom};
 use line_stream::HeldLine;
 use line_stream::ServedText;
 use line_stream::next_text;
@@ -58,7 +58,7 @@ fn write_replies(replies: &[u8]) -> bool {
 fn serve_all(text: &[u8], held: HeldLine, decoded: &mut [u8], out: &mut [u8]) -> ServedText
     requires { ⌜ TextReady (now text) held ⌝ }
     requires { ⌜ vecdistLimit ≤ 2 * length (now decoded) ⌝ }
-    requires { ⌜ numberedRoom 32 ≤ length (now out) ⌝ }
+    requires { ⌜ numberedRoom vecdistRoom ≤ length (now out) ⌝ }
     ensures { λ r. ⌜ (r .written ≡ true → ServesAll (now (text .entry)) (held .before) r) ⌝ }
 {
     let mut line = held;
@@ -88,7 +88,7 @@ fn serve_all(text: &[u8], held: HeldLine, decoded: &mut [u8], out: &mut [u8]) ->
 fn run(input: &mut [u8], decoded: &mut [u8], out: &mut [u8]) -> bool
     requires { ⌜ length (now input) ≡ inputRoom vecdistLimit ⌝ }
     requires { ⌜ vecdistLimit ≤ 2 * length (now decoded) ⌝ }
-    requires { ⌜ numberedRoom 32 ≤ length (now out) ⌝ }
+    requires { ⌜ numberedRoom vecdistRoom ≤ length (now out) ⌝ }
 {
     let mut at = 0;
     let mut end = 0;

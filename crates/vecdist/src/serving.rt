@@ -5,7 +5,7 @@ ghost use Rattle.promises.specs.Puts.{Puts};
 ghost use Rattle.lines.specs.Printed.{numberedReply};
 ghost use Rattle.line_stream.specs.inner.Rooms.{numberedRoom};
 ghost use Rattle.line_stream.specs.inner.Serving.{TextReady, Serves};
-ghost use Rattle.vecdist_lines.specs.Limits.{vecdistLimit};
+ghost use Rattle.vecdist_lines.specs.Limits.{vecdistLimit, vecdistRoom};
 ghost use Rattle.vecdist.specs.Printed.{replyTo};
 use bytes::scan::find;
 use line_stream::HeldLine;
@@ -13,14 +13,15 @@ use line_stream::ServedLines;
 use lines::text::put_head;
 use lines::text::put_malformed;
 use vecdist_lines::LIMIT;
+use vecdist_lines::ROOM;
 
 // Room for a numbered reply: twenty digits, a tab, the reply to a line, and a newline.
-const NUMBERED_REPLY: usize = 32 + 22;
+const NUMBERED_REPLY: usize = ROOM + 22;
 
 // Puts the reply to a line at the start of out, and answers its length: X to one over the limit.
 fn answer(line: &[u8], decoded: &mut [u8], out: &mut [u8]) -> usize
     requires { ⌜ vecdistLimit ≤ 2 * length (now decoded) ⌝ }
-    requires { ⌜ 32 ≤ length (now out) ⌝ }
+    requires { ⌜ vecdistRoom ≤ length (now out) ⌝ }
     ensures { λ r. ⌜ Puts (replyTo (now (line .entry))) (now (out .entry)) r (now (out .exit)) ⌝ }
 {
     if LIMIT < line.len() {
@@ -32,7 +33,7 @@ fn answer(line: &[u8], decoded: &mut [u8], out: &mut [u8]) -> usize
 // Puts the number of a line, a tab, the reply to it and a newline.
 fn reply(number: u64, line: &[u8], decoded: &mut [u8], out: &mut [u8]) -> usize
     requires { ⌜ vecdistLimit ≤ 2 * length (now decoded) ⌝ }
-    requires { ⌜ numberedRoom 32 ≤ length (now out) ⌝ }
+    requires { ⌜ numberedRoom vecdistRoom ≤ length (now out) ⌝ }
     ensures { λ r. ⌜ Puts (numberedReply number (replyTo (now (line .entry)))) (now (out .entry)) r (now (out .exit)) ⌝ }
 {
     let head = put_head(number, out);
@@ -48,7 +49,7 @@ fn reply(number: u64, line: &[u8], decoded: &mut [u8], out: &mut [u8]) -> usize
 pub(crate) fn serve(text: &[u8], held: HeldLine, decoded: &mut [u8], out: &mut [u8]) -> ServedLines
     requires { ⌜ TextReady (now text) held ⌝ }
     requires { ⌜ vecdistLimit ≤ 2 * length (now decoded) ⌝ }
-    ensures { λ r. ⌜ Serves replyTo (numberedRoom 32) (now (text .entry)) (held .before) (now (out .entry)) (now (out .exit)) r ⌝ }
+    ensures { λ r. ⌜ Serves replyTo (numberedRoom vecdistRoom) (now (text .entry)) (held .before) (now (out .entry)) (now (out .exit)) r ⌝ }
 {
     let mut at = 0;
     let mut number = held.before;

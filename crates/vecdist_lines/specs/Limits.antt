@@ -1,6 +1,10 @@
--- How long a line of vecdist may be.
+-- How long a line of vecdist may be, and how long a reply can get.
 use Prim.Native.Nat.{ℕ}
 
 -- as many bytes as a line may have before its newline
 abbrev pub vecdistLimit : ℕ
 vecdistLimit = 32768
+
+-- room for any reply
+abbrev pub vecdistRoom : ℕ
+vecdistRoom = 32

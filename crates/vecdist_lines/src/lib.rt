@@ -3,6 +3,7 @@ ghost use mathlib.Core.Path.{_≡_};
 ghost use Prim.Native.Nat.{_+_, _*_, _≤_};
 ghost use lib.ListN.{length};
 ghost use Rattle.promises.specs.Puts.{Puts};
+ghost use Rattle.vecdist_lines.specs.Limits.{vecdistRoom};
 ghost use Rattle.vecdist_lines.specs.Line.{askedOf, valueText, namedRefusalText, distanceText, distanceFoundReply, vecdistReply};
 use distance::Distance;
 use distance::DistanceAnswer;
@@ -12,6 +13,9 @@ use lines::text::word_place;
 
 // As many bytes as a line may have before its newline.
 pub const LIMIT: usize = 32768;
+
+// Room for any reply.
+pub const ROOM: usize = 32;
 
 // The distance that a field names, if any.
 pub enum Asked {
@@ -35,7 +39,7 @@ pub fn asked_of(field: &[u8]) -> Asked
 // Puts a mark and the pattern of a distance in sixteen digits at the start of out.
 pub fn put_value(mark: &[u8], x: f64, out: &mut [u8]) -> usize
     requires { ⌜ length (now mark) ≤ 4 ⌝ }
-    requires { ⌜ 32 ≤ length (now out) ⌝ }
+    requires { ⌜ vecdistRoom ≤ length (now out) ⌝ }
     ensures { λ r. ⌜ Puts (valueText (now (mark .entry)) x) (now (out .entry)) r (now (out .exit)) ⌝ }
 {
     let head = bytes::copy(mark, out);
@@ -45,7 +49,7 @@ pub fn put_value(mark: &[u8], x: f64, out: &mut [u8]) -> usize
 // Puts R, the number of a refusal, and the name of the blob that it is about, separated by tabs.
 pub fn put_named_refusal(number: u8, name: &[u8], out: &mut [u8]) -> usize
     requires { ⌜ length (now name) ≡ 1 ⌝ }
-    requires { ⌜ 32 ≤ length (now out) ⌝ }
+    requires { ⌜ vecdistRoom ≤ length (now out) ⌝ }
     ensures { λ r. ⌜ Puts (namedRefusalText number (now (name .entry))) (now (out .entry)) r (now (out .exit)) ⌝ }
 {
     let head = bytes::copy(b"R\t", out);
@@ -55,7 +59,7 @@ pub fn put_named_refusal(number: u8, name: &[u8], out: &mut [u8]) -> usize
 
 // Puts an answer at the start of out.
 fn put_answer(answer: DistanceAnswer, out: &mut [u8]) -> usize
-    requires { ⌜ 32 ≤ length (now out) ⌝ }
+    requires { ⌜ vecdistRoom ≤ length (now out) ⌝ }
     ensures { λ r. ⌜ Puts (distanceText answer) (now (out .entry)) r (now (out .exit)) ⌝ }
 {
     match answer {
@@ -78,7 +82,7 @@ fn answer_found(
     out: &mut [u8],
 ) -> usize
     requires { ⌜ length (now first) + length (now second) ≤ 2 * length (now decoded) ⌝ }
-    requires { ⌜ 32 ≤ length (now out) ⌝ }
+    requires { ⌜ vecdistRoom ≤ length (now out) ⌝ }
     ensures { λ r. ⌜ Puts (distanceFoundReply asked (now (first .entry)) (now (second .entry))) (now (out .entry)) r (now (out .exit)) ⌝ }
 {
     let Asked::Known(distance) = asked else {
@@ -102,7 +106,7 @@ fn answer_found(
 // Puts the reply to a line at the start of out, and answers its length; `decoded` is room to work in.
 pub fn answer(line: &[u8], decoded: &mut [u8], out: &mut [u8]) -> usize
     requires { ⌜ length (now line) ≤ 2 * length (now decoded) ⌝ }
-    requires { ⌜ 32 ≤ length (now out) ⌝ }
+    requires { ⌜ vecdistRoom ≤ length (now out) ⌝ }
     ensures { λ r. ⌜ Puts (vecdistReply (now (line .entry))) (now (out .entry)) r (now (out .exit)) ⌝ }
 {
     let end = lines::text::field_end(line);

@@ -10,13 +10,14 @@ use borrow.Rule.Slice.PartMut.{putMid, same-len-mid}
 use Rattle.promises.proofs.Onto.{tail-lent}
 use Rattle.line_stream.specs.inner.Rooms.{numberedRoom}
 use Rattle.line_stream.proofs.Serving.{LineEnd, first-line-end, next-line-end, LinesServed, lines-served-none, lines-served-next, ServedBounds, served-bounds, serves-stopped}
+use Rattle.vecdist_lines.specs.Limits.{vecdistRoom}
 use Rattle.vecdist.specs.Printed.{replyTo}
 use borrow.Author.Needs.{needs}
 use Rattle.vecdist.proofs.serving.serve.Statement.{statement}
 use Rattle.vecdist.proofs.serving.serve.Tie as tie
 
 abbrev longest : ℕ
-longest = numberedRoom 32
+longest = numberedRoom vecdistRoom
 
 abbrev Inv-loop : tie.InvT-loop
 Inv-loop text decoded₀ out₀ at₀ number₀ filled₀ end₀ decoded out at number filled end =
