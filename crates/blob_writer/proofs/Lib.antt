@@ -5,4 +5,5 @@ pub mod Rewritten
 pub mod RewrittenModes
 pub mod Tails
 pub mod Unchanged
+pub mod WriteDetails
 pub mod Written

@@ -1,13 +1,13 @@
 -- What the writer answers and leaves: the blob of each kind, and the refusals of docs/RULES.md in the writer's order.
-use Prim.Native.Nat.{ℕ, _+_, _-_, _*_, _%_}
+use Prim.Native.Nat.{ℕ, _+_, _-_, _*_, _/_, _%_}
 use mathlib.Core.Bool.{Bool, cond, not, _&&_}
 use mathlib.Core.List.{List, [], _∷_, _++_}
 use lib.Dec.{ltb, eqb}
 use lib.ListN.{length}
 use Rattle.promises.specs.Onto.{onto}
 use Rattle.little_endian.specs.Bytes.{bytesOf}
-use Rattle.vector_types.specs.Answers.{Test, test, testRoom, firstGiven, unless}
-use Rattle.vector_types.specs.Layout.{maxBlobLength, maxDims, ceil, hasTrailingCount, bodyFits, hasIndexOutside}
+use Rattle.vector_types.specs.Answers.{Test, test, testFirst, testRoom, firstGiven, unless}
+use Rattle.vector_types.specs.Layout.{maxBlobLength, maxDims, ceil, hasByte, hasTrailingCount, bodyFits, isOutside}
 use Rattle.vector_types.specs.declared.VectorType.{VectorType}
 use Rattle.vector_types.specs.declared.VectorType.the-variants.{Float32Dense, Float64Dense, Float32Sparse, Float1Bit, Float8}
 use Rattle.blob_writer.specs.Answers.{written, writeRefused}
@@ -49,7 +49,7 @@ writeRefusals k d body =
     test 9 (ltb maxDims d)
     ∷ test 7 (not (bodyFits k d (length body)))
     ∷ test 1 (ltb maxBlobLength (length (blobOf k d body)))
-    ∷ test 8 (hasIndexOutside k d body)
+    ∷ testFirst 8 (hasByte 9 k) (isOutside body (length body / 8) d) (length body / 8)
     ∷ test 16 (hasTrailingCount k && eqb d 0)
     ∷ []
 

@@ -5,7 +5,7 @@ use Prim.Native.Nat.{ℕ}
 use lib.ListN.{length, replicate}
 use Rattle.promises.specs.Onto.{onto}
 use Rattle.little_endian.specs.Bytes.{numberAt, bytesOf}
-use Rattle.vector_types.specs.Answers.{refusal, needing}
+use Rattle.vector_types.specs.Answers.{refusal, needing, naming}
 use Rattle.vector_types.specs.Search.{firstFrom}
 use Rattle.vector_types.specs.Layout.{namedKind, byByte, lengthBeforeType, bodyFits, layoutRow}
 use Rattle.vector_types.specs.Read.{readOf, refusals, shown}
@@ -33,6 +33,9 @@ refuses k d body r = record { kind = k; dims = d; body = body; answer = r; blob 
 
 abbrev pub refuse : ℕ → WriteAnswer
 refuse n = writeRefused (refusal n)
+
+abbrev pub wrong : ℕ → WriteAnswer
+wrong j = writeRefused (naming 8 j)
 
 abbrev pub short : ℕ → WriteAnswer
 short need = writeRefused (needing 15 need)
@@ -68,8 +71,9 @@ writing =
     ∷ refuses Float32Sparse 65537 [] (refuse 9)
     ∷ refuses Float32Dense 2 one32 (refuse 7)
     ∷ refuses Float1Bit 0 (0xaa ∷ []) (refuse 7)
-    ∷ refuses Float32Sparse 2 (entry 2) (refuse 8)
-    ∷ refuses Float32Sparse 2 (two 0 2) (refuse 8)
+    ∷ refuses Float32Sparse 2 (entry 2) (wrong 0)
+    ∷ refuses Float32Sparse 2 (two 0 2) (wrong 1)
+    ∷ refuses Float32Sparse 2 (two 2 3) (wrong 0)
     ∷ refuses Float1Bit 0 [] (refuse 16)
     ∷ refuses Float8 0 (replicate 8 0) (refuse 16)
     ∷ refuses Float32Sparse 3 (two 0 2) (short 21)

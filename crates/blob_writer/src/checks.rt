@@ -15,7 +15,7 @@ use vector_types::MAX_DIMS;
 use vector_types::Refusal;
 use vector_types::VectorType;
 use vector_types::align4;
-use vector_types::has_index_outside;
+use vector_types::first_outside;
 
 fn refuse(number: u8) -> WriteAnswer
     ensures { λ r. ⌜ r ≡ writeRefused (refusal number) ⌝ }
@@ -64,8 +64,9 @@ pub(crate) fn check_write(kind: VectorType, dims: Dims, body: &[u8], room: usize
     if MAX_BLOB_LENGTH < length {
         return refuse(1);
     }
-    if has_index_outside(kind, dims, body) {
-        return refuse(8);
+    let outside = first_outside(kind, dims, body);
+    if outside < body.len() / 8 {
+        return WriteAnswer::Refused(Refusal::naming(8, outside));
     }
     if lacks_elements(kind, dims) {
         return refuse(16);

@@ -6,7 +6,7 @@ use lib.Ieee.{add, sub, mul, div, neg, eq, lt, ofInt, ofBits, binary64}
 use Rattle.float_laws.specs.Running.{running, total}
 use Rattle.little_endian.specs.Bytes.{numberAt}
 use Rattle.rounding.specs.Root.{root}
-use Rattle.vector_types.specs.Answers.{acceptedAs, refused, refusal}
+use Rattle.vector_types.specs.Answers.{acceptedAs, refused, refusal, naming}
 use Rattle.vector_types.specs.Search.{firstFrom}
 use Rattle.vector_types.specs.Layout.{namedKind, byByte, lengthBeforeType, bodyFits, layoutRow}
 use Rattle.vector_types.specs.Read.{readOf, refusals, shown}
@@ -55,9 +55,12 @@ seven = (7 ∷ 0 ∷ 0 ∷ 0 ∷ []) ++ one ++ zero
 abbrev pub fifteen : ℕ → List ℕ
 fifteen t = seven ++ (0 ∷ t ∷ 4 ∷ [])
 
--- a sparse blob of dims 2 with the index 2
+-- sparse blobs of dims 2 with the index 2, and with the indices 1 and 5
 abbrev pub indexTwo : List ℕ
 indexTwo = one ++ (2 ∷ 0 ∷ 0 ∷ 0 ∷ 2 ∷ 0 ∷ 0 ∷ 0 ∷ 9 ∷ [])
+
+abbrev pub wrongEntry : List ℕ
+wrongEntry = one ++ one ++ (1 ∷ 0 ∷ 0 ∷ 0 ∷ 5 ∷ 0 ∷ 0 ∷ 0 ∷ 2 ∷ 0 ∷ 0 ∷ 0 ∷ 9 ∷ [])
 
 -- 1-bit blobs of dims 8
 abbrev pub bits : ℕ → List ℕ
@@ -100,8 +103,8 @@ documentTable =
     ∷ shows (fifteen 3) (acceptedAs Float8 1 12) seven
     ∷ refuses (fifteen 4) 7
     ∷ refuses (fifteen 5) 5
-    -- P: sparse, index 2, dims 2: 8
-    ∷ refuses indexTwo 8
+    -- P: sparse, index 2, dims 2: 8; it names entry 0
+    ∷ shows indexTwo (refused (naming 8 0)) []
     -- P: 1-bit `aa`, `ab` (dims 8): cosine 1.0, Jaccard 3fc9999999999998
     ∷ measures Cos (bits 0xaa) (bits 0xab) 0x3ff0_0000_0000_0000
     ∷ measures Jaccard (bits 0xaa) (bits 0xab) 0x3fc9_9999_9999_9998
@@ -124,6 +127,9 @@ furtherTable =
     -- the empty dot, and L2 of empty vectors
     ∷ measures Dot [] [] 0x8000_0000_0000_0000
     ∷ measures L2 [] [] 0
+    -- which entry is wrong, in the first blob and in the second
+    ∷ answers Cos wrongEntry noEntry (Refused (naming 8 1) First)
+    ∷ answers Cos noEntry wrongEntry (Refused (naming 8 1) Second)
     -- the second blob is read before the two are compared; dims are compared before kinds
     ∷ answers Cos one (0x05 ∷ []) (Refused (refusal 2) Second)
     ∷ answers Cos one noEntry (pairRefused 12)

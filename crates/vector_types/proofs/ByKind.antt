@@ -8,8 +8,8 @@ use lib.Dec.{ltb, leb, eqb}
 use lib.ListN.{length, getD}
 use borrow.Author.Tests.{eq-eqb, lt-ltb, le-ltb}
 use Rattle.little_endian.specs.Bytes.{u32At}
-use Rattle.vector_types.specs.Answers.{Given, given, unless, acceptedAs, refused, refusal}
-use Rattle.vector_types.specs.Search.{anyIndex}
+use Rattle.vector_types.specs.Answers.{Given, given, unless, acceptedAs, refused, refusal, naming}
+use Rattle.vector_types.specs.Search.{firstIndex, anyIndex}
 use Rattle.vector_types.specs.Layout.{maxBlobLength, maxDims, ceil, hasByte, namedKind, lengthBeforeType, isOutside, bodyFits, layoutRow}
 use Rattle.vector_types.specs.Read.{readOf, refusals, shown}
 use Rattle.vector_types.specs.declared.Refusal.{Refusal}
@@ -49,7 +49,7 @@ float8By n t = let d = n - 10 - t in
 
 abbrev sparseBy : List ℕ → (n : ℕ) → ReadAnswer
 sparseBy s n = let k = n / 8 in let d = u32At s (n - 4) in
-    cond (not (eqb n (4 + 8 * k))) (refusedBy 7) (cond (anyIndex (isOutside s k d) k) (refusedBy 8) (cond (ltb maxDims d) (refusedBy 9) (acceptedAs Float32Sparse d (8 * k))))
+    cond (not (eqb n (4 + 8 * k))) (refusedBy 7) (cond (anyIndex (isOutside s k d) k) (refused (naming 8 (firstIndex (isOutside s k d) k))) (cond (ltb maxDims d) (refusedBy 9) (acceptedAs Float32Sparse d (8 * k))))
 
 before-typed : (s : List ℕ) (k : VectorType) → namedKind s ≡ Kind k → hasByte 1 k ≡ false → lengthBeforeType s ≡ length s - 1
 before-typed s k e other = omega (arith, named-typed s k e other .one-more)

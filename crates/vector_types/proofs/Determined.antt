@@ -11,8 +11,9 @@ use Rattle.vector_types.proofs.kinds.kind_of_byte.Reads as kind-of-byte
 use Rattle.vector_types.proofs.Refusal.by_number.Reads as by-number
 use Rattle.vector_types.proofs.Refusal.needing.Reads as needing
 use Rattle.vector_types.proofs.Refusal.starting.Reads as starting
+use Rattle.vector_types.proofs.Refusal.naming.Reads as naming
 use Rattle.vector_types.proofs.reading.align4.Reads as align4
-use Rattle.vector_types.proofs.reading.has_index_outside.Reads as has-index-outside
+use Rattle.vector_types.proofs.reading.first_outside.Reads as first-outside
 use Rattle.vector_types.proofs.reading.read.Reads as read
 use Rattle.vector_types.proofs.parts.body.Reads as body
 use Rattle.vector_types.proofs.parts.values.Reads as values
@@ -40,11 +41,14 @@ needing-determined κs a r r′ x x′ p q = p ∙ sym q
 pub starting-determined : (κs : _) (a : _) → Determined (starting.Post κs a) (λ r x. r)
 starting-determined κs a r r′ x x′ p q = p ∙ sym q
 
+pub naming-determined : (κs : _) (a : _) → Determined (naming.Post κs a) (λ r x. r)
+naming-determined κs a r r′ x x′ p q = p ∙ sym q
+
 pub align4-determined : (κs : _) (a : _) → Determined (align4.Post κs a) (λ r x. r)
 align4-determined κs a r r′ x x′ p q = p ∙ sym q
 
-pub has-index-outside-determined : (κs : _) (a : _) → Determined (has-index-outside.Post κs a) (λ r x. r)
-has-index-outside-determined κs a r r′ x x′ p q = p ∙ sym q
+pub first-outside-determined : (κs : _) (a : _) → Determined (first-outside.Post κs a) (λ r x. r)
+first-outside-determined κs a r r′ x x′ p q = p ∙ sym q
 
 pub read-determined : (κs : _) (a : _) → Determined (read.Post κs a) (λ r x. r)
 read-determined κs a r r′ x x′ p q = p ∙ sym q

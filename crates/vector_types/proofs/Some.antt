@@ -1,11 +1,12 @@
--- A search finds nothing exactly if the test holds at no place; two tests that agree at the places searched find the same.
+-- A search finds nothing exactly if the test holds at no place, and else the first place where it does; two tests that agree at the places
+-- searched find the same.
 use mathlib.Core.Path.{_≡_, refl, sym, ap, _∙_}
 use mathlib.Core.Logic.{_≢_}
-use mathlib.Core.Bool.{Bool, true, false, true≢false}
+use mathlib.Core.Bool.{Bool, true, false, cond, true≢false}
 use Prim.Native.Nat.{ℕ, zero, suc, _+_, _<_, _≤_}
 use native.Mathlib.Omega.{arith}
 use lib.Dec.{ltb}
-use borrow.Author.Tests.{lt-ltb, le-ltb}
+use borrow.Author.Tests.{ltb-true, lt-ltb, le-ltb}
 use Rattle.vector_types.specs.Search.{firstFrom, firstIndex, anyIndex}
 
 -- the test fails at the n places from i on
@@ -29,7 +30,37 @@ module _ (p : ℕ → Bool) where
           let other : i ≢ j = λ same. true≢false (sym q ∙ rw (← same) e) in
           rw e (rest (omega arith) (omega arith) q)
 
+  first-within : (n i : ℕ) → firstFrom p i n ≤ i + n
+  unfolding firstFrom
+  first-within zero i = omega arith
+  first-within (suc n) i = by-first (p i) (first-within n (suc i))
+    where
+      by-first : (b : Bool) → firstFrom p (suc i) n ≤ suc i + n → cond b i (firstFrom p (suc i) n) ≤ i + suc n
+      by-first true rest = omega arith
+      by-first false rest = omega arith
+
+  hit-first : (n i : ℕ) → firstFrom p i n < i + n → p (firstFrom p i n) ≡ true
+  unfolding firstFrom
+  hit-first zero i h = absurd (omega arith)
+  hit-first (suc n) i h = by-first (p i) refl (hit-first n (suc i)) h
+    where
+      by-first : (b : Bool) → p i ≡ b → (firstFrom p (suc i) n < suc i + n → p (firstFrom p (suc i) n) ≡ true)
+          → cond b i (firstFrom p (suc i) n) < i + suc n → p (cond b i (firstFrom p (suc i) n)) ≡ true
+      by-first true e rest less = e
+      by-first false e rest less = rest (omega arith)
+
 module _ (p : ℕ → Bool) (n : ℕ) where
+  -- of the place that is found
+  pub first-true : anyIndex p n ≡ true → p (firstIndex p n) ≡ true
+  first-true e = hit-first p n 0 (omega (arith, ltb-true (firstIndex p n) n e))
+
+  pub before-first : (j : ℕ) → j < firstIndex p n → p j ≡ false
+  before-first j less = by-value (p j) refl
+    where
+      by-value : (b : Bool) → p j ≡ b → p j ≡ false
+      by-value true q = absurd (omega (arith, first-within p n 0, hit-after p n 0 j (omega arith) (omega (arith, first-within p n 0)) q))
+      by-value false q = q
+
   true-some : (j : ℕ) → j < n → p j ≡ true → anyIndex p n ≡ true
   true-some j m q = lt-ltb (firstIndex p n) n (omega (arith, hit-after p n 0 j (omega arith) (omega arith) q))
 

@@ -1,16 +1,17 @@
--- The tests of the modes against the statements: a test finds nothing exactly if the statement holds of every place.
+-- The tests of the modes against the statements: a test finds nothing exactly if the statement holds of every place, and else the first place
+-- where it does not.
 use mathlib.Core.Path.{_≡_, refl}
-use mathlib.Core.Bool.{false}
+use mathlib.Core.Bool.{true, false}
 use mathlib.Core.Logic.{_↔_}
 use mathlib.Core.List.{List}
 use Prim.Native.Nat.{ℕ, zero, suc, _+_, _-_, _*_, _<_}
 use native.Mathlib.Omega.{arith}
-use borrow.Author.Tests.{leb-false, lt-leb, ltb-false, le-ltb, eqb-false, ne-eqb}
-use Rattle.vector_types.specs.Search.{anyIndex}
+use borrow.Author.Tests.{ltb-true, leb-true, leb-false, lt-leb, ltb-false, le-ltb, eqb-false, ne-eqb}
+use Rattle.vector_types.specs.Search.{firstIndex, anyIndex}
 use Rattle.vector_types.specs.Layout.{indexAt, isOutside, bitAt}
 use Rattle.vector_types.specs.Read.{isBelowPrevious, unusedSet}
-use Rattle.vector_types.specs.Statements.{IndicesBelow, Sorted, UnusedZero}
-use Rattle.vector_types.proofs.Some.{some-false, false-some}
+use Rattle.vector_types.specs.Statements.{IndicesBelow, FirstOutside, Sorted, UnusedZero}
+use Rattle.vector_types.proofs.Some.{first-true, before-first, some-false, false-some}
 
 -- refusal 8
 pub none-outside : (s : List ℕ) (k d : ℕ) → anyIndex (isOutside s k d) k ≡ false ↔ IndicesBelow s k d
@@ -18,6 +19,13 @@ none-outside s k d = (
   λ e j l. leb-false d (indexAt s k j) (some-false (isOutside s k d) k e j l),
   λ below. false-some (isOutside s k d) k (λ j l. lt-leb d (indexAt s k j) (below j l)),
 )
+
+pub first-outside-found : (s : List ℕ) (k d : ℕ) → anyIndex (isOutside s k d) k ≡ true → FirstOutside s k d (firstIndex (isOutside s k d) k)
+first-outside-found s k d e = record {
+  entry = ltb-true (firstIndex (isOutside s k d) k) k e;
+  outside = leb-true d (indexAt s k (firstIndex (isOutside s k d) k)) (first-true (isOutside s k d) k e);
+  before = λ i l. leb-false d (indexAt s k i) (before-first (isOutside s k d) k i l);
+}
 
 -- refusal 10
 pub none-below-previous : (s : List ℕ) (k : ℕ) → anyIndex (isBelowPrevious s k) k ≡ false ↔ Sorted s k

@@ -1,11 +1,12 @@
 -- Refusals, the reader's answers, and the first of several refusals that is given.
 use Prim.Native.Nat.{ℕ}
-use mathlib.Core.Bool.{Bool, true, false, cond}
+use mathlib.Core.Bool.{Bool, true, false, cond, _&&_}
 use mathlib.Core.List.{List, [], _∷_}
 use lib.Dec.{ltb}
+use Rattle.vector_types.specs.Search.{firstIndex, anyIndex}
 use Rattle.vector_types.specs.declared.VectorType.{VectorType}
 use Rattle.vector_types.specs.declared.Dims.{Dims}
-use Rattle.vector_types.specs.declared.Detail.the-variants.{Nothing, Needs, Starts}
+use Rattle.vector_types.specs.declared.Detail.the-variants.{Nothing, Needs, Starts, Entry}
 use Rattle.vector_types.specs.declared.Refusal.{Refusal}
 use Rattle.vector_types.specs.declared.ReadAnswer.{ReadAnswer}
 use Rattle.vector_types.specs.declared.ReadAnswer.the-variants.{Accepted, Refused}
@@ -13,7 +14,7 @@ use Rattle.vector_types.specs.declared.ReadAnswer.the-variants.{Accepted
 abbrev pub dims : ℕ → Dims
 dims d = record { 0 = d }
 
--- a refusal by its number, one that tells how long a buffer would have to be, and one that tells where a vector starts in its file
+-- a refusal by its number, and one that tells how long a buffer would have to be, where a vector starts in its file, or which entry is wrong
 abbrev pub refusal : ℕ → Refusal
 refusal n = record { number = n; detail = Nothing }
 
@@ -22,6 +23,9 @@ needing n need = record { number = n; detail = Needs need }
 
 abbrev pub starting : ℕ → ℕ → Refusal
 starting n place = record { number = n; detail = Starts place }
+
+abbrev pub naming : ℕ → ℕ → Refusal
+naming n entry = record { number = n; detail = Entry entry }
 
 -- the reader's answers: a view of kind, dims and body length, and a refusal
 abbrev pub acceptedAs : VectorType → ℕ → ℕ → ReadAnswer
@@ -46,6 +50,10 @@ pub record Test : Type 0 where
 
 abbrev pub test : ℕ → Bool → Test
 test n b = record { holds = b; gives = refusal n }
+
+-- of the first of k entries with p, where b holds
+abbrev pub testFirst : ℕ → Bool → (ℕ → Bool) → ℕ → Test
+testFirst n b p k = record { holds = b && anyIndex p k; gives = naming n (firstIndex p k) }
 
 -- of a buffer of `room` bytes where `need` are needed
 abbrev pub testRoom : ℕ → ℕ → ℕ → Test

@@ -4,7 +4,7 @@ use mathlib.Core.Path.{_≡_, refl}
 use mathlib.Core.List.{List, [], _∷_, map}
 use Prim.Native.Nat.{ℕ}
 use Rattle.little_endian.specs.Bytes.{numberAt}
-use Rattle.vector_types.specs.Answers.{acceptedAs, refused, refusal}
+use Rattle.vector_types.specs.Answers.{acceptedAs, refused, refusal, naming}
 use Rattle.vector_types.specs.Search.{firstFrom}
 use Rattle.vector_types.specs.Layout.{namedKind, byByte, lengthBeforeType, bodyFits, layoutRow}
 use Rattle.vector_types.specs.Read.{readOf, refusals, shown}
@@ -34,6 +34,9 @@ bothAnswer s r = answers s r r
 abbrev pub bothRefuse : List ℕ → ℕ → Example
 bothRefuse s n = bothAnswer s (refused (refusal n))
 
+abbrev pub bothName : List ℕ → ℕ → ℕ → Example
+bothName s n entry = bothAnswer s (refused (naming n entry))
+
 abbrev pub strictRefuses : List ℕ → ReadAnswer → ℕ → Example
 strictRefuses s r n = answers s r (refused (refusal n))
 
@@ -51,13 +54,17 @@ table =
     -- equal neighbours are sorted
     ∷ bothAnswer (pair 1 1) (acceptedAs Float32Sparse 4 16)
     ∷ strictRefuses (pair 2 1) (acceptedAs Float32Sparse 4 16) 10
-    -- 8 before 10
-    ∷ bothRefuse (pair 5 1) 8
+    -- 8 names the first entry that is not below dims, and comes before 10
+    ∷ bothName (pair 5 1) 8 0
+    ∷ bothName (pair 1 4) 8 1
+    ∷ bothName (pair 4 9) 8 0
     ∷ bothAnswer (five 0x1f) (acceptedAs Float1Bit 5 1)
     ∷ strictRefuses (five 0x3f) (acceptedAs Float1Bit 5 1) 11
     ∷ bothRefuse (0x07 ∷ []) 3
     ∷ bothRefuse (0x09 ∷ []) 7
     ∷ bothRefuse (1 ∷ 0 ∷ 1 ∷ 0 ∷ 9 ∷ []) 9
+    -- 8 before 9: the dims are 65,537, and the index is as great
+    ∷ bothName (0 ∷ 0 ∷ 0x80 ∷ 0x3f ∷ 1 ∷ 0 ∷ 1 ∷ 0 ∷ 1 ∷ 0 ∷ 1 ∷ 0 ∷ 9 ∷ []) 8 0
     ∷ []
 
 pub table-holds : map (λ (e : Example). e .defined) table ≡ map (λ (e : Example). e .expected) table

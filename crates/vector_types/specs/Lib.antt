@@ -1,5 +1,5 @@
-pub mod Answers
 pub mod Search
+pub mod Answers
 pub mod Layout
 pub mod Read
 pub mod Statements

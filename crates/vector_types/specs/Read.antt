@@ -5,9 +5,9 @@ use mathlib.Core.Bool.{Bool, true, false, _&&_, _||_}
 use mathlib.Core.List.{List, [], _∷_}
 use lib.Dec.{ltb, leb, eqb}
 use lib.ListN.{length}
-use Rattle.vector_types.specs.Answers.{Test, test, firstGiven, unless, acceptedAs, refused, refusal}
+use Rattle.vector_types.specs.Answers.{Test, test, testFirst, firstGiven, unless, acceptedAs, refused, refusal}
 use Rattle.vector_types.specs.Search.{anyIndex}
-use Rattle.vector_types.specs.Layout.{maxBlobLength, maxDims, ceil, namedKind, lengthBeforeType, trailingCount, hasTrailingCount, entryCount, indexAt, isOutside, hasByte, dimsOf, lengthOf, bodyUnfit, bodyFits, bitAt, layoutRow}
+use Rattle.vector_types.specs.Layout.{maxBlobLength, maxDims, ceil, namedKind, lengthBeforeType, trailingCount, hasTrailingCount, entryCount, sparseDims, indexAt, isOutside, hasByte, dimsOf, lengthOf, bodyUnfit, bodyFits, bitAt, layoutRow}
 use Rattle.vector_types.specs.declared.VectorType.{VectorType}
 use Rattle.vector_types.specs.declared.Named.{Named}
 use Rattle.vector_types.specs.declared.Named.the-variants.{Kind, Unsupported, Unknown}
@@ -62,7 +62,7 @@ refusals mode names s =
     ∷ test 5 (ofKind names (λ k. (hasByte 3 k && ltb (8 * n) t) || (hasByte 4 k && (ltb (n - 10) t || ltb n 10))))
     ∷ test 6 (ofKind names (λ k. hasByte 3 k && leb n (ceil (8 * n - t) 8)))
     ∷ test 7 (ofKind names (λ k. bodyUnfit k s || (hasTrailingCount k && eqb (dimsOf k s) 0)))
-    ∷ test 8 (ofKind names (λ k. hasByte 9 k && anyIndex (isOutside s (entryCount s) (dimsOf k s)) (entryCount s)))
+    ∷ testFirst 8 (ofKind names (hasByte 9)) (isOutside s (entryCount s) (sparseDims s)) (entryCount s)
     ∷ test 9 (ofKind names (λ k. ltb maxDims (dimsOf k s)))
     ∷ ownRefusals mode names s
 

@@ -1,12 +1,21 @@
--- What the modes ask of indices and unused bits, as statements about every one of them, without a test.
+-- What the modes ask of indices and unused bits, as statements about every one of them, without a test; and what a refusal carries.
 use Prim.Native.Nat.{ℕ, suc, _*_, _<_, _≤_}
 use mathlib.Core.Path.{_≡_}
+use mathlib.Core.Bool.{Bool, true, false}
 use mathlib.Core.List.{List}
 use Rattle.vector_types.specs.Layout.{indexAt, bitAt}
+use Rattle.vector_types.specs.declared.Detail.{Detail}
+use Rattle.vector_types.specs.declared.Detail.the-variants.{Nothing, Needs, Starts, Entry}
 
 -- each of the k indices of a sparse body is below d
 abbrev pub IndicesBelow : List ℕ → ℕ → ℕ → Type 0
 IndicesBelow s k d = (j : ℕ) → j < k → indexAt s k j < d
+
+-- j is the first of the k entries of a sparse body whose index is not below d
+pub record FirstOutside (s : List ℕ) (k d j : ℕ) : Type 0 where
+  pub entry : j < k
+  pub outside : d ≤ indexAt s k j
+  pub before : (i : ℕ) → i < j → indexAt s k i < d
 
 -- the k indices of a sparse body are in sorted order, as the Rust's `turso_debug_assert!(idx.is_sorted())` tests it: equal neighbours pass
 abbrev pub Sorted : List ℕ → ℕ → Type 0
@@ -15,3 +24,16 @@ Sorted s k = (j : ℕ) → suc j < k → indexAt s k j ≤ indexAt s k (suc j)
 -- the bits of a 1-bit body of m bytes that stand for none of the d elements are zero
 abbrev pub UnusedZero : List ℕ → ℕ → ℕ → Type 0
 UnusedZero s d m = (i : ℕ) → d ≤ i → i < 8 * m → bitAt s i ≡ 0
+
+-- whether a refusal names an entry, and whether it tells how long a buffer would have to be
+abbrev pub namesEntry : Detail → Bool
+namesEntry Nothing = false
+namesEntry (Needs need) = false
+namesEntry (Starts place) = false
+namesEntry (Entry entry) = true
+
+abbrev pub tellsNeed : Detail → Bool
+tellsNeed Nothing = false
+tellsNeed (Needs need) = true
+tellsNeed (Starts place) = false
+tellsNeed (Entry entry) = false

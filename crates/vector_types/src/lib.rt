@@ -5,7 +5,7 @@ mod reading;
 mod strictness;
 
 ghost use mathlib.Core.Path.{_≡_};
-ghost use Rattle.vector_types.specs.Answers.{refusal, needing, starting, refused};
+ghost use Rattle.vector_types.specs.Answers.{refusal, needing, starting, naming, refused};
 pub use kinds::is_same_kind;
 pub use kinds::kind_of_byte;
 pub use kinds::type_byte;
@@ -13,7 +13,7 @@ pub use parts::body;
 pub use parts::indices;
 pub use parts::values;
 pub use reading::align4;
-pub use reading::has_index_outside;
+pub use reading::first_outside;
 pub use reading::read;
 
 // The kinds of vectors, in the order of the Rust.
@@ -55,11 +55,13 @@ pub struct Refusal {
 }
 
 // Needs: how many bytes a buffer that is too short would have to have. Starts: the place in a file where
-// the vector starts inside which the file ends.
+// the vector starts inside which the file ends. Entry: which entry of a sparse vector is wrong, counted
+// from 0.
 pub enum Detail {
     Nothing,
     Needs(usize),
     Starts(usize),
+    Entry(usize),
 }
 
 impl Refusal {
@@ -90,6 +92,16 @@ impl Refusal {
         Refusal {
             number,
             detail: Detail::Starts(place),
+        }
+    }
+
+    // One that names the entry that is wrong.
+    pub fn naming(number: u8, entry: usize) -> Self
+        ensures { λ r. ⌜ r ≡ naming number entry ⌝ }
+    {
+        Refusal {
+            number,
+            detail: Detail::Entry(entry),
         }
     }
 }

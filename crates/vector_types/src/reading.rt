@@ -6,7 +6,7 @@ ghost use lib.Dec.{ltb, eqb};
 ghost use lib.ListN.{length};
 ghost use Rattle.vector_types.specs.Answers.{acceptedAs, refused, refusal};
 ghost use Rattle.vector_types.specs.Search.{firstIndex};
-ghost use Rattle.vector_types.specs.Layout.{maxBlobLength, maxDims, namedKind, isOutside, hasIndexOutside};
+ghost use Rattle.vector_types.specs.Layout.{maxBlobLength, maxDims, namedKind, isOutside, firstOutside};
 ghost use Rattle.vector_types.specs.Read.{readOf};
 ghost use Rattle.vector_types.specs.declared.VectorType.the-variants.{Float32Sparse, Float1Bit, Float8};
 ghost use Rattle.vector_types.specs.declared.Named.the-variants.{Kind};
@@ -17,6 +17,7 @@ use crate::MAX_DIMS;
 use crate::Mode;
 use crate::Named;
 use crate::ReadAnswer;
+use crate::Refusal;
 use crate::TrailingBits;
 use crate::TrailingBytes;
 use crate::VectorType;
@@ -109,7 +110,7 @@ fn float8(blob: &[u8]) -> ReadAnswer
 }
 
 // The first of the count indices of a sparse body that is not below dims, or count.
-fn first_outside(s: &[u8], count: usize, dims: usize) -> usize
+fn first_index_outside(s: &[u8], count: usize, dims: usize) -> usize
     requires { ⌜ 8 * count ≤ length (now s) ⌝ }
     ensures { λ r. ⌜ r ≡ firstIndex (isOutside (now (s .entry)) count dims) count ⌝ }
 {
@@ -124,19 +125,18 @@ fn first_outside(s: &[u8], count: usize, dims: usize) -> usize
     count
 }
 
-// Whether an index of a sparse body is not below dims; a body of another kind has no index.
-pub fn has_index_outside(kind: VectorType, dims: Dims, body: &[u8]) -> bool
-    ensures { λ r. ⌜ r ≡ hasIndexOutside kind (dims .0) (now (body .entry)) ⌝ }
+// The first entry of a sparse body whose index is not below dims; an eighth of the body's length where
+// there is none, as in every other kind.
+pub fn first_outside(kind: VectorType, dims: Dims, body: &[u8]) -> usize
+    ensures { λ r. ⌜ r ≡ firstOutside kind (dims .0) (now (body .entry)) ⌝ }
 {
+    let count = body.len() / 8;
     match kind {
-        VectorType::Float32Sparse => {
-            let count = body.len() / 8;
-            first_outside(body, count, dims.0) < count
-        }
-        VectorType::Float32Dense => false,
-        VectorType::Float64Dense => false,
-        VectorType::Float1Bit => false,
-        VectorType::Float8 => false,
+        VectorType::Float32Sparse => first_index_outside(body, count, dims.0),
+        VectorType::Float32Dense => count,
+        VectorType::Float64Dense => count,
+        VectorType::Float1Bit => count,
+        VectorType::Float8 => count,
     }
 }
 
@@ -153,8 +153,9 @@ fn sparse(blob: &[u8]) -> ReadAnswer
         return refuse(7);
     }
     let dims = little_endian::u32_at(blob, n - 4) as usize;
-    if first_outside(blob, count, dims) < count {
-        return refuse(8);
+    let outside = first_index_outside(blob, count, dims);
+    if outside < count {
+        return ReadAnswer::Refused(Refusal::naming(8, outside));
     }
     show(VectorType::Float32Sparse, Dims(dims), length)
 }

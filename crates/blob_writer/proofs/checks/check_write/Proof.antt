@@ -1,13 +1,14 @@
 -- Each test is that of the list of refusals.
-use mathlib.Core.Path.{_≡_, sym, ap, _∙_}
-use mathlib.Core.Bool.{false, not, _&&_}
+use mathlib.Core.Path.{_≡_, refl, sym, ap, _∙_}
+use mathlib.Core.Bool.{Bool, true, false, cond, not, _&&_}
 use mathlib.Core.List.{List}
-use Prim.Native.Nat.{ℕ, _+_}
+use Prim.Native.Nat.{ℕ, _+_, _/_, _<_}
 use lib.Dec.{ltb, eqb}
 use lib.ListN.{length}
 use borrow.Author.Tests.{lt-ltb, le-ltb}
-use Rattle.vector_types.specs.Answers.{none, firstGiven}
-use Rattle.vector_types.specs.Layout.{maxBlobLength, maxDims, bodyFits, hasIndexOutside, hasTrailingCount}
+use Rattle.vector_types.specs.Answers.{none, firstGiven, naming}
+use Rattle.vector_types.specs.Search.{firstIndex}
+use Rattle.vector_types.specs.Layout.{maxBlobLength, maxDims, hasByte, bodyFits, isOutside, hasIndexOutside, hasTrailingCount}
 use Rattle.vector_types.specs.declared.VectorType.{VectorType}
 use Rattle.blob_writer.specs.Answers.{writeRefused}
 use Rattle.blob_writer.specs.Write.{blobOf, writeRefusals, writeOf}
@@ -17,6 +18,15 @@ use borrow.Author.Needs.{needs}
 use native.Mathlib.Omega.{arith}
 use Rattle.blob_writer.proofs.checks.check_write.Statement.{statement}
 use Rattle.blob_writer.proofs.checks.check_write.Tie as tie
+
+-- a search that only one kind makes: it finds something exactly if the kind is that one and the search does, and then what the search finds
+found-exactly : (b : Bool) (place n : ℕ) → ltb (cond b place n) n ≡ (b && ltb place n)
+found-exactly true place n = refl
+found-exactly false place n = le-ltb n n (omega arith)
+
+found-place : (b : Bool) (place n : ℕ) → cond b place n < n → cond b place n ≡ place
+found-place true place n h = refl
+found-place false place n h = absurd (omega arith)
 
 -- the places after each test that failed, and the arguments
 abbrev else1 : tie.Else2 → tie.Else1
@@ -58,7 +68,11 @@ short : (c : tie.Else3) → let a = else1 (else2 c) in ltb maxBlobLength (length
 short c = sym (ap (ltb maxBlobLength) (whole (c .before))) ∙ le-ltb _ _ (c .if3 .left)
 
 inside : (c : tie.Else4) → let a = else1 (else2 (else3 c)) in hasIndexOutside (kind a) (dims a) (body a) ≡ false
-inside c = sym (c .before .has-index-outside .ensures) ∙ c .if4 .left
+inside c =
+    let a = else1 (else2 (else3 c)) in
+    let n = length (body a) / 8 in
+    sym (found-exactly (hasByte 9 (kind a)) (firstIndex (isOutside (body a) n (dims a)) n) n)
+    ∙ rw (← c .before .first-outside .ensures) (le-ltb _ _ (c .if4 .left))
 
 elements : (c : tie.Else5) → let a = else1 (else2 (else3 (else4 c))) in (hasTrailingCount (kind a) && eqb (dims a) 0) ≡ false
 elements c = sym (c .before .lacks-elements .ensures) ∙ c .if5 .left
@@ -98,7 +112,14 @@ returns-4 c =
     let outside = c .before .before in
     let three = outside .before in
     let two = else2 three in
-    c .refuse4 .ensures ∙ simp (few (else1 two), fit two, short three, sym (outside .has-index-outside .ensures) ∙ c .before .if4 .taken)
+    let a = else1 two in
+    let n = length (body a) / 8 in
+    let sparse = hasByte 9 (kind a) in
+    let place = firstIndex (isOutside (body a) n (dims a)) n in
+    let found : cond sparse place n < n = rw (← outside .first-outside .ensures) (c .before .if4 .taken) in
+    let test = sym (found-exactly sparse place n) ∙ lt-ltb _ _ found in
+    ap writeRefused (c .naming .ensures ∙ ap (naming 8) (outside .first-outside .ensures ∙ found-place sparse place n found))
+    ∙ simp (few a, fit two, short three, test)
 
 returns-5 : tie.Need-returns-5
 unfolding writeRefusals writeOf
@@ -107,7 +128,7 @@ returns-5 c =
     let four = lacking .before in
     let three = else3 four in
     let two = else2 three in
-    c .refuse5 .ensures
+    c .refuse4 .ensures
     ∙ simp (few (else1 two), fit two, short three, inside four, sym (lacking .lacks-elements .ensures) ∙ c .before .if5 .taken)
 
 returns-6 : tie.Need-returns-6

@@ -1,68 +1,27 @@
--- The loop searches by `Searched`, and stops at the first index that is not below dims.
-use mathlib.Core.Path.{sym, _∙_, ap}
-use Prim.Native.Nat.{_-_}
-use lib.Dec.{leb}
-use borrow.Author.Tests.{le-leb, lt-leb}
-use Rattle.vector_types.specs.Layout.{isOutside}
-use Rattle.vector_types.proofs.Search.{Searched, search-start, search-hit, search-miss, search-end}
+-- By kind: in a sparse body the first index that is not below dims is searched; another has none.
 use borrow.Author.Needs.{needs}
-use native.Mathlib.Omega.{arith}
 use Rattle.vector_types.proofs.reading.first_outside.Statement.{statement}
 use Rattle.vector_types.proofs.reading.first_outside.Tie as tie
 
-abbrev Inv-loop : tie.InvT-loop
-Inv-loop s count dims j₀ j = Searched (isOutside s count dims) count j
+returns : tie.Need-returns
+returns c = rw (c .before .enum-told .given .1, c .first-index-outside .ensures)
 
-abbrev μ-loop : tie.MeasureT-loop
-μ-loop s count dims j₀ j = count - j
+returns-2 : tie.Need-returns-2
+returns-2 c = rw (c .enum-told2 .given .1)
 
-loop-holds : tie.Need-loop-holds Inv-loop μ-loop
-loop-holds c = search-start _ _
+returns-3 : tie.Need-returns-3
+returns-3 c = rw (c .enum-told3 .given .1)
 
-mul-u32-at : tie.Need-mul-u32-at Inv-loop μ-loop
-mul-u32-at c = omega arith
+returns-4 : tie.Need-returns-4
+returns-4 c = rw (c .enum-told4 .given .1)
 
-mul-u32-at-2 : tie.Need-mul-u32-at-2 Inv-loop μ-loop
-mul-u32-at-2 c = omega arith
-
-add-u32-at : tie.Need-add-u32-at Inv-loop μ-loop
-add-u32-at c = omega arith
-
-u32-at-requires : tie.Need-u32-at-requires Inv-loop μ-loop
-u32-at-requires c κs = omega arith
-
-cast-if1 : tie.Need-cast-if1 Inv-loop μ-loop
-cast-if1 c = search needs
-
-returns : tie.Need-returns Inv-loop μ-loop
-returns c = search-hit _ _ _ (c .before .before .before .loop .inv) (c .before .before .loop-test .taken) (ap (leb _) (sym (c .before .u32-at .ensures)) ∙ le-leb _ _ (c .if1 .taken))
-
-add-j : tie.Need-add-j Inv-loop μ-loop
-add-j c = omega arith
-
-loop-less : tie.Need-loop-less Inv-loop μ-loop
-loop-less c = omega arith
-
-loop-again : tie.Need-loop-again Inv-loop μ-loop
-loop-again c = search-miss _ _ _ (c .before .before .before .loop .inv) (c .before .before .loop-test .taken) (ap (leb _) (sym (c .before .u32-at .ensures)) ∙ lt-leb _ _ (c .if1 .left))
-
-returns-2 : tie.Need-returns-2 Inv-loop μ-loop
-returns-2 c = search-end _ _ _ (c .before .loop .inv) (c .loop-test .left)
+returns-5 : tie.Need-returns-5
+returns-5 c = rw (c .enum-told5 .given .1)
 
 pub first-outside-spec : {M : Type 1} → statement M
 first-outside-spec =
     tie.close
     (tie.spec
-    Inv-loop
-    μ-loop
-    loop-holds
-    mul-u32-at
-    mul-u32-at-2
-    add-u32-at
-    u32-at-requires
-    cast-if1
-    returns
-    add-j
-    loop-less
-    loop-again
-    returns-2)
+    (λ c. search needs) (λ c κs. search needs)
+    (λ c. search needs) (λ c. search needs) (λ c. search needs) (λ c. search needs)
+    returns returns-2 returns-3 returns-4 returns-5)

@@ -1,6 +1,7 @@
 -- Each path by the law of sparse blobs, with the tests that were made.
-use mathlib.Core.Path.{refl, sym, _∙_}
+use mathlib.Core.Path.{refl, sym, ap, _∙_}
 use borrow.Author.Tests.{eq-eqb, ne-eqb, lt-ltb, le-ltb}
+use Rattle.vector_types.specs.Answers.{refused}
 use Rattle.vector_types.proofs.ByKind.{read-sparse}
 use Rattle.vector_types.proofs.Ends.{named-typed}
 use Rattle.vector_types.specs.declared.VectorType.the-variants.{Float32Sparse}
@@ -23,9 +24,9 @@ returns-2 c =
     let whole = searched .before .before in
     let start = whole .before .before in
     let dims = sym (searched .before .u32-at .ensures) in
-    c .refuse2 .ensures
+    ap refused (c .naming .ensures)
     ∙ sym (read-sparse _ (start .pre .0) (start .pre .1)
-    ∙ simp (eq-eqb _ _ (whole .if1 .left), dims, sym (searched .first-outside .ensures), lt-ltb _ _ (c .before .if2 .taken)))
+    ∙ simp (eq-eqb _ _ (whole .if1 .left), dims, sym (searched .first-index-outside .ensures), lt-ltb _ _ (c .before .if2 .taken)))
 
 returns-3 : tie.Need-returns-3
 returns-3 c =
@@ -35,7 +36,7 @@ returns-3 c =
     let dims = sym (searched .before .u32-at .ensures) in
     c .show .ensures
     ∙ sym (read-sparse _ (start .pre .0) (start .pre .1)
-    ∙ simp (eq-eqb _ _ (whole .if1 .left), dims, sym (searched .first-outside .ensures), le-ltb _ _ (c .before .if2 .left)))
+    ∙ simp (eq-eqb _ _ (whole .if1 .left), dims, sym (searched .first-index-outside .ensures), le-ltb _ _ (c .before .if2 .left)))
 
 pub sparse-spec : {M : Type 1} → statement M
 sparse-spec =
