@@ -11,7 +11,7 @@ use Rattle.line_stream.specs.inner.Reading.{HoldsPiece}
 use Rattle.line_stream.specs.declared.InputText.{InputText}
 use Rattle.line_stream.proofs.InputRead.{flatten-more}
 use Rattle.vector_types.specs.declared.Detail.{Detail}
-use Rattle.vector_types.specs.declared.Detail.the-variants.{Nothing, Needs, Starts}
+use Rattle.vector_types.specs.declared.Detail.the-variants.{Nothing, Needs, Starts, Entry}
 use Rattle.vecs.specs.Vecs.{vectorAt}
 use Rattle.vecs.specs.declared.VecsAnswer.{VecsAnswer}
 use Rattle.vecs.specs.declared.VecsAnswer.the-variants.{Vector, End, Refused}
@@ -26,6 +26,7 @@ told-anywhere : (last : Bool) (place : ℕ) (d : Detail) → isTold last (detail
 told-anywhere last place Nothing = refl
 told-anywhere last place (Needs n) = refl
 told-anywhere last place (Starts p) = refl
+told-anywhere last place (Entry j) = refl
 
 ends-anywhere : (last : Bool) (place : ℕ) (a : VecsAnswer) → endsListing last (answerAt place a) ≡ endsListing last a
 ends-anywhere last place (Vector v) = refl

@@ -1,14 +1,15 @@
 -- The replies to lines about a probe and two candidates. With | for a tab the lines are
 --     near|D|P|A|B
 -- where D is cos, l2, dot or jac, and P, A and B are blobs in lower-case hexadecimal. The replies are
---     N|1|F    N|2|F    R|number|p
--- where F is the pattern of the nearer one's distance in sixteen digits, and p, a, b or - is the blob that a refusal is about.
+--     N|1|F    N|2|F    R|number|p    R|number|p|E
+-- where F is the pattern of the nearer one's distance in sixteen digits, p, a, b or - is the blob that a refusal is about, and E is the entry
+-- that is wrong.
 use Prim.Native.Nat.{ℕ}
 use mathlib.Core.List.{List}
 use Rattle.lines.specs.Text.{word}
 use Rattle.lines.specs.Fields.{malformed, fromHex}
 use Rattle.distance.specs.declared.Distance.{Distance}
-use Rattle.nearer.specs.Nearer.{nearerNumber, nearerOf}
+use Rattle.nearer.specs.Nearer.{nearerOf}
 use Rattle.nearer.specs.declared.Candidate.{Candidate}
 use Rattle.nearer.specs.declared.Candidate.the-variants.{First, Second}
 use Rattle.nearer.specs.declared.Among.{Among}
@@ -31,7 +32,7 @@ amongName Neither = word "-"
 
 unfoldable pub nearerText : NearerAnswer → List ℕ
 nearerText (Nearer n) = valueText (candidateMark (n .candidate)) (n .distance)
-nearerText (Refused r w) = namedRefusalText (nearerNumber (Refused r w)) (amongName w)
+nearerText (Refused r w) = namedRefusalText r (amongName w)
 
 -- the reply for the probe p and the blobs that A and B are
 abbrev pub candidatesText : Distance → List ℕ → List ℕ → List ℕ → List ℕ

@@ -31,10 +31,10 @@ fn put_nearer(answer: NearerAnswer, out: &mut [u8]) -> usize
             }
         }
         NearerAnswer::Refused(refusal, among) => match among {
-            Among::Probe => put_named_refusal(refusal.number, b"p", out),
-            Among::First => put_named_refusal(refusal.number, b"a", out),
-            Among::Second => put_named_refusal(refusal.number, b"b", out),
-            Among::Neither => put_named_refusal(refusal.number, b"-", out),
+            Among::Probe => put_named_refusal(refusal, b"p", out),
+            Among::First => put_named_refusal(refusal, b"a", out),
+            Among::Second => put_named_refusal(refusal, b"b", out),
+            Among::Neither => put_named_refusal(refusal, b"-", out),
         },
     }
 }

@@ -4,8 +4,12 @@ use mathlib.Core.List.{List}
 use denote.Ref.{now}
 use Rattle.promises.specs.Determined.{Determined}
 use Rattle.promises.proofs.Puts.{puts-determined}
+use Rattle.reply_texts.proofs.put_detail.Reads as put-detail
 use Rattle.reply_texts.proofs.put_refusal.Reads as put-refusal
 use Rattle.reply_texts.proofs.put_shown.Reads as put-shown
+
+pub put-detail-determined : (κs : _) (a : _) → Determined {Y = ℕ × List ℕ} (put-detail.Post κs a) (λ r x. (r, now (x .1 .0)))
+put-detail-determined κs a r r′ x x′ p q = puts-determined (p .0) (q .0)
 
 pub put-refusal-determined : (κs : _) (a : _) → Determined {Y = ℕ × List ℕ} (put-refusal.Post κs a) (λ r x. (r, now (x .1 .0)))
 put-refusal-determined κs a r r′ x x′ p q = puts-determined p q

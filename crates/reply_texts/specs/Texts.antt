@@ -1,6 +1,7 @@
 -- The parts that replies of several crates share. With | for a tab
 --     R|number    R|number|N
--- are refusals, where N is what a refusal carries: the bytes that a buffer would have to have, or the place where a vector starts. And
+-- are refusals, where N is what a refusal carries: the bytes that a buffer would have to have, the place where a vector starts, or the entry
+-- that is wrong. And
 --     M|N|N|H
 -- shows a vector: a mark, two numbers, and bytes in hexadecimal.
 use Prim.Native.Nat.{ℕ}
@@ -11,7 +12,7 @@ use Rattle.lines.specs.Printed.{headOf}
 use Rattle.lines.specs.Decimal.{decimalOf}
 use Rattle.vector_types.specs.declared.Refusal.{Refusal}
 use Rattle.vector_types.specs.declared.Detail.{Detail}
-use Rattle.vector_types.specs.declared.Detail.the-variants.{Nothing, Needs, Starts}
+use Rattle.vector_types.specs.declared.Detail.the-variants.{Nothing, Needs, Starts, Entry}
 
 -- a number after a mark
 abbrev pub markedText : List ℕ → ℕ → List ℕ
@@ -22,6 +23,7 @@ unfoldable pub detailText : Detail → List ℕ
 detailText Nothing = []
 detailText (Needs need) = markedText (word "\t") need
 detailText (Starts place) = markedText (word "\t") place
+detailText (Entry entry) = markedText (word "\t") entry
 
 abbrev pub refusalText : Refusal → List ℕ
 refusalText r = markedText (word "R\t") (r .number) ++ detailText (r .detail)

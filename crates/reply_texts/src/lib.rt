@@ -22,7 +22,7 @@ fn put_marked(mark: &[u8], number: u64, out: &mut [u8]) -> usize
 }
 
 // Puts what a refusal carries at the start of out: a tab and a number, or nothing.
-fn put_detail(detail: Detail, out: &mut [u8]) -> usize
+pub fn put_detail(detail: Detail, out: &mut [u8]) -> usize
     requires { ⌜ 21 ≤ length (now out) ⌝ }
     ensures { λ r. ⌜ Puts (detailText detail) (now (out .entry)) r (now (out .exit)) ⌝ }
     ensures { λ r. ⌜ r ≤ 22 ⌝ }
@@ -31,6 +31,7 @@ fn put_detail(detail: Detail, out: &mut [u8]) -> usize
         Detail::Nothing => 0,
         Detail::Needs(need) => put_marked(b"\t", need as u64, out),
         Detail::Starts(place) => put_marked(b"\t", place as u64, out),
+        Detail::Entry(entry) => put_marked(b"\t", entry as u64, out),
     }
 }
 

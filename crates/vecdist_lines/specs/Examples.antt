@@ -30,6 +30,8 @@ table =
     ∷ example "l2\t0000000000000000\t0000404000008040" "D\t4014000000000000"
     ∷ example "jac\taa0803\tab0803" "D\t3fc9999999999998"
     ∷ example "cos\t\t05" "R\t2\tb"
+    ∷ example "cos\t0000803f0000803f01000000050000000200000009\t0200000009" "R\t8\ta\t1"
+    ∷ example "cos\t0200000009\t0000803f0000803f01000000050000000200000009" "R\t8\tb\t1"
     ∷ example "cos\t\t0000803f" "R\t12\t-"
     ∷ example "dot\t0000803f\t000000000000f03f02" "R\t13\t-"
     -- upper case, a carriage return, a space, an odd digit, a tab too few and one too many, no text

@@ -5,6 +5,6 @@ use Prim.Native.Nat.{ℕ}
 abbrev pub vecdistLimit : ℕ
 vecdistLimit = 32768
 
--- room for any reply
+-- room for any reply: R and a tab, a number of at most twenty digits and a tab, a letter, and a tab and a number
 abbrev pub vecdistRoom : ℕ
-vecdistRoom = 32
+vecdistRoom = 45

@@ -1,7 +1,8 @@
 -- What vecdist replies to a line. With | for a tab, a line is
 --     D|A|B
 -- where D is cos, l2, dot or jac, and A and B are blobs in lower-case hexadecimal. The reply is D| and the pattern of the distance
--- in sixteen digits, or R|, the number of a refusal, and a, b or - for the blob that it is about. The reply to any other line is X.
+-- in sixteen digits, or R|, the number of a refusal, a, b or - for the blob that it is about, and after another tab the entry that is wrong,
+-- if the refusal names one. The reply to any other line is X.
 use Prim.Native.Nat.{ℕ}
 use mathlib.Core.List.{List, [], _∷_, _++_}
 use lib.Ieee.{Float, binary64, toBits}
@@ -10,7 +11,9 @@ use Rattle.lines.specs.Text.{word}
 use Rattle.lines.specs.Printed.{headOf}
 use Rattle.lines.specs.Parts.{fieldsOf}
 use Rattle.lines.specs.Fields.{malformed, exactly, firstNamed, fromHex}
-use Rattle.distance.specs.Answer.{distanceNumber, distanceOf}
+use Rattle.reply_texts.specs.Texts.{detailText}
+use Rattle.distance.specs.Answer.{distanceOf}
+use Rattle.vector_types.specs.declared.Refusal.{Refusal}
 use Rattle.distance.specs.declared.Distance.the-variants.{Cos, L2, Dot, Jaccard}
 use Rattle.distance.specs.declared.Which.{Which}
 use Rattle.distance.specs.declared.Which.the-variants.{First, Second, Neither}
@@ -26,12 +29,12 @@ distanceWords = (word "cos", Known Cos) ∷ (word "l2", Known L2) ∷ (word "dot
 unfoldable pub askedOf : List ℕ → Asked
 askedOf field = firstNamed distanceWords Unknown field
 
--- a distance after a mark, and a refusal with the name of the blob that it is about
+-- a distance after a mark, and a refusal with the name of the blob that it is about and what it carries
 abbrev pub valueText : List ℕ → Float → List ℕ
 valueText mark x = mark ++ digits 16 16 (toBits binary64 x)
 
-abbrev pub namedRefusalText : ℕ → List ℕ → List ℕ
-namedRefusalText n name = word "R\t" ++ (headOf n ++ name)
+abbrev pub namedRefusalText : Refusal → List ℕ → List ℕ
+namedRefusalText r name = ((word "R\t" ++ headOf (r .number)) ++ name) ++ detailText (r .detail)
 
 abbrev pub whichName : Which → List ℕ
 whichName First = word "a"
@@ -39,8 +42,9 @@ whichName Second = word "b"
 whichName Neither = word "-"
 
 unfoldable pub distanceText : DistanceAnswer → List ℕ
+unfolding detailText
 distanceText (Measured x) = valueText (word "D\t") x
-distanceText (Refused r w) = namedRefusalText (distanceNumber (Refused r w)) (whichName w)
+distanceText (Refused r w) = namedRefusalText r (whichName w)
 
 -- the reply for the blobs that A and B are, where D names a distance
 abbrev pub distanceFoundReply : Asked → List ℕ → List ℕ → List ℕ

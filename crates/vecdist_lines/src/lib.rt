@@ -10,12 +10,14 @@ use distance::DistanceAnswer;
 use distance::Which;
 use lines::text::put_malformed;
 use lines::text::word_place;
+use reply_texts::put_detail;
+use vector_types::Refusal;
 
 // As many bytes as a line may have before its newline.
 pub const LIMIT: usize = 32768;
 
 // Room for any reply.
-pub const ROOM: usize = 32;
+pub const ROOM: usize = 45;
 
 // The distance that a field names, if any.
 pub enum Asked {
@@ -46,15 +48,18 @@ pub fn put_value(mark: &[u8], x: f64, out: &mut [u8]) -> usize
     head + lines::hex::put_hex(16, little_endian::bits64(x), &mut out[head..])
 }
 
-// Puts R, the number of a refusal, and the name of the blob that it is about, separated by tabs.
-pub fn put_named_refusal(number: u8, name: &[u8], out: &mut [u8]) -> usize
+// Puts R, the number of a refusal, the name of the blob that it is about, and what it carries, separated
+// by tabs.
+pub fn put_named_refusal(refusal: Refusal, name: &[u8], out: &mut [u8]) -> usize
     requires { ⌜ length (now name) ≡ 1 ⌝ }
     requires { ⌜ vecdistRoom ≤ length (now out) ⌝ }
-    ensures { λ r. ⌜ Puts (namedRefusalText number (now (name .entry))) (now (out .entry)) r (now (out .exit)) ⌝ }
+    ensures { λ r. ⌜ Puts (namedRefusalText refusal (now (name .entry))) (now (out .entry)) r (now (out .exit)) ⌝ }
 {
     let head = bytes::copy(b"R\t", out);
-    let end = head + lines::text::put_head(number as u64, &mut out[head..]);
-    end + bytes::copy(name, &mut out[end..])
+    let end = head + lines::text::put_head(refusal.number as u64, &mut out[head..]);
+    let named = end + bytes::copy(name, &mut out[end..]);
+    let detail = refusal.detail;
+    named + put_detail(detail, &mut out[named..])
 }
 
 // Puts an answer at the start of out.
@@ -65,9 +70,9 @@ fn put_answer(answer: DistanceAnswer, out: &mut [u8]) -> usize
     match answer {
         DistanceAnswer::Measured(x) => put_value(b"D\t", x, out),
         DistanceAnswer::Refused(refusal, which) => match which {
-            Which::First => put_named_refusal(refusal.number, b"a", out),
-            Which::Second => put_named_refusal(refusal.number, b"b", out),
-            Which::Neither => put_named_refusal(refusal.number, b"-", out),
+            Which::First => put_named_refusal(refusal, b"a", out),
+            Which::Second => put_named_refusal(refusal, b"b", out),
+            Which::Neither => put_named_refusal(refusal, b"-", out),
         },
     }
 }

@@ -5,11 +5,12 @@ use mathlib.Core.List.{[]}
 use Prim.Native.Nat.{ℕ}
 use Rattle.vector_types.specs.Answers.{starting}
 use Rattle.vector_types.specs.declared.Refusal.{Refusal}
-use Rattle.vector_types.specs.declared.Detail.the-variants.{Nothing, Needs, Starts}
+use Rattle.vector_types.specs.declared.Detail.{Detail}
+use Rattle.vector_types.specs.declared.Detail.the-variants.{Starts}
 use Rattle.lines.specs.Printed.{numberedReply}
 use Rattle.reply_texts.specs.Texts.{refusalText}
 use Rattle.vecs.specs.Vecs.{vecsRefused}
-use Rattle.vecs_lines.specs.inner.Cut.{answerAt, toldLine}
+use Rattle.vecs_lines.specs.inner.Cut.{detailAt, answerAt, isTold, toldLine}
 
 module _ (last : Bool) (n place : ℕ) (r : Refusal) where
   pub told-place : {p : ℕ} {s : Refusal} → r .detail ≡ Starts p → last ≡ true → s ≡ starting (r .number) place → toldLine last n (answerAt place (vecsRefused r)) ≡ numberedReply n (refusalText s)
@@ -18,8 +19,6 @@ module _ (last : Bool) (n place : ℕ) (r : Refusal) where
   pub told-later : {p : ℕ} → r .detail ≡ Starts p → last ≡ false → toldLine last n (answerAt place (vecsRefused r)) ≡ []
   told-later e later = rw (e, later)
 
-  pub told-nothing : r .detail ≡ Nothing → toldLine last n (answerAt place (vecsRefused r)) ≡ numberedReply n (refusalText r)
-  told-nothing e = rw e
-
-  pub told-need : {m : ℕ} → r .detail ≡ Needs m → toldLine last n (answerAt place (vecsRefused r)) ≡ numberedReply n (refusalText r)
-  told-need e = rw e
+  -- one that carries no place
+  pub told-as-is : {d : Detail} → r .detail ≡ d → detailAt place d ≡ d → isTold last d ≡ true → toldLine last n (answerAt place (vecsRefused r)) ≡ numberedReply n (refusalText r)
+  told-as-is e kept told = rw (e, kept, told)

@@ -124,6 +124,7 @@ fn put_told(refusal: Refusal, last: bool, place: usize, number: u64, out: &mut [
         }
         Detail::Needs(_) => put_refusal_line(number, refusal, out),
         Detail::Nothing => put_refusal_line(number, refusal, out),
+        Detail::Entry(_) => put_refusal_line(number, refusal, out),
     }
 }
 

@@ -18,7 +18,7 @@ nearest : {x : NearerAnswer} {n : Near} {c : Candidate} → x ≡ Nearer n → n
 unfolding nearerText
 nearest {n = n} e f = ap (λ (k : Candidate). valueText (candidateMark k) (n .distance)) (sym f) ∙ ap nearerText (sym e)
 
-refused : {x : NearerAnswer} {r : Refusal} {w v : Among} → x ≡ Refused r w → w ≡ v → namedRefusalText (r .number) (amongName v) ≡ nearerText x
+refused : {x : NearerAnswer} {r : Refusal} {w v : Among} → x ≡ Refused r w → w ≡ v → namedRefusalText r (amongName v) ≡ nearerText x
 unfolding nearerText
 refused e f = rw (e, f)
 

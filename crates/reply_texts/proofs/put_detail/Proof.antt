@@ -24,10 +24,17 @@ returns-3 c =
     let arm = put .before .before .before .before in
     rw (arm .detail2 .given .1) (put .put-marked2 .ensures)
 
+returns-4 : tie.Need-returns-4
+unfolding detailText
+returns-4 c =
+    let put = c .before .before in
+    let arm = put .before .before .before .before in
+    rw (arm .detail3 .given .1) (put .put-marked3 .ensures)
+
 pub put-detail-spec : {M : Type 1} → statement M
 put-detail-spec =
     tie.close
     (tie.spec
     (λ c. search needs) (λ c. search needs) (λ c. search needs) (λ c κs. search needs) (λ c. search needs)
-    (λ c. search needs) (λ c κs. search needs) returns (λ c. search needs) returns-2 (λ c. search needs)
-    returns-3)
+    (λ c. search needs) (λ c κs. search needs) (λ c. search needs) (λ c. search needs) (λ c κs. search needs)
+    returns (λ c. search needs) returns-2 (λ c. search needs) returns-3 (λ c. search needs) returns-4)

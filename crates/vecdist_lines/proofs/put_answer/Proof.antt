@@ -15,7 +15,7 @@ unfolding distanceText
 returns c = rw (c .before .before .before .before .before .before .answer .given .1) (c .before .before .put-value .ensures)
 
 -- what is put of a refusal that is about the blob v
-refused : {x : DistanceAnswer} {r : Refusal} {w v : Which} → x ≡ Refused r w → w ≡ v → namedRefusalText (r .number) (whichName v) ≡ distanceText x
+refused : {x : DistanceAnswer} {r : Refusal} {w v : Which} → x ≡ Refused r w → w ≡ v → namedRefusalText r (whichName v) ≡ distanceText x
 unfolding distanceText
 refused e f = rw (e, f)
 

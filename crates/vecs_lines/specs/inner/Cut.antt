@@ -8,7 +8,7 @@ use lib.ListN.{length, take, drop}
 use Rattle.promises.specs.Puts.{Puts}
 use Rattle.little_endian.specs.Bytes.{u32At}
 use Rattle.vector_types.specs.declared.Detail.{Detail}
-use Rattle.vector_types.specs.declared.Detail.the-variants.{Nothing, Needs, Starts}
+use Rattle.vector_types.specs.declared.Detail.the-variants.{Nothing, Needs, Starts, Entry}
 use Rattle.vecs.specs.Vecs.{vectorAt}
 use Rattle.vecs.specs.declared.VecsAnswer.{VecsAnswer}
 use Rattle.vecs.specs.declared.VecsAnswer.the-variants.{Vector, End, Refused}
@@ -64,6 +64,7 @@ abbrev pub detailAt : ℕ → Detail → Detail
 detailAt place Nothing = Nothing
 detailAt place (Needs n) = Needs n
 detailAt place (Starts p) = Starts place
+detailAt place (Entry j) = Entry j
 
 abbrev pub answerAt : ℕ → VecsAnswer → VecsAnswer
 answerAt place (Vector v) = Vector (record { dims = v .dims; start = place + v .start; next = place + v .next })
@@ -75,6 +76,7 @@ abbrev pub isTold : Bool → Detail → Bool
 isTold last Nothing = true
 isTold last (Needs n) = true
 isTold last (Starts place) = last
+isTold last (Entry j) = true
 
 abbrev pub endsListing : Bool → VecsAnswer → Bool
 endsListing last (Vector v) = false
