@@ -114,7 +114,7 @@ struct fulandewu_answer {
     uint64_t needed; /* how long a buffer has to be that is too short, in bytes; append: after the fill */
     uint64_t which;  /* an enum fulandewu_which: the blob that a refusal is about */
     uint64_t nearer; /* FULANDEWU_FIRST or FULANDEWU_SECOND: the nearer candidate */
-    uint64_t entry;
+    uint64_t entry;  /* of a sparse vector, counted from 0: the first whose index is not below dims */
     uint64_t readings;
     uint64_t other_readings;
     uint64_t start; /* of a vector in a file: where its elements start */
@@ -134,14 +134,14 @@ typedef char fulandewu_lengths_have_8_bytes[sizeof(size_t) == 8 ? 1 : -1];
  * first `length` bytes of the caller's own blob. A sparse body is its values (f32) in the first half and
  * its indices (u32) in the second; numbers are little-endian. Both modes show the same of a blob that
  * both accept.
- * An answer writes `kind`, `dims` and `length`, a refusal nothing.
+ * An answer writes `kind`, `dims` and `length`, refusal 8 `entry`, another refusal nothing.
  * Refusals: plain 1 to 9, strict 1 to 11, in that order. */
 uint32_t fulandewu_read(uint8_t mode, const uint8_t *blob, size_t blob_length, struct fulandewu_answer *answer);
 
 /* Writes the blob of a kind, dims and body (a sparse body: values, then indices, without dims) to the
  * first `length` bytes of `out`, and changes no byte past them. It reads back plainly as the same kind,
  * dims and body. `out` may have length 0, to ask how long it has to be.
- * An answer writes `length`, refusal 15 `needed`, another refusal nothing.
+ * An answer writes `length`, refusal 8 `entry`, refusal 15 `needed`, another refusal nothing.
  * Refusals: 2 or 3 where `kind` names no kind, then 9, 7, 1, 8, 16, 15, in that order. */
 uint32_t fulandewu_write(uint8_t kind, size_t dims, const uint8_t *body, size_t body_length,
                          uint8_t *out, size_t out_length, struct fulandewu_answer *answer);
@@ -150,8 +150,8 @@ uint32_t fulandewu_write(uint8_t kind, size_t dims, const uint8_t *body, size_t 
  * it) goes to the first `length` bytes of `out`, and no byte past them changes. `scratch` is used only
  * from sparse to 1-bit or Float8: 4 * dims bytes, where the dense body is left; else it may have
  * length 0.
- * An answer writes `dims` and `length`, refusals 17 (of `scratch`) and 15 (of `out`) write `needed`,
- * another refusal nothing.
+ * An answer writes `dims` and `length`, refusal 8 `entry`, refusals 17 (of `scratch`) and 15 (of `out`)
+ * write `needed`, another refusal nothing.
  * Refusals: 2 or 3 where `kind` names no kind, then the reader's 1 to 9, then 17, 15. */
 uint32_t fulandewu_convert(const uint8_t *blob, size_t blob_length, uint8_t kind,
                            uint8_t *scratch, size_t scratch_length, uint8_t *out, size_t out_length,
@@ -160,7 +160,7 @@ uint32_t fulandewu_convert(const uint8_t *blob, size_t blob_length, uint8_t kind
 /* The distance of two blobs. Dot is the negated dot product; cosine of 1-bit vectors is the count of
  * differing bits.
  * An answer writes `distance`, which may be NaN; a refusal writes `which`: FULANDEWU_FIRST or
- * FULANDEWU_SECOND, from 12 on FULANDEWU_NEITHER.
+ * FULANDEWU_SECOND, from 12 on FULANDEWU_NEITHER; refusal 8 writes `entry` too.
  * Refusals: the reader's 1 to 9 of the first blob, then of the second; 12, 13; L2 of 1-bit vectors:
  * 14. */
 uint32_t fulandewu_distance_cos(const uint8_t *first, size_t first_length,
@@ -179,7 +179,8 @@ uint32_t fulandewu_distance_jaccard(const uint8_t *first, size_t first_length,
 /* The nearer of two candidates to a probe, which is the first vector of each pair. A tie (0.0 against
  * -0.0 too) gives the first, and NaN loses to all else.
  * An answer writes `nearer` and `distance`, which is never NaN; a refusal writes `which`:
- * FULANDEWU_PROBE, FULANDEWU_FIRST or FULANDEWU_SECOND, from 12 on FULANDEWU_NEITHER.
+ * FULANDEWU_PROBE, FULANDEWU_FIRST or FULANDEWU_SECOND, from 12 on FULANDEWU_NEITHER; refusal 8 writes
+ * `entry` too.
  * Refusals: the reader's 1 to 9 of the probe, the first and the second; 12, 13 of the first pair, then
  * of the second; 14; 18. */
 uint32_t fulandewu_nearer_cos(const uint8_t *probe, size_t probe_length,
@@ -227,7 +228,7 @@ uint32_t fulandewu_bvecs_read(const uint8_t *file, size_t file_length, size_t pl
  * changes. Start with `fill` 0 and go on with each `fill` that is answered: the first so many bytes of
  * `out` are then a file that shows the bodies in order. A `fill` past the end of `out` counts as no room.
  * An answer writes `fill`, the new one. Refusal 15 writes `needed`: how many bytes there have to be after
- * the fill, not how long `out` has to be. Another refusal writes nothing.
+ * the fill, not how long `out` has to be. Refusal 8 writes `entry`, another refusal nothing.
  * Refusals: the reader's 1 to 9, then 13, 15. */
 uint32_t fulandewu_fvecs_append(const uint8_t *blob, size_t blob_length, uint8_t *out, size_t out_length,
                                 size_t fill, struct fulandewu_answer *answer);

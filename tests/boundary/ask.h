@@ -17,7 +17,7 @@ extern const char *const EXPORT_NAMES[EXPORTS];
 
 /* The fields of `struct fulandewu_answer` by their places; the others are never written. */
 enum field {
-    DISTANCE, KIND, DIMS, LENGTH, NEEDED, WHICH, NEARER,
+    DISTANCE, KIND, DIMS, LENGTH, NEEDED, WHICH, NEARER, ENTRY,
     START = 10, NEXT, PLACE, FOUND, FILL,
     FIELDS = 32
 };

@@ -23,17 +23,25 @@ static const uint8_t LONGER[] = {0, 0, 0x70, 0x42, 0, 0, 0xa0, 0x42, 0, 0, 0xa0,
 
 #define BYTES(array) ((struct bytes){array, sizeof array})
 
-/* A blob refused by each of the reader's numbers but 1. */
+/* A blob refused by each of the reader's numbers but 1; in that of 8, entry 1 is wrong. */
 static const uint8_t REFUSED_2[] = {5}, REFUSED_3[] = {7}, REFUSED_4[] = {3}, REFUSED_5[] = {0xaa, 0x11, 3},
                      REFUSED_6[] = {0xaa, 7, 3}, REFUSED_7[] = {0xaa, 0x10, 3},
-                     REFUSED_8[] = {0, 0, 0x80, 0x3f, 2, 0, 0, 0, 2, 0, 0, 0, 9}, REFUSED_9[] = {1, 0, 1, 0, 9};
+                     REFUSED_8[] = {0, 0, 0x80, 0x3f, 0, 0, 0x80, 0x3f, 1, 0, 0, 0, 5, 0, 0, 0, 2, 0, 0, 0, 9},
+                     REFUSED_9[] = {1, 0, 1, 0, 9};
 static const struct bytes REFUSED[10] = {
     {NULL, 0},         {zeros, TOO_LONG}, {REFUSED_2, 1}, {REFUSED_3, 1},  {REFUSED_4, 1},
-    {REFUSED_5, 3},    {REFUSED_6, 3},    {REFUSED_7, 3}, {REFUSED_8, 13}, {REFUSED_9, 5},
+    {REFUSED_5, 3},    {REFUSED_6, 3},    {REFUSED_7, 3}, {REFUSED_8, 21}, {REFUSED_9, 5},
 };
 
-static void expect_which(struct request request, uint32_t refusal, uint64_t which) {
+/* A refusal, of which 8 names entry 1. */
+static struct answer expect_refused(struct request request, uint32_t refusal) {
     struct answer a = expect(request, refusal);
+    if (refusal == FULANDEWU_INDEX_NOT_BELOW_DIMS) expect_field(&a, ENTRY, 1);
+    return a;
+}
+
+static void expect_which(struct request request, uint32_t refusal, uint64_t which) {
+    struct answer a = expect_refused(request, refusal);
     expect_field(&a, WHICH, which);
 }
 
@@ -53,9 +61,9 @@ static void reader_refusals(void) {
         struct bytes bad = REFUSED[n];
         struct request convert = {.export = CONVERT, .bytes = {bad}, .kind = FULANDEWU_FLOAT32_DENSE};
         struct request append = {.export = FVECS_APPEND, .bytes = {bad}, .out = ROOM};
-        for (unsigned mode = 0; mode <= 2; mode++) expect(reading(mode, bad), n);
-        expect(convert, n);
-        expect(append, n);
+        for (unsigned mode = 0; mode <= 2; mode++) expect_refused(reading(mode, bad), n);
+        expect_refused(convert, n);
+        expect_refused(append, n);
         for (enum export e = DISTANCE_COS; e <= DISTANCE_JACCARD; e++) {
             expect_which(on(e, bad, good, REFUSED[0]), n, FULANDEWU_FIRST);
             expect_which(on(e, good, bad, REFUSED[0]), n, FULANDEWU_SECOND);
@@ -120,7 +128,7 @@ static void kind_bytes(void) {
 
 /* What the writer refuses, each tested before the next. */
 static void writer_refusals(void) {
-    static const uint8_t stray[] = {0, 0, 0x80, 0x3f, 2, 0, 0, 0};
+    static const uint8_t stray[] = {0, 0, 0x80, 0x3f, 0, 0, 0x80, 0x3f, 1, 0, 0, 0, 2, 0, 0, 0};
     const struct bytes empty = {zeros, 0}, odd = {zeros, 3}, endless = {zeros, 8 * 65537}, eight = {zeros, 8};
     struct request r = {.export = WRITE, .kind = FULANDEWU_FLOAT32_SPARSE, .dims = 65537, .bytes = {odd}};
     now_from = "what the writer refuses";
@@ -132,7 +140,7 @@ static void writer_refusals(void) {
     expect(r, FULANDEWU_LENGTH_OVER_LIMIT);
     r.bytes[0] = BYTES(stray);
     r.dims = 2;
-    expect(r, FULANDEWU_INDEX_NOT_BELOW_DIMS);
+    expect_refused(r, FULANDEWU_INDEX_NOT_BELOW_DIMS);
     r = (struct request){.export = WRITE, .kind = FULANDEWU_FLOAT1BIT, .bytes = {empty}};
     expect(r, FULANDEWU_WRITER_DIMS_0);
     r = (struct request){.export = WRITE, .kind = FULANDEWU_FLOAT8, .bytes = {eight}};

@@ -90,23 +90,22 @@ static void answer_view(char letter, uint64_t kind, uint64_t dims, struct bytes 
     answer_hex(body);
 }
 
-/* A refusal, and the blob that it is about where there are several. */
+static void answer_further(uint64_t number) {
+    char text[32];
+    snprintf(text, sizeof text, "\t%llu", (unsigned long long)number);
+    answer_text(text);
+}
+
+/* A refusal, the blob that it is about where there are several, and what it carries. */
 static void answer_refusal(const struct answer *a, const char *which) {
     char text[32];
     if (a->field[WHICH] > FULANDEWU_PROBE) fail("which is no blob");
     snprintf(text, sizeof text, which ? "R\t%u\t%c" : "R\t%u", (unsigned)a->refusal,
              which ? which[a->field[WHICH]] : 0);
     answer_text(text);
-}
-
-/* A refusal about a file of vectors, with what it carries. */
-static void answer_file_refusal(const struct answer *a) {
-    char text[32];
-    answer_refusal(a, NULL);
-    if (a->refusal != FULANDEWU_FILE_ENDS_INSIDE && a->refusal != FULANDEWU_OUTPUT_TOO_SHORT) return;
-    snprintf(text, sizeof text, "\t%llu",
-             (unsigned long long)a->field[a->refusal == FULANDEWU_OUTPUT_TOO_SHORT ? NEEDED : PLACE]);
-    answer_text(text);
+    if (a->refusal == FULANDEWU_INDEX_NOT_BELOW_DIMS) answer_further(a->field[ENTRY]);
+    if (a->refusal == FULANDEWU_OUTPUT_TOO_SHORT) answer_further(a->field[NEEDED]);
+    if (a->refusal == FULANDEWU_FILE_ENDS_INSIDE) answer_further(a->field[PLACE]);
 }
 
 static void replay_read(enum fulandewu_mode mode, struct text *part) {
@@ -226,7 +225,7 @@ static void replay_vector(enum export export, struct text *part) {
     struct request r = {.export = export, .bytes = {unhex(part[2], file)}, .place = decimal(part[1])};
     struct answer a = ask_for_room(&r);
     if (a.refusal) {
-        answer_file_refusal(&a);
+        answer_refusal(&a, NULL);
         return;
     }
     if (a.field[FOUND] == 0) {
@@ -251,7 +250,7 @@ static void replay_append(struct text *part) {
     r.fill = decimal(part[1]);
     struct answer a = ask(r);
     if (a.refusal) {
-        answer_file_refusal(&a);
+        answer_refusal(&a, NULL);
         return;
     }
     memcpy(buffer + r.fill, a.out.at, a.out.length);

@@ -32,7 +32,11 @@ uint32_t __wrap_fulandewu_read(READ_ARGUMENTS) {
     if (wrong("length_not_written") && refusal == 0) memset(&answer->length, 0xa5, 8);
     if (wrong("length_for_dims") && refusal == 0) answer->dims = answer->length;
     if (wrong("all_fields_cleared") && refusal == 0) memset(&answer->needed, 0, 8 * 28);
-    if (wrong("the_first_reserved_field")) answer->entry = 0;
+    if (wrong("entry_on_another_refusal") && refusal && refusal != 8) answer->entry = 0;
+    if (wrong("entry_on_an_answer") && refusal == 0) answer->entry = 0;
+    if (wrong("entry_0") && refusal == 8) answer->entry = 0;
+    if (wrong("a_byte_offset_as_entry") && refusal == 8) answer->entry *= 4;
+    if (wrong("the_first_reserved_field")) answer->readings = 0;
     if (wrong("the_last_reserved_field")) answer->reserved[16] = 0;
     if (wrong("a_33rd_field")) ((volatile uint64_t *)answer)[32] = 0;
     if (wrong("a_field_before")) ((volatile uint64_t *)answer)[-1] = 0;
@@ -49,6 +53,7 @@ uint32_t __wrap_fulandewu_write(WRITE_ARGUMENTS) {
     if (wrong("a_byte_past_the_blob") && refusal == 0 && answer->length < room) out[answer->length] = 0;
     if (wrong("a_byte_past_the_buffer") && refusal == 0) out[room] = 0;
     if (wrong("a_byte_on_a_refusal") && refusal && room > 0) out[0] = 0;
+    if (wrong("the_writer_counts_from_1") && refusal == 8) answer->entry += 1;
     if (wrong("needs_one_more") && refusal == 15) answer->needed += 1;
     if (wrong("needed_on_an_answer") && refusal == 0) answer->needed = 0;
     if (wrong("needed_as_length") && refusal == 15) answer->length = answer->needed;
@@ -76,6 +81,7 @@ uint32_t __wrap_fulandewu_distance_cos(DISTANCE_ARGUMENTS) {
     uint32_t refusal = __real_fulandewu_distance_cos(first, n, second, m, answer);
     if (wrong("which_on_an_answer") && refusal == 0) answer->which = 0;
     if (wrong("which_not_written") && refusal) memset(&answer->which, 0xa5, 8);
+    if (wrong("entry_not_written") && refusal == 8) memset(&answer->entry, 0xa5, 8);
     if (wrong("zero_on_a_refusal") && refusal) answer->distance = 0;
     if (wrong("another_nan") && refusal == 0) change_nan(&answer->distance);
     if (wrong("another_nan_on_a_refusal") && refusal) change_nan(&answer->distance);

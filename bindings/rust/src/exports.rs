@@ -11,9 +11,8 @@ pub struct Answer {
     pub needed: u64,
     pub which: u64,
     pub nearer: u64,
+    pub entry: u64,
     /// For later exports, as `reserved` below.
-    #[allow(dead_code)]
-    entry: u64,
     #[allow(dead_code)]
     readings: u64,
     #[allow(dead_code)]

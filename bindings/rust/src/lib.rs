@@ -77,18 +77,20 @@ pub enum Distance {
     Jaccard,
 }
 
-/// Nothing for an answer, else the refusal with the need or the place that it carries.
+/// Nothing for an answer, else the refusal with the entry, the need or the place that it carries.
 fn answered(number: u32, answer: &Answer) -> Result<(), Refusal> {
     match Refusal::numbered(number) {
         None => Ok(()),
         Some(refusal) => Err(refusal
+            .naming(answer.entry as usize)
             .needing(answer.needed as usize)
             .starting(answer.place as usize)),
     }
 }
 
-/// Reads a blob in a mode. Refusals: 1 to 9, and of [`Mode::Strict`] 10 and 11, in that order. Both modes
-/// show the same of a blob that both accept.
+/// Reads a blob in a mode. Refusals: 1 to 9, and of [`Mode::Strict`] 10 and 11, in that order; 8 names an
+/// entry ([`Refusal::entry`]), here and where a blob is read to be converted, measured or appended. Both
+/// modes show the same of a blob that both accept.
 ///
 /// ```
 /// use fulandewu::{read, Mode, Reason, VectorType};
@@ -102,6 +104,11 @@ fn answered(number: u32, answer: &Answer) -> Result<(), Refusal> {
 /// assert_eq!(view.dims(), 3);
 /// assert_eq!(view.values(), Some(&sparse[..4]));
 /// assert_eq!(view.indices(), Some(&sparse[4..8]));
+///
+/// // of two entries the second is at place 5 of 3
+/// let wrong = [0, 0, 0x70, 0x42, 0, 0, 0x70, 0x42, 1, 0, 0, 0, 5, 0, 0, 0, 3, 0, 0, 0, 9];
+/// let refusal = read(Mode::Plain, &wrong).unwrap_err();
+/// assert_eq!((refusal.reason(), refusal.entry()), (Reason::IndexNotBelowDims, Some(1)));
 ///
 /// // one bit does not count, and it is set
 /// assert_eq!(read(Mode::Plain, &[0xff, 0x09, 3])?.dims(), 7);
@@ -125,8 +132,8 @@ pub fn read(mode: Mode, blob: &[u8]) -> Result<View<'_>, Refusal> {
 
 /// Writes the blob of a kind, dims and body (a sparse body: values, then indices, without dims) to the
 /// first bytes of `out`, changes no byte past them, and answers its length. It reads back plainly as the
-/// same kind, dims and body. Refusals: 9, 7, 1, 8, 16, 15, in that order; 15 carries the need, so an
-/// empty `out` asks for it.
+/// same kind, dims and body. Refusals: 9, 7, 1, 8, 16, 15, in that order; 8 names the entry, and 15 carries
+/// the need, so an empty `out` asks for it.
 ///
 /// ```
 /// use fulandewu::{write, VectorType};

@@ -120,6 +120,7 @@ pub enum Which {
 #[derive(Clone, Copy, Debug, PartialEq, Eq, Hash)]
 pub struct Refusal {
     reason: Reason,
+    entry: Option<usize>,
     needed: Option<usize>,
     place: Option<usize>,
     which: Option<Which>,
@@ -133,10 +134,19 @@ impl Refusal {
         }
         Some(Refusal {
             reason: Reason::numbered(number).expect("an export answers a refusal's number"),
+            entry: None,
             needed: None,
             place: None,
             which: None,
         })
+    }
+
+    /// With the entry that is wrong, where the reason names one.
+    pub(crate) fn naming(mut self, entry: usize) -> Refusal {
+        if self.reason == Reason::IndexNotBelowDims {
+            self.entry = Some(entry);
+        }
+        self
     }
 
     /// With the need, where the reason carries one.
@@ -179,6 +189,12 @@ impl Refusal {
         self.reason.number()
     }
 
+    /// The first entry whose index is not below dims, counted from 0 in the order in which the entries are
+    /// stored: of [`Reason::IndexNotBelowDims`] only.
+    pub fn entry(&self) -> Option<usize> {
+        self.entry
+    }
+
     /// How long the buffer has to be, where it is appended to how many bytes after the fill: of
     /// [`Reason::OutputTooShort`] and [`Reason::ScratchTooShort`] only.
     pub fn needed(&self) -> Option<usize> {
@@ -200,6 +216,9 @@ impl Refusal {
 impl fmt::Display for Refusal {
     fn fmt(&self, f: &mut fmt::Formatter<'_>) -> fmt::Result {
         write!(f, "refusal {}: {}", self.number(), self.reason.words())?;
+        if let Some(entry) = self.entry {
+            write!(f, ", that of entry {}", entry)?;
+        }
         if let Some(needed) = self.needed {
             write!(f, ", {} bytes are needed", needed)?;
         }
@@ -246,8 +265,10 @@ mod tests {
     #[test]
     fn a_reason_carries_what_the_rules_say() {
         for number in NUMBERS {
-            let refusal = Refusal::numbered(number).unwrap().needing(7).starting(8);
+            let refusal = Refusal::numbered(number).unwrap();
+            let refusal = refusal.naming(6).needing(7).starting(8);
             let needs = number == 15 || number == 17;
+            assert_eq!(refusal.entry(), if number == 8 { Some(6) } else { None });
             assert_eq!(refusal.needed(), if needs { Some(7) } else { None });
             assert_eq!(refusal.place(), if number == 19 { Some(8) } else { None });
         }

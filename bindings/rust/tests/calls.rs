@@ -1,8 +1,8 @@
 //! Every function on good and on refused input; what a refusal carries; what it leaves.
 
 use fulandewu::{
-    convert, distance, nearer, read, write, Candidate, Distance, Mode, Reason, Refusal, VectorType,
-    Which, LONGEST, MOST_DIMS,
+    append_fvecs, convert, distance, nearer, read, write, Candidate, Distance, Mode, Reason,
+    Refusal, VectorType, Which, LONGEST, MOST_DIMS,
 };
 
 const DISTANCES: [Distance; 4] = [
@@ -32,7 +32,7 @@ const BLOBS: [&[u8]; 5] = [
     ],
 ];
 
-/// A blob that each of the reader's numbers refuses, from 2 on.
+/// A blob that each of the reader's numbers refuses, from 2 on; in that of 8, entry 1 is wrong.
 const REFUSED: [&[u8]; 8] = [
     &[5],
     &[7],
@@ -40,12 +40,16 @@ const REFUSED: [&[u8]; 8] = [
     &[0xaa, 0x11, 3],
     &[0xaa, 0x07, 3],
     &[0xaa, 0x10, 3],
-    &[0, 0, 0x80, 0x3f, 2, 0, 0, 0, 2, 0, 0, 0, 9],
+    &[
+        0, 0, 0x80, 0x3f, 0, 0, 0x80, 0x3f, 1, 0, 0, 0, 5, 0, 0, 0, 2, 0, 0, 0, 9,
+    ],
     &[1, 0, 1, 0, 9],
 ];
 
+/// The number of a refusal, the entry or the need that it carries, and the blob that it is about.
 fn told(refusal: Refusal) -> (u32, Option<usize>, Option<Which>) {
-    (refusal.number(), refusal.needed(), refusal.which())
+    let carried = refusal.entry().or_else(|| refusal.needed());
+    (refusal.number(), carried, refusal.which())
 }
 
 #[test]
@@ -68,31 +72,34 @@ fn each_kind_is_read_in_both_modes() {
 fn the_readers_refusals_name_the_blob() {
     let (good, long) = (BLOBS[0], vec![0; LONGEST + 1]);
     for (number, bad) in (1..).zip(std::iter::once(&long[..]).chain(REFUSED)) {
+        let entry = if number == 8 { Some(1) } else { None };
         for mode in [Mode::Plain, Mode::Strict] {
-            assert_eq!(told(read(mode, bad).unwrap_err()), (number, None, None));
+            assert_eq!(told(read(mode, bad).unwrap_err()), (number, entry, None));
         }
         let converted = convert(bad, VectorType::Float8, &mut [], &mut []);
-        assert_eq!(told(converted.unwrap_err()), (number, None, None));
+        assert_eq!(told(converted.unwrap_err()), (number, entry, None));
+        let appended = append_fvecs(bad, &mut [], 0);
+        assert_eq!(told(appended.unwrap_err()), (number, entry, None));
         for d in DISTANCES {
             assert_eq!(
                 told(distance(d, bad, good).unwrap_err()),
-                (number, None, Some(Which::First))
+                (number, entry, Some(Which::First))
             );
             assert_eq!(
                 told(distance(d, good, bad).unwrap_err()),
-                (number, None, Some(Which::Second))
+                (number, entry, Some(Which::Second))
             );
             assert_eq!(
                 told(nearer(d, bad, good, good).unwrap_err()),
-                (number, None, Some(Which::Probe))
+                (number, entry, Some(Which::Probe))
             );
             assert_eq!(
                 told(nearer(d, good, bad, good).unwrap_err()),
-                (number, None, Some(Which::First))
+                (number, entry, Some(Which::First))
             );
             assert_eq!(
                 told(nearer(d, good, good, bad).unwrap_err()),
-                (number, None, Some(Which::Second))
+                (number, entry, Some(Which::Second))
             );
         }
     }
@@ -144,10 +151,13 @@ fn the_writers_refusals() {
         refused(VectorType::Float32Sparse, 0, &vec![0; 8 * 65_537]),
         1
     );
-    assert_eq!(
-        refused(VectorType::Float32Sparse, 2, &[0, 0, 0, 0, 2, 0, 0, 0]),
-        8
+    let outside = write(
+        VectorType::Float32Sparse,
+        2,
+        &REFUSED[6][..16],
+        &mut [0; 64],
     );
+    assert_eq!(told(outside.unwrap_err()), (8, Some(1), None));
     assert_eq!(refused(VectorType::Float1Bit, 0, &[]), 16);
     assert_eq!(refused(VectorType::Float8, 0, &[0; 8]), 16);
 }
@@ -264,5 +274,10 @@ fn a_refusal_says_itself() {
     assert_eq!(
         second.to_string(),
         "refusal 2: the type byte is 5 or 6 (the second blob)"
+    );
+    let outside = distance(Distance::Cos, REFUSED[6], &[]).unwrap_err();
+    assert_eq!(
+        outside.to_string(),
+        "refusal 8: a sparse index is not below dims, that of entry 1 (the first blob)"
     );
 }

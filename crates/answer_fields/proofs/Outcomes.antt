@@ -8,7 +8,7 @@ use lib.ListN.{getD}
 use lib.Seq.{getD-set-other}
 use lib.Ieee.{nan, toBits}
 use Rattle.vector_types.specs.declared.Detail.{Detail}
-use Rattle.vector_types.specs.declared.Detail.the-variants.{Nothing, Needs, Starts}
+use Rattle.vector_types.specs.declared.Detail.the-variants.{Nothing, Needs, Starts, Entry}
 use Rattle.vector_types.specs.declared.ReadAnswer.{ReadAnswer}
 use Rattle.vector_types.specs.declared.ReadAnswer.the-variants.{Accepted, Refused as ReadRefused}
 use Rattle.blob_writer.specs.declared.WriteAnswer.{WriteAnswer}
@@ -47,6 +47,7 @@ detail-unreserved : (d : Detail) → unreserved (detailFields d) ≡ true
 detail-unreserved Nothing = refl
 detail-unreserved (Needs n) = refl
 detail-unreserved (Starts place) = refl
+detail-unreserved (Entry entry) = refl
 
 pub read-unreserved : (a : ReadAnswer) → unreserved (readFields a) ≡ true
 read-unreserved (Accepted v) = refl

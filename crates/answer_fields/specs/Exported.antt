@@ -8,7 +8,7 @@ use Rattle.blob_writer.specs.Answers.{writeNumber}
 use Rattle.vector_types.specs.Layout.{byteOf}
 use Rattle.blob_writer.specs.Write.{WriteOutcome}
 use Rattle.vector_types.specs.declared.Detail.{Detail}
-use Rattle.vector_types.specs.declared.Detail.the-variants.{Nothing, Needs, Starts}
+use Rattle.vector_types.specs.declared.Detail.the-variants.{Nothing, Needs, Starts, Entry}
 use Rattle.vector_types.specs.declared.ReadAnswer.{ReadAnswer}
 use Rattle.vector_types.specs.declared.ReadAnswer.the-variants.{Accepted, Refused as ReadRefused}
 use Rattle.blob_writer.specs.declared.WriteAnswer.{WriteAnswer}
@@ -34,13 +34,14 @@ use Rattle.vecs.specs.declared.VecsAnswer.{VecsAnswer}
 use Rattle.vecs.specs.declared.VecsAnswer.the-variants.{Vector, End, Refused as VecsRefused}
 use Rattle.vecs.specs.declared.AppendAnswer.{AppendAnswer}
 use Rattle.vecs.specs.declared.AppendAnswer.the-variants.{Filled, Refused as AppendRefused}
-use Rattle.answer_fields.specs.Fields.{ExportOutcome, leaves, distanceField, kindField, dimsField, lengthField, neededField, whichField, nearerField, startField, nextField, placeField, foundField, fillField}
+use Rattle.answer_fields.specs.Fields.{ExportOutcome, leaves, distanceField, kindField, dimsField, lengthField, neededField, whichField, nearerField, entryField, startField, nextField, placeField, foundField, fillField}
 
--- of a refusal: how long a buffer that is too short would have to be, or where the vector starts inside which a file ends
+-- of a refusal: how long a buffer that is too short would have to be, where the vector starts inside which a file ends, or which entry is wrong
 abbrev pub detailFields : Detail → List (ℕ × ℕ)
 detailFields Nothing = []
 detailFields (Needs need) = (neededField, need) ∷ []
 detailFields (Starts place) = (placeField, place) ∷ []
+detailFields (Entry entry) = (entryField, entry) ∷ []
 
 -- of reading: the type byte, dims and body length of a view
 abbrev pub readFields : ReadAnswer → List (ℕ × ℕ)

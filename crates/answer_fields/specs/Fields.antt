@@ -28,6 +28,9 @@ whichField = 5
 abbrev pub nearerField : ℕ
 nearerField = 6
 
+abbrev pub entryField : ℕ
+entryField = 7
+
 abbrev pub startField : ℕ
 startField = 10
 
@@ -43,11 +46,11 @@ foundField = 13
 abbrev pub fillField : ℕ
 fillField = 14
 
--- these are in use; all other places, 7 to 9 and from 15 on, are reserved for later exports
+-- these are in use; all other places, 8, 9 and from 15 on, are reserved for later exports
 abbrev pub fieldsInUse : List ℕ
 fieldsInUse =
     distanceField ∷ kindField ∷ dimsField ∷ lengthField ∷ neededField ∷ whichField ∷ nearerField
-    ∷ startField ∷ nextField ∷ placeField ∷ foundField ∷ fillField ∷ []
+    ∷ entryField ∷ startField ∷ nextField ∷ placeField ∷ foundField ∷ fillField ∷ []
 
 abbrev pub isAmong : List ℕ → ℕ → Bool
 isAmong [] i = false

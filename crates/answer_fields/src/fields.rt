@@ -16,6 +16,8 @@ pub(crate) const WHICH: usize = 5;
 
 pub(crate) const NEARER: usize = 6;
 
+pub(crate) const ENTRY: usize = 7;
+
 pub(crate) const START: usize = 10;
 
 pub(crate) const NEXT: usize = 11;

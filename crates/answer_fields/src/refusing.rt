@@ -4,6 +4,7 @@ ghost use mathlib.Core.List.{[]};
 ghost use Rattle.answer_fields.specs.Fields.{exportOutcome, leaves};
 ghost use Rattle.answer_fields.specs.Exported.{detailFields};
 use crate::fields::Answer;
+use crate::fields::ENTRY;
 use crate::fields::NEEDED;
 use crate::fields::PLACE;
 use vector_types::Detail;
@@ -23,6 +24,10 @@ pub(crate) fn report_refusal(refusal: Refusal, answer: &mut Answer) -> u32
         }
         Detail::Starts(place) => {
             answer[PLACE] = place as u64;
+            number
+        }
+        Detail::Entry(entry) => {
+            answer[ENTRY] = entry as u64;
             number
         }
     }

@@ -13,9 +13,12 @@ returns-2 c = rw (c .before .detail .given .1) refl
 returns-3 : tie.Need-returns-3
 returns-3 c = rw (c .before .detail2 .given .1) refl
 
+returns-4 : tie.Need-returns-4
+returns-4 c = rw (c .before .detail3 .given .1) refl
+
 pub report-refusal-spec : {M : Type 1} → statement M
 report-refusal-spec =
     tie.close
     (tie.spec
     (λ c. search needs) (λ c. search needs) (λ c. search needs) (λ c. search needs) (λ c. search needs) (λ c. search needs)
-    returns returns-2 returns-3)
+    (λ c. search needs) (λ c. search needs) returns returns-2 returns-3 returns-4)
