@@ -113,12 +113,12 @@ mod tests {
         let bits = ending([8, 3]);
         assert_eq!(bits.len(), 524_295);
         assert_eq!(shape(&bits), Ok((Kind::Float1Bit, 4_194_344)));
-        assert_eq!(rules::read(&bits), Err(1));
+        assert_eq!(rules::read(&bits), Err(1.into()));
         assert_eq!(shape(&ending([0, 4])), Ok((Kind::Float8, 524_284)));
 
         let sparse = [1, 0, 1, 0, 9];
         assert_eq!(shape(&sparse), Ok((Kind::Float32Sparse, 65_537)));
-        assert_eq!(rules::read(&sparse), Err(9));
+        assert_eq!(rules::read(&sparse), Err(9.into()));
     }
 
     #[test]

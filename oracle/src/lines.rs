@@ -4,7 +4,6 @@ use crate::differences::{bits_32, bits_64, MOST_LENGTH};
 use crate::hex;
 use crate::oracle::{Oracle, Refused, Shown};
 use crate::rules::{Kind, Measure, Refusal, View};
-use crate::vecs::RefusedWith;
 
 #[derive(Clone, Copy)]
 pub enum Program {
@@ -67,7 +66,7 @@ fn vecprobe(fields: &[&[u8]], oracle: &mut Oracle) -> Option<String> {
             let (to, dims, body) = (kind(to)?, decimal(count)?, hex::decode(body)?);
             match oracle.write(to, dims, &body) {
                 Ok(blob) => format!("W\t{}", hex::encode(&blob)),
-                Err(number) => format!("R\t{number}"),
+                Err(refusal) => refused(refusal),
             }
         }
         [b"near", name, probe, a, b] => {
@@ -89,7 +88,7 @@ fn vecprobe(fields: &[&[u8]], oracle: &mut Oracle) -> Option<String> {
             let (fill, mut lent, blob) = (decimal(fill)?, buffer(lent)?, hex::decode(blob)?);
             match oracle.append(&blob, &mut lent, fill) {
                 Ok(fill) => format!("A\t{fill}\t{}", hex::encode(&lent)),
-                Err(refused) => carrying(refused),
+                Err(refusal) => refused(refusal),
             }
         }
         _ => return None,
@@ -106,29 +105,33 @@ fn shown(letter: char, answer: Result<View, Refusal>) -> String {
         Ok(View { kind, dims, body }) => {
             format!("{letter}\t{}\t{dims}\t{}", kind as u8, hex::encode(&body))
         }
-        Err(number) => format!("R\t{number}"),
+        Err(refusal) => refused(refusal),
     }
 }
 
-fn named(Refused { number, blob }: Refused) -> String {
-    format!("R\t{number}\t{blob}")
+fn named(Refused { refusal, blob }: Refused) -> String {
+    format!("R\t{}\t{blob}{}", refusal.number, carried(refusal))
 }
 
-fn found(answer: Result<Option<Shown>, RefusedWith>) -> String {
+fn found(answer: Result<Option<Shown>, Refusal>) -> String {
     match answer {
         Ok(Some(Shown { dims, body, next })) => {
             format!("I\t{next}\t{dims}\t{}", hex::encode(&body))
         }
         Ok(None) => "E".to_string(),
-        Err(refused) => carrying(refused),
+        Err(refusal) => refused(refusal),
     }
 }
 
-fn carrying(RefusedWith { number, carried }: RefusedWith) -> String {
-    match carried {
-        Some(carried) => format!("R\t{number}\t{carried}"),
-        None => format!("R\t{number}"),
-    }
+fn refused(refusal: Refusal) -> String {
+    format!("R\t{}{}", refusal.number, carried(refusal))
+}
+
+/// What a refusal carries, as a further field.
+fn carried(refusal: Refusal) -> String {
+    refusal
+        .carried
+        .map_or(String::new(), |carried| format!("\t{carried}"))
 }
 
 fn measure(name: &[u8]) -> Option<Measure> {
@@ -215,7 +218,7 @@ mod tests {
             &float8("03", "V|4|1|000000000000000000000000"),
             &float8("04", "R|7"),
             &float8("05", "R|5"),
-            "read|0000803f020000000200000009 = R|8",
+            "read|0000803f020000000200000009 = R|8|0",
         ];
         ask(Program::Vecprobe, &blobs);
         let distances = [
@@ -257,6 +260,32 @@ mod tests {
             "near|jac|000803|000803|000803 = R|18|-",
         ];
         ask(Program::Vecprobe, &lines);
+    }
+
+    #[test]
+    fn the_entry_that_is_wrong() {
+        let wrong = "0000803f0000803f01000000050000000200000009";
+        let distances = [
+            format!("cos|{wrong}|0200000009 = R|8|a|1"),
+            format!("cos|0200000009|{wrong} = R|8|b|1"),
+            format!("jac|{wrong}|{wrong} = R|8|a|1"),
+        ];
+        ask(Program::Vecdist, &distances.each_ref().map(String::as_str));
+        let lines = [
+            format!("read|{wrong} = R|8|1"),
+            format!("strict|{wrong} = R|8|1"),
+            format!("conv|1|{wrong} = R|8|1"),
+            format!("append|0||{wrong} = R|8|1"),
+            format!("near|l2|{wrong}|0200000009|0200000009 = R|8|p|1"),
+            format!("near|l2|0200000009|{wrong}|0200000009 = R|8|a|1"),
+            format!("near|l2|0200000009|0200000009|{wrong} = R|8|b|1"),
+            // both indices are out of range, and not sorted
+            "strict|0000803f0000803f05000000020000000200000009 = R|8|0".to_string(),
+            "write|9|2|0000803f0000803f0100000005000000 = R|8|1".to_string(),
+            // dims 65,537, and an index as great
+            "read|0000803f010001000100010009 = R|8|0".to_string(),
+        ];
+        ask(Program::Vecprobe, &lines.each_ref().map(String::as_str));
     }
 
     #[test]

@@ -3,15 +3,17 @@
 use std::fmt::Debug;
 
 use crate::rules::{self, Kind, Measure, Refusal, View};
-use crate::vecs::{self, RefusedWith};
-use crate::{differences, original};
+use crate::{differences, original, vecs};
 
 /// Stands where the rules expect a value and the Rust has none; a finding says why.
-const NO_ANSWER: Refusal = 0;
+const NO_ANSWER: Refusal = Refusal {
+    number: 0,
+    carried: None,
+};
 
 /// A refusal and the blob it names: `p`, `a`, `b`, or `-` for none.
 pub struct Refused {
-    pub number: Refusal,
+    pub refusal: Refusal,
     pub blob: char,
 }
 
@@ -40,7 +42,7 @@ impl Oracle {
     }
 
     pub fn read(&mut self, blob: &[u8]) -> Result<View, Refusal> {
-        self.hold(&rules::layout(blob), &original::read(blob));
+        self.hold_reading(&rules::layout(blob), blob);
         rules::read(blob)
     }
 
@@ -63,11 +65,20 @@ impl Oracle {
             .map_err(|_| NO_ANSWER)
     }
 
+    /// The Rust has no writer: it reads what is written, and must not read a body with a wrong entry.
     pub fn write(&mut self, kind: Kind, dims: usize, body: &[u8]) -> Result<Vec<u8>, Refusal> {
-        let blob = rules::write(kind, dims, body)?;
-        let body = body.to_vec();
-        self.hold(&Ok(View { kind, dims, body }), &original::read(&blob));
-        Ok(blob)
+        let written = rules::write(kind, dims, body);
+        let view = match written {
+            Ok(_) => Ok(View {
+                kind,
+                dims,
+                body: body.to_vec(),
+            }),
+            Err(refusal) if refusal.number == 8 => Err(refusal),
+            Err(refusal) => return Err(refusal),
+        };
+        self.hold_reading(&view, &rules::blob(kind, dims, body));
+        written
     }
 
     pub fn distance(&mut self, measure: Measure, a: &[u8], b: &[u8]) -> Result<f64, Refused> {
@@ -97,7 +108,7 @@ impl Oracle {
     }
 
     /// The vector at a place of an fvecs file; none at the end. The Rust reads its body as a blob.
-    pub fn fvecs(&mut self, file: &[u8], place: usize) -> Result<Option<Shown>, RefusedWith> {
+    pub fn fvecs(&mut self, file: &[u8], place: usize) -> Result<Option<Shown>, Refusal> {
         let Some(found) = vecs::vector_at(4, file, place)? else {
             return Ok(None);
         };
@@ -109,7 +120,7 @@ impl Oracle {
 
     /// The vector at a place of a bvecs file; none at the end. The Rust converts its bytes as those
     /// of a Float8 blob with alpha 1 and shift 0, of which there is none of dims 0.
-    pub fn bvecs(&mut self, file: &[u8], place: usize) -> Result<Option<Shown>, RefusedWith> {
+    pub fn bvecs(&mut self, file: &[u8], place: usize) -> Result<Option<Shown>, Refusal> {
         let Some(found) = vecs::vector_at(1, file, place)? else {
             return Ok(None);
         };
@@ -128,7 +139,7 @@ impl Oracle {
         blob: &[u8],
         buffer: &mut [u8],
         fill: usize,
-    ) -> Result<usize, RefusedWith> {
+    ) -> Result<usize, Refusal> {
         let view = self.read(blob)?;
         vecs::append(&view, buffer, fill)
     }
@@ -136,7 +147,10 @@ impl Oracle {
     fn see<'a>(&mut self, blob: &'a [u8], name: char) -> Result<Seen<'a>, Refused> {
         match self.read(blob) {
             Ok(view) => Ok(Seen { blob, view }),
-            Err(number) => Err(Refused { number, blob: name }),
+            Err(refusal) => Err(Refused {
+                refusal,
+                blob: name,
+            }),
         }
     }
 
@@ -152,11 +166,30 @@ impl Oracle {
             .map_err(|_| NO_ANSWER)
     }
 
+    /// Reading a blob: the entry of an 8 has the index at which the Rust stopped.
+    fn hold_reading(&mut self, rules: &Result<View, Refusal>, blob: &[u8]) {
+        let rust = original::read(blob);
+        self.hold(rules, &rust);
+        let (Err(refusal), Err(words)) = (rules, &rust) else {
+            return;
+        };
+        if refusal.number == 8 {
+            let body = &blob[..blob.len() - 5];
+            let index = refusal
+                .carried
+                .and_then(|entry| rules::indices(body).nth(entry));
+            if index.is_none() || index != original::index_out_of_range(words) {
+                let finding = format!("entry {refusal:?} has index {index:?}, the Rust {words:?}");
+                self.findings.push(finding);
+            }
+        }
+    }
+
     /// A finding, unless both accept with the same facts or both refuse for the same reason.
     fn hold<T: PartialEq + Debug>(&mut self, rules: &Result<T, Refusal>, rust: &Result<T, String>) {
         let same = match (rules, rust) {
             (Ok(expected), Ok(found)) => expected == found,
-            (Err(number), Err(words)) => original::number(words) == Some(*number),
+            (Err(refusal), Err(words)) => original::number(words) == Some(refusal.number),
             _ => false,
         };
         if !same {
@@ -181,6 +214,6 @@ fn float8(bytes: &[u8]) -> Vec<u8> {
     blob
 }
 
-fn unnamed(number: Refusal) -> Refused {
-    Refused { number, blob: '-' }
+fn unnamed(refusal: Refusal) -> Refused {
+    Refused { refusal, blob: '-' }
 }

@@ -5,7 +5,7 @@ use std::any::Any;
 use std::ops::Deref;
 use std::panic::{catch_unwind, AssertUnwindSafe};
 
-use crate::rules::{Kind, Measure, Refusal, View};
+use crate::rules::{Kind, Measure, View};
 use crate::vector::operations::{
     convert::vector_convert, distance_cos::vector_distance_cos, distance_dot::vector_distance_dot,
     distance_l2::vector_distance_l2, jaccard::vector_distance_jaccard,
@@ -50,8 +50,8 @@ pub fn distance(measure: Measure, first: &[u8], second: &[u8]) -> Result<f64, St
 }
 
 /// The rules' number for the Rust's words; a panic has none.
-pub fn number(words: &str) -> Option<Refusal> {
-    const WORDS: [(&str, Refusal); 13] = [
+pub fn number(words: &str) -> Option<u8> {
+    const WORDS: [(&str, u8); 13] = [
         ("unsupported vector type from LibSQL", 2),
         ("unknown vector type", 3),
         ("must be even and non-empty", 4),
@@ -70,6 +70,13 @@ pub fn number(words: &str) -> Option<Refusal> {
         .iter()
         .find(|(part, _)| words.contains(part) && !words.starts_with(PANIC))
         .map(|&(_, number)| number)
+}
+
+/// The index that the Rust's words call out of range.
+pub fn index_out_of_range(words: &str) -> Option<u32> {
+    let (_, rest) = words.split_once("vector index ")?;
+    let (index, _) = rest.split_once(" out of range for ")?;
+    index.parse().ok()
 }
 
 const PANIC: &str = "panic: ";

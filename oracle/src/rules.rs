@@ -50,8 +50,28 @@ pub enum Measure {
     Jac,
 }
 
-/// A number of the table of refusals.
-pub type Refusal = u8;
+/// A number of the table of refusals, and what it carries: 8 the entry that is wrong, 15 the need, 19 the
+/// place where the vector starts.
+#[derive(Clone, Copy, Debug, PartialEq, Eq)]
+pub struct Refusal {
+    pub number: u8,
+    pub carried: Option<usize>,
+}
+
+impl Refusal {
+    pub fn carrying(number: u8, carried: usize) -> Self {
+        let carried = Some(carried);
+        Self { number, carried }
+    }
+}
+
+/// A refusal that carries nothing.
+impl From<u8> for Refusal {
+    fn from(number: u8) -> Self {
+        let carried = None;
+        Self { number, carried }
+    }
+}
 
 /// What a reader shows of a blob.
 #[derive(Clone, PartialEq, Eq)]
@@ -78,11 +98,11 @@ impl fmt::Debug for View {
 /// The plain mode: refusals 1 to 9 in their order.
 pub fn read(blob: &[u8]) -> Result<View, Refusal> {
     if blob.len() > MOST_LENGTH {
-        return Err(1);
+        return Err(1.into());
     }
     let view = layout(blob)?;
     if view.dims > MOST_DIMS {
-        return Err(9);
+        return Err(9.into());
     }
     Ok(view)
 }
@@ -99,14 +119,14 @@ pub fn layout(blob: &[u8]) -> Result<View, Refusal> {
         3 => one_bit(rest),
         4 => float8(rest),
         9 => sparse(rest),
-        5 | 6 => Err(2),
-        _ => Err(3),
+        5 | 6 => Err(2.into()),
+        _ => Err(3.into()),
     }
 }
 
 fn dense(kind: Kind, width: usize, body: &[u8]) -> Result<View, Refusal> {
     if !body.len().is_multiple_of(width) {
-        return Err(7);
+        return Err(7.into());
     }
     Ok(View::new(kind, body.len() / width, body))
 }
@@ -117,10 +137,10 @@ fn one_bit(rest: &[u8]) -> Result<View, Refusal> {
     let dims = (8 * n).checked_sub(trailing_bits).ok_or(5)?;
     let length = dims.div_ceil(8);
     if length >= n {
-        return Err(6);
+        return Err(6.into());
     }
     if dims == 0 {
-        return Err(7);
+        return Err(7.into());
     }
     Ok(View::new(Kind::Float1Bit, dims, &rest[..length]))
 }
@@ -131,7 +151,7 @@ fn float8(rest: &[u8]) -> Result<View, Refusal> {
     let dims = n.checked_sub(10 + trailing_bytes).ok_or(5)?;
     let body = &rest[..n - 2];
     if dims == 0 || !Kind::Float8.fits(dims, body.len()) {
-        return Err(7);
+        return Err(7.into());
     }
     Ok(View::new(Kind::Float8, dims, body))
 }
@@ -139,13 +159,11 @@ fn float8(rest: &[u8]) -> Result<View, Refusal> {
 fn sparse(rest: &[u8]) -> Result<View, Refusal> {
     let (body, dims) = rest.split_last_chunk().ok_or(7)?;
     if !body.len().is_multiple_of(8) {
-        return Err(7);
+        return Err(7.into());
     }
-    let dims = u32::from_le_bytes(*dims);
-    if indices(body).any(|index| index >= dims) {
-        return Err(8);
-    }
-    Ok(View::new(Kind::Float32Sparse, dims as usize, body))
+    let dims = u32::from_le_bytes(*dims) as usize;
+    inside(dims, body)?;
+    Ok(View::new(Kind::Float32Sparse, dims, body))
 }
 
 /// The indices of a sparse body, which follow its values.
@@ -154,11 +172,17 @@ pub fn indices(body: &[u8]) -> impl Iterator<Item = u32> + '_ {
     words.iter().map(|&word| u32::from_le_bytes(word))
 }
 
+/// Whether every index of a sparse body is below dims: 8, with the first entry that is not.
+fn inside(dims: usize, body: &[u8]) -> Result<(), Refusal> {
+    let outside = indices(body).position(|index| index as usize >= dims);
+    outside.map_or(Ok(()), |entry| Err(Refusal::carrying(8, entry)))
+}
+
 /// What the strict mode tests besides: 10, then 11.
 pub fn strict(view: &View) -> Result<(), Refusal> {
     match view.kind {
-        Kind::Float32Sparse if !indices(&view.body).is_sorted() => Err(10),
-        Kind::Float1Bit if unused_bits(view) > 0 => Err(11),
+        Kind::Float32Sparse if !indices(&view.body).is_sorted() => Err(10.into()),
+        Kind::Float1Bit if unused_bits(view) > 0 => Err(11.into()),
         _ => Ok(()),
     }
 }
@@ -174,22 +198,27 @@ fn unused_bits(view: &View) -> u8 {
 /// The writer: 9, 7, 1, 8, 16 in this order, or the blob.
 pub fn write(kind: Kind, dims: usize, body: &[u8]) -> Result<Vec<u8>, Refusal> {
     if dims > MOST_DIMS {
-        return Err(9);
+        return Err(9.into());
     }
     if !kind.fits(dims, body.len()) {
-        return Err(7);
+        return Err(7.into());
     }
-    let blob = [body, &trailer(kind, dims, body.len())].concat();
+    let blob = blob(kind, dims, body);
     if blob.len() > MOST_LENGTH {
-        return Err(1);
+        return Err(1.into());
     }
-    if kind == Kind::Float32Sparse && indices(body).any(|index| index as usize >= dims) {
-        return Err(8);
+    if kind == Kind::Float32Sparse {
+        inside(dims, body)?;
     }
     if kind.needs_dims() && dims == 0 {
-        return Err(16);
+        return Err(16.into());
     }
     Ok(blob)
+}
+
+/// The blob of a kind, dims and body.
+pub fn blob(kind: Kind, dims: usize, body: &[u8]) -> Vec<u8> {
+    [body, &trailer(kind, dims, body.len())].concat()
 }
 
 /// What follows a written body: its padding, trailing count or dims, and its type byte.
@@ -213,10 +242,10 @@ fn trailer(kind: Kind, dims: usize, length: usize) -> Vec<u8> {
 /// Whether two vectors may be compared at all: 12, then 13.
 pub fn alike(first: &View, second: &View) -> Result<(), Refusal> {
     if first.dims != second.dims {
-        return Err(12);
+        return Err(12.into());
     }
     if first.kind != second.kind {
-        return Err(13);
+        return Err(13.into());
     }
     Ok(())
 }
@@ -224,7 +253,7 @@ pub fn alike(first: &View, second: &View) -> Result<(), Refusal> {
 /// Whether a kind has a distance: 14.
 pub fn defined(measure: Measure, kind: Kind) -> Result<(), Refusal> {
     match (measure, kind) {
-        (Measure::L2, Kind::Float1Bit) => Err(14),
+        (Measure::L2, Kind::Float1Bit) => Err(14.into()),
         _ => Ok(()),
     }
 }
@@ -232,7 +261,7 @@ pub fn defined(measure: Measure, kind: Kind) -> Result<(), Refusal> {
 /// Which of two distances is nearer, 1 or 2: a tie gives the first, NaN loses, 18 if both are NaN.
 pub fn nearer(first: f64, second: f64) -> Result<u8, Refusal> {
     match (first.is_nan(), second.is_nan()) {
-        (true, true) => Err(18),
+        (true, true) => Err(18.into()),
         (true, false) => Ok(2),
         (false, true) => Ok(1),
         (false, false) => Ok(if second < first { 2 } else { 1 }),
@@ -269,12 +298,37 @@ mod tests {
     fn limits_come_where_document_01_has_them() {
         let dense = |dims: usize| read(&vec![0; 4 * dims]).map(|view| view.dims);
         assert_eq!(dense(65_536), Ok(65_536));
-        assert_eq!(dense(65_537), Err(9));
+        assert_eq!(dense(65_537), Err(9.into()));
         let doubles = |dims: usize| read(&[vec![0; 8 * dims], vec![2]].concat());
-        assert_eq!(doubles(65_537), Err(1));
+        assert_eq!(doubles(65_537), Err(1.into()));
         let entries = |count: usize| write(Kind::Float32Sparse, 1, &vec![0; 8 * count]);
         assert_eq!(entries(65_536).map(|blob| blob.len()), Ok(524_293));
-        assert_eq!(entries(65_537), Err(1));
+        assert_eq!(entries(65_537), Err(1.into()));
+    }
+
+    #[test]
+    fn the_first_wrong_entry_is_named() {
+        let sparse = |indices: &[u32]| {
+            let values = vec![0; 4 * indices.len()];
+            let indices = indices.iter().flat_map(|index| index.to_le_bytes());
+            let body: Vec<u8> = values.into_iter().chain(indices).collect();
+            let kind = Kind::Float32Sparse;
+            (
+                read(&blob(kind, 4, &body)).err(),
+                write(kind, 4, &body).err(),
+            )
+        };
+        let both = |entry: usize| {
+            (
+                Some(Refusal::carrying(8, entry)),
+                Some(Refusal::carrying(8, entry)),
+            )
+        };
+        assert_eq!(sparse(&[]), (None, None));
+        assert_eq!(sparse(&[3, 0, 3]), (None, None));
+        assert_eq!(sparse(&[4]), both(0));
+        assert_eq!(sparse(&[0, 1, 4]), both(2));
+        assert_eq!(sparse(&[0, 9, 1, 4]), both(1));
     }
 
     #[test]

@@ -4,28 +4,6 @@
 use crate::differences::MOST_DIMS;
 use crate::rules::{Kind, Refusal, View};
 
-/// A refusal and the number that it carries: 15 the need, 19 the place where the vector starts.
-#[derive(Debug, PartialEq, Eq)]
-pub struct RefusedWith {
-    pub number: Refusal,
-    pub carried: Option<usize>,
-}
-
-impl RefusedWith {
-    fn carrying(number: Refusal, carried: usize) -> Self {
-        let carried = Some(carried);
-        Self { number, carried }
-    }
-}
-
-/// A refusal that carries nothing.
-impl From<Refusal> for RefusedWith {
-    fn from(number: Refusal) -> Self {
-        let carried = None;
-        Self { number, carried }
-    }
-}
-
 /// A vector in a file, and the place after it.
 #[derive(Debug, PartialEq, Eq)]
 pub struct Found<'a> {
@@ -35,16 +13,12 @@ pub struct Found<'a> {
 }
 
 /// The vector at a place of a file, whose elements have so many bytes each; none at or past the end.
-pub fn vector_at(
-    width: usize,
-    file: &[u8],
-    place: usize,
-) -> Result<Option<Found<'_>>, RefusedWith> {
+pub fn vector_at(width: usize, file: &[u8], place: usize) -> Result<Option<Found<'_>>, Refusal> {
     let left = file.get(place..).unwrap_or_default();
     if left.is_empty() {
         return Ok(None);
     }
-    let ends_inside = || RefusedWith::carrying(19, place);
+    let ends_inside = || Refusal::carrying(19, place);
     let (count, rest) = left.split_first_chunk().ok_or_else(ends_inside)?;
     let dims = u32::from_le_bytes(*count) as usize;
     if dims > MOST_DIMS {
@@ -68,7 +42,7 @@ pub fn floats(bytes: &[u8]) -> Vec<u8> {
 }
 
 /// Appends a vector that was read to a file that fills the buffer so far; the new fill.
-pub fn append(view: &View, buffer: &mut [u8], fill: usize) -> Result<usize, RefusedWith> {
+pub fn append(view: &View, buffer: &mut [u8], fill: usize) -> Result<usize, Refusal> {
     if view.kind != Kind::Float32Dense {
         return Err(13.into());
     }
@@ -77,7 +51,7 @@ pub fn append(view: &View, buffer: &mut [u8], fill: usize) -> Result<usize, Refu
     let room = buffer.get_mut(fill..).unwrap_or_default();
     match room.get_mut(..vector.len()) {
         Some(room) => room.copy_from_slice(&vector),
-        None => return Err(RefusedWith::carrying(15, vector.len())),
+        None => return Err(Refusal::carrying(15, vector.len())),
     }
     Ok(fill + vector.len())
 }
@@ -92,16 +66,16 @@ mod tests {
     /// Both formats, by the bytes of an element.
     const WIDTHS: [usize; 2] = [4, 1];
 
-    fn ends_inside<T>(place: usize) -> Result<T, RefusedWith> {
-        Err(RefusedWith::carrying(19, place))
+    fn ends_inside<T>(place: usize) -> Result<T, Refusal> {
+        Err(Refusal::carrying(19, place))
     }
 
-    fn refused<T>(number: Refusal) -> Result<T, RefusedWith> {
+    fn refused<T>(number: u8) -> Result<T, Refusal> {
         Err(number.into())
     }
 
-    fn need<T>(bytes: usize) -> Result<T, RefusedWith> {
-        Err(RefusedWith::carrying(15, bytes))
+    fn need<T>(bytes: usize) -> Result<T, Refusal> {
+        Err(Refusal::carrying(15, bytes))
     }
 
     /// A count and so many bytes after it.
@@ -110,11 +84,7 @@ mod tests {
     }
 
     /// Dims and next place of the vector at a place.
-    fn shape(
-        width: usize,
-        file: &[u8],
-        place: usize,
-    ) -> Result<Option<(usize, usize)>, RefusedWith> {
+    fn shape(width: usize, file: &[u8], place: usize) -> Result<Option<(usize, usize)>, Refusal> {
         let found = vector_at(width, file, place)?;
         Ok(found.map(|found| (found.dims, found.next)))
     }
@@ -245,11 +215,9 @@ mod tests {
     }
 
     /// Appends a blob that is read to a buffer of sevens: the answer, and the buffer afterwards.
-    fn appended(blob: &[u8], length: usize, fill: usize) -> (Result<usize, RefusedWith>, Vec<u8>) {
+    fn appended(blob: &[u8], length: usize, fill: usize) -> (Result<usize, Refusal>, Vec<u8>) {
         let mut buffer = vec![7; length];
-        let answer = rules::read(blob)
-            .map_err(RefusedWith::from)
-            .and_then(|view| append(&view, &mut buffer, fill));
+        let answer = rules::read(blob).and_then(|view| append(&view, &mut buffer, fill));
         (answer, buffer)
     }
 
@@ -297,7 +265,7 @@ mod tests {
     #[test]
     fn the_reader_comes_before_13_and_13_before_15() {
         let bits: &[u8] = &[0xaa, 8, 3];
-        let refusals: [(&[u8], Refusal); 8] = [
+        let refusals: [(&[u8], u8); 8] = [
             (&vec![0; 524_294], 1),
             (&[5], 2),
             (&[7], 3),

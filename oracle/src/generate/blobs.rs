@@ -110,13 +110,25 @@ impl Random {
             }
         }
         if !indices.is_empty() && self.one_in(20) {
-            let at = self.below(indices.len());
-            let past = self.pick(&[0, 1, 1 << 16, 1 << 31]);
-            indices[at] = (dims as u32).wrapping_add(past);
+            self.put_outside(dims, &mut indices);
         }
         let mut body = self.floats(SINGLE, indices.len());
         body.extend(indices.into_iter().flat_map(u32::to_le_bytes));
         body
+    }
+
+    /// Puts an index out of range, or two of them, or the last.
+    fn put_outside(&mut self, dims: usize, indices: &mut [u32]) {
+        let last = indices.len() - 1;
+        let places = match self.below(3) {
+            0 => [last; 2],
+            1 => [self.between(0..=last); 2],
+            _ => [self.between(0..=last), self.between(0..=last)],
+        };
+        for at in places {
+            let past = self.pick(&[0, 1, 1 << 16, 1 << 31]);
+            indices[at] = (dims as u32).wrapping_add(past);
+        }
     }
 
     /// A body to compare with another: often close to it, so that sums cancel and distances tie.
