@@ -1,12 +1,13 @@
 -- What a refusal of the writer carries: an entry exactly if its number is 8, the first whose index is not below dims; the blob's length exactly if it is 15.
-use mathlib.Core.Path.{_≡_, refl, ap, sym}
-use mathlib.Core.Bool.{Bool, true, false, true≢false, false≢true}
+use mathlib.Core.Path.{_≡_, refl, ap, sym, _∙_}
+use mathlib.Core.Bool.{Bool, true, false, _&&_, true≢false, false≢true}
 use mathlib.Core.List.{List, [], _∷_, _++_}
 use Prim.Native.Nat.{ℕ, _/_}
 use lib.Dec.{eqb}
 use lib.ListN.{length}
-use Rattle.vector_types.specs.Answers.{Test, Given, none, given, testRoom, firstGiven, unless, refusal, naming}
-use Rattle.vector_types.specs.Layout.{hasByte}
+use Rattle.vector_types.specs.Answers.{Test, Given, none, given, testRoom, firstGiven, unless, refusal, needing, naming}
+use Rattle.vector_types.specs.Search.{firstIndex, anyIndex}
+use Rattle.vector_types.specs.Layout.{hasByte, isOutside}
 use Rattle.vector_types.specs.Statements.{FirstOutside, namesEntry, tellsNeed}
 use Rattle.vector_types.specs.declared.VectorType.{VectorType}
 use Rattle.vector_types.specs.declared.VectorType.the-variants.{Float32Sparse}
@@ -28,9 +29,9 @@ needIn n (Needs need) = need
 needIn n (Starts place) = n
 needIn n (Entry entry) = n
 
-abbrev refusedIn : Refusal → WriteAnswer → Refusal
-refusedIn r (Written n) = r
-refusedIn r (Refused q) = q
+abbrev writeRefusedIn : Refusal → WriteAnswer → Refusal
+writeRefusedIn r (Written n) = r
+writeRefusedIn r (Refused q) = q
 
 abbrev isWritten : WriteAnswer → Bool
 isWritten (Written n) = true
@@ -51,40 +52,26 @@ module _ (k : VectorType) (d : ℕ) (body : List ℕ) (room : ℕ) where
   abbrev WriteDetail : Refusal → Type 0
   WriteDetail r = EntryDetail (k ≡ Float32Sparse) body (length body / 8) d r × NeedDetail need r
 
-  no-detail : (n : ℕ) → eqb n 8 ≡ false → eqb n 15 ≡ false → WriteDetail (refusal n)
-  no-detail n other another = (
-    by-number-detail _ body (length body / 8) d n other,
-    record { exactly = rw another; told = λ m e. absurd (false≢true (ap tellsNeed e)) },
-  )
+  no-need : {r : Refusal} → tellsNeed (r .detail) ≡ false → eqb (r .number) 15 ≡ false → NeedDetail need r
+  no-need untold other = record { exactly = rw (untold, other); told = λ m e. absurd (false≢true (sym untold ∙ ap tellsNeed e)) }
+
+  no-detail : {n : ℕ} {b : Bool} → eqb n 8 ≡ false → eqb n 15 ≡ false → b ≡ true → WriteDetail (refusal n)
+  no-detail {n = n} other another _ = (by-number-detail _ body (length body / 8) d n other, no-need refl another)
+
+  entry-told : (hasByte 9 k && anyIndex (isOutside body (length body / 8) d) (length body / 8)) ≡ true
+      → WriteDetail (naming 8 (firstIndex (isOutside body (length body / 8) d) (length body / 8)))
+  entry-told h = (naming-detail _ body (length body / 8) d (hasByte 9 k) (same-kind k Float32Sparse) h, no-need refl refl)
+
+  need-told : WriteDetail (needing 15 need)
+  need-told = (needing-detail _ body (length body / 8) d 15 need refl, record { exactly = refl; told = λ m e. ap (needIn m) (sym e) })
 
   write-details : Each WriteDetail tests
   unfolding writeRefusals
-  write-details = (
-    λ _. no-detail 9 refl refl,
-    (
-      λ _. no-detail 7 refl refl,
-      (
-        λ _. no-detail 1 refl refl,
-        (
-          λ h. (
-            naming-detail _ body (length body / 8) d (hasByte 9 k) (same-kind k Float32Sparse) h,
-            record { exactly = refl; told = λ m e. absurd (false≢true (ap tellsNeed e)) },
-          ),
-          (
-            λ _. no-detail 16 refl refl,
-            (
-              λ _. (needing-detail _ body (length body / 8) d 15 need refl, record { exactly = refl; told = λ m e. ap (needIn m) (sym e) }),
-              tt,
-            ),
-          ),
-        ),
-      ),
-    ),
-  )
+  write-details = (no-detail refl refl, (no-detail refl refl, (no-detail refl refl, (entry-told, (no-detail refl refl, (λ _. need-told, tt))))))
 
   write-given : (r : Refusal) (g : Given) → unless g writeRefused (written need) ≡ writeRefused r → g ≡ given r
   write-given r none e = absurd (true≢false (ap isWritten e))
-  write-given r (given q) e = ap given (ap (refusedIn r) e)
+  write-given r (given q) e = ap given (ap (writeRefusedIn r) e)
 
   module _ (r : Refusal) (e : writeOf k d body room ≡ writeRefused r) where
     write-detail : WriteDetail r

@@ -58,44 +58,19 @@ module _ (s : List ℕ) (n : Named) where
   abbrev ReadDetail : Refusal → Type 0
   ReadDetail r = EntryDetail (n ≡ Kind Float32Sparse) s (entryCount s) (sparseDims s) r
 
-  no-entry : (m : ℕ) → eqb m 8 ≡ false → ReadDetail (refusal m)
-  no-entry m other = by-number-detail _ s (entryCount s) (sparseDims s) m other
+  no-entry : {m : ℕ} {b : Bool} → eqb m 8 ≡ false → b ≡ true → ReadDetail (refusal m)
+  no-entry {m = m} other _ = by-number-detail _ s (entryCount s) (sparseDims s) m other
 
   own-details : (mode : Mode) → Each ReadDetail (ownRefusals mode n s)
   unfolding layoutRow
   own-details Plain = tt
-  own-details Strict = (λ _. no-entry 10 refl, (λ _. no-entry 11 refl, tt))
+  own-details Strict = (no-entry refl, (no-entry refl, tt))
 
   read-details : (mode : Mode) → Each ReadDetail (refusals mode n s)
   unfolding refusals
-  read-details mode = (
-    λ _. no-entry 1 refl,
-    (
-      λ _. no-entry 2 refl,
-      (
-        λ _. no-entry 3 refl,
-        (
-          λ _. no-entry 4 refl,
-          (
-            λ _. no-entry 5 refl,
-            (
-              λ _. no-entry 6 refl,
-              (
-                λ _. no-entry 7 refl,
-                (
-                  naming-detail _ s (entryCount s) (sparseDims s) (ofKind n (hasByte 9)) (only-sparse n),
-                  (
-                    λ _. no-entry 9 refl,
-                    own-details mode,
-                  ),
-                ),
-              ),
-            ),
-          ),
-        ),
-      ),
-    ),
-  )
+  read-details mode =
+      let eighth = naming-detail _ s (entryCount s) (sparseDims s) (ofKind n (hasByte 9)) (only-sparse n) in
+      (no-entry refl, (no-entry refl, (no-entry refl, (no-entry refl, (no-entry refl, (no-entry refl, (no-entry refl, (eighth, (no-entry refl, own-details mode)))))))))
 
 module _ (mode : Mode) (s : List ℕ) where
   read-detail : (r : Refusal) → readOf mode s ≡ refused r → ReadDetail s (namedKind s) r

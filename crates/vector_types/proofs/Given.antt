@@ -1,5 +1,4 @@
--- The first of several refusals: none is given exactly if every test fails, and then the answer is not a refusal; one that is given is that of
--- a test that holds.
+-- The first of several refusals: none is given exactly if every test fails, and one that is given is that of a test that holds.
 use mathlib.Core.Path.{_≡_, refl, sym, subst, ap}
 use mathlib.Core.Bool.{Bool, true, false, cond, false≢true}
 use mathlib.Core.List.{List, [], _∷_, _++_}

@@ -1,5 +1,4 @@
--- A search finds nothing exactly if the test holds at no place, and else the first place where it does; two tests that agree at the places
--- searched find the same.
+-- A search finds the first place where the test holds, and nothing exactly if there is none; tests that agree at every place find the same.
 use mathlib.Core.Path.{_≡_, refl, sym, ap, _∙_}
 use mathlib.Core.Logic.{_≢_}
 use mathlib.Core.Bool.{Bool, true, false, cond, true≢false}

@@ -1,5 +1,4 @@
--- The tests of the modes against the statements: a test finds nothing exactly if the statement holds of every place, and else the first place
--- where it does not.
+-- The tests of the modes against the statements: a test finds nothing exactly if its statement holds of every place, that of 8 else the first.
 use mathlib.Core.Path.{_≡_, refl}
 use mathlib.Core.Bool.{true, false}
 use mathlib.Core.Logic.{_↔_}

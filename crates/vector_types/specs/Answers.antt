@@ -51,7 +51,7 @@ pub record Test : Type 0 where
 abbrev pub test : ℕ → Bool → Test
 test n b = record { holds = b; gives = refusal n }
 
--- of the first of k entries with p, where b holds
+-- of k entries, where b holds besides: the first with p is named
 abbrev pub testFirst : ℕ → Bool → (ℕ → Bool) → ℕ → Test
 testFirst n b p k = record { holds = b && anyIndex p k; gives = naming n (firstIndex p k) }
 
