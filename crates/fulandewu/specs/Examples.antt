@@ -2,7 +2,7 @@
 use mathlib.Core.Path.{_≡_, refl}
 use mathlib.Core.List.{List, [], _∷_, _++_, map}
 use Prim.Native.Nat.{ℕ, _-_, _^_}
-use lib.ListN.{replicate}
+use lib.ListN.{take, replicate}
 use lib.Ieee.{add, sub, mul, div, neg, eq, lt, le, isNan, ofInt, ofBits, toBits}
 use Rattle.float_laws.specs.Running.{running, total}
 use Rattle.little_endian.specs.Bytes.{numberAt, bytesOf, put}
@@ -15,7 +15,7 @@ use Rattle.blob_writer.specs.Write.{writeOf, writeOutcome, writeRefusals, tailO
 use Rattle.convert.specs.Convert.{convertOutcome}
 use Rattle.distance_sums.specs.Examples.{zeroBytes as zero, oneBytes as one}
 use Rattle.distance.specs.Answer.{distanceOf}
-use Rattle.distance.specs.Examples.{bits, three, four, noEntry}
+use Rattle.distance.specs.Examples.{bits, three, four, noEntry, wrongEntry}
 use Rattle.distance.specs.declared.Distance.{Distance}
 use Rattle.distance.specs.declared.Distance.the-variants.{Cos, L2, Dot, Jaccard}
 use Rattle.nearer.specs.Nearer.{nearerOf}
@@ -51,6 +51,10 @@ row n distance kind dims length needed which nearer = exportOutcome n (distance 
 abbrev pub fileRow : ℕ → ℕ → ℕ → ℕ → ℕ → ℕ → ℕ → ℕ → List (List ℕ) → ExportOutcome
 fileRow n dims needed start next place found fill =
     exportOutcome n (old ∷ old ∷ dims ∷ old ∷ needed ∷ replicate 5 old ++ (start ∷ next ∷ place ∷ found ∷ fill ∷ replicate 17 old))
+
+-- refusal 8: the blob that it is about, where there are several, and the entry that is wrong
+abbrev pub entryRow : ℕ → ℕ → List (List ℕ) → ExportOutcome
+entryRow which entry = exportOutcome 8 (replicate 5 old ++ (which ∷ old ∷ entry ∷ replicate 24 old))
 
 -- the first number is the byte that names the mode
 abbrev pub reads : ℕ → List ℕ → ExportOutcome → Example
@@ -131,6 +135,14 @@ table =
     ∷ finds Dot one unsupported one (row 2 old old old old old 1 old [])
     ∷ finds Dot one one unknown (row 3 old old old old old 2 old [])
     ∷ finds Jaccard (bits 0) (bits 0) (bits 0) (row 18 old old old old old 0 old [])
+    -- the entry that is wrong has a field of its own, whichever export refuses
+    ∷ reads 0 wrongEntry (entryRow old 1 [])
+    ∷ reads 1 wrongEntry (entryRow old 1 [])
+    ∷ writes 9 2 (take 16 wrongEntry) 4 (entryRow old 1 (replicate 4 old ∷ []))
+    ∷ converts wrongEntry 1 0 2 (entryRow old 1 ([] ∷ replicate 2 old ∷ []))
+    ∷ measures Cos wrongEntry noEntry (entryRow 1 1 [])
+    ∷ finds Dot noEntry noEntry wrongEntry (entryRow 2 1 [])
+    ∷ appendsTo 10 wrongEntry 0 (entryRow old 1 (replicate 10 old ∷ []))
     -- files of vectors: the end and a vector are both answers; a refusal says where the vector starts
     ∷ readsFvecs [] 0 (fileRow 0 old old old old old 0 old [])
     ∷ readsFvecs (oneVector ++ oneVector) 8 (fileRow 0 1 old 12 16 old 1 old [])
