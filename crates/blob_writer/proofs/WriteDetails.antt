@@ -1,12 +1,11 @@
 -- What a refusal of the writer carries: an entry exactly if its number is 8, the first whose index is not below dims; the blob's length exactly if it is 15.
 use mathlib.Core.Path.{_≡_, refl, ap, sym, _∙_}
-use mathlib.Core.Bool.{Bool, true, false, _&&_, true≢false, false≢true}
+use mathlib.Core.Bool.{Bool, true, false, true≢false, false≢true}
 use mathlib.Core.List.{List, [], _∷_, _++_}
 use Prim.Native.Nat.{ℕ, _/_}
 use lib.Dec.{eqb}
 use lib.ListN.{length}
-use Rattle.vector_types.specs.Answers.{Test, Given, none, given, testRoom, firstGiven, unless, refusal, needing, naming}
-use Rattle.vector_types.specs.Search.{firstIndex, anyIndex}
+use Rattle.vector_types.specs.Answers.{Test, Given, none, given, testFirst, testRoom, firstGiven, unless, refusal, needing, naming}
 use Rattle.vector_types.specs.Layout.{hasByte, isOutside}
 use Rattle.vector_types.specs.Statements.{FirstOutside, namesEntry, tellsNeed}
 use Rattle.vector_types.specs.declared.VectorType.{VectorType}
@@ -14,7 +13,7 @@ use Rattle.vector_types.specs.declared.VectorType.the-variants.{Float32Sparse}
 use Rattle.vector_types.specs.declared.Detail.{Detail}
 use Rattle.vector_types.specs.declared.Detail.the-variants.{Nothing, Needs, Starts, Entry}
 use Rattle.vector_types.specs.declared.Refusal.{Refusal}
-use Rattle.vector_types.proofs.Details.{EntryDetail, by-number-detail, needing-detail, naming-detail}
+use Rattle.vector_types.proofs.Details.{EntryDetail, no-entry-detail, naming-detail}
 use Rattle.vector_types.proofs.Given.{Each, given-each}
 use Rattle.vector_types.proofs.SameKind.{same-kind}
 use Rattle.blob_writer.specs.Answers.{written, writeRefused}
@@ -52,18 +51,17 @@ module _ (k : VectorType) (d : ℕ) (body : List ℕ) (room : ℕ) where
   abbrev WriteDetail : Refusal → Type 0
   WriteDetail r = EntryDetail (k ≡ Float32Sparse) body (length body / 8) d r × NeedDetail need r
 
-  no-need : {r : Refusal} → tellsNeed (r .detail) ≡ false → eqb (r .number) 15 ≡ false → NeedDetail need r
-  no-need untold other = record { exactly = rw (untold, other); told = λ m e. absurd (false≢true (sym untold ∙ ap tellsNeed e)) }
+  no-need-detail : {r : Refusal} → tellsNeed (r .detail) ≡ false → eqb (r .number) 15 ≡ false → NeedDetail need r
+  no-need-detail untold other = record { exactly = rw (untold, other); told = λ m e. absurd (false≢true (sym untold ∙ ap tellsNeed e)) }
 
   no-detail : {n : ℕ} {b : Bool} → eqb n 8 ≡ false → eqb n 15 ≡ false → b ≡ true → WriteDetail (refusal n)
-  no-detail {n = n} other another _ = (by-number-detail _ body (length body / 8) d n other, no-need refl another)
+  no-detail other another _ = (no-entry-detail _ body (length body / 8) d refl other, no-need-detail refl another)
 
-  entry-told : (hasByte 9 k && anyIndex (isOutside body (length body / 8) d) (length body / 8)) ≡ true
-      → WriteDetail (naming 8 (firstIndex (isOutside body (length body / 8) d) (length body / 8)))
-  entry-told h = (naming-detail _ body (length body / 8) d (hasByte 9 k) (same-kind k Float32Sparse) h, no-need refl refl)
+  entry-told : let t = testFirst 8 (hasByte 9 k) (isOutside body (length body / 8) d) (length body / 8) in t .holds ≡ true → WriteDetail (t .gives)
+  entry-told h = (naming-detail _ body (length body / 8) d (hasByte 9 k) (same-kind k Float32Sparse) h, no-need-detail refl refl)
 
   need-told : WriteDetail (needing 15 need)
-  need-told = (needing-detail _ body (length body / 8) d 15 need refl, record { exactly = refl; told = λ m e. ap (needIn m) (sym e) })
+  need-told = (no-entry-detail _ body (length body / 8) d refl refl, record { exactly = refl; told = λ m e. ap (needIn m) (sym e) })
 
   write-details : Each WriteDetail tests
   unfolding writeRefusals

@@ -1,11 +1,11 @@
 -- What a refusal of the reader carries: an entry exactly if its number is 8, and that is the first whose index is not below dims.
-use mathlib.Core.Path.{_≡_, refl, ap, subst}
-use mathlib.Core.Bool.{Bool, true, false, _&&_, false≢true, and-eq-true-iff}
+use mathlib.Core.Path.{_≡_, refl, sym, ap, subst, _∙_}
+use mathlib.Core.Bool.{Bool, true, false, false≢true, and-eq-true-iff}
 use mathlib.Core.List.{List}
 use Prim.Native.Nat.{ℕ}
 use lib.Dec.{eqb}
-use Rattle.vector_types.specs.Answers.{refused, refusal, needing, naming}
-use Rattle.vector_types.specs.Search.{firstIndex, anyIndex}
+use Rattle.vector_types.specs.Answers.{testFirst, refused, refusal, naming}
+use Rattle.vector_types.specs.Search.{anyIndex}
 use Rattle.vector_types.specs.Layout.{namedKind, hasByte, entryCount, sparseDims, isOutside, layoutRow}
 use Rattle.vector_types.specs.Read.{ofKind, readOf, ownRefusals, refusals}
 use Rattle.vector_types.specs.Statements.{FirstOutside, namesEntry}
@@ -35,14 +35,11 @@ pub record EntryDetail (Sparse : Type 0) (s : List ℕ) (k d : ℕ) (r : Refusal
   pub first : (j : ℕ) → r .detail ≡ Entry j → Sparse × FirstOutside s k d j
 
 module _ (Sparse : Type 0) (s : List ℕ) (k d : ℕ) where
-  pub by-number-detail : (n : ℕ) → eqb n 8 ≡ false → EntryDetail Sparse s k d (refusal n)
-  by-number-detail n other = record { exactly = rw other; first = λ j e. absurd (false≢true (ap namesEntry e)) }
-
-  pub needing-detail : (n need : ℕ) → eqb n 8 ≡ false → EntryDetail Sparse s k d (needing n need)
-  needing-detail n need other = record { exactly = rw other; first = λ j e. absurd (false≢true (ap namesEntry e)) }
+  pub no-entry-detail : {r : Refusal} → namesEntry (r .detail) ≡ false → eqb (r .number) 8 ≡ false → EntryDetail Sparse s k d r
+  no-entry-detail unnamed other = record { exactly = rw (unnamed, other); first = λ j e. absurd (false≢true (sym unnamed ∙ ap namesEntry e)) }
 
   -- test 8, which is made of a sparse body
-  pub naming-detail : (b : Bool) → (b ≡ true → Sparse) → (b && anyIndex (isOutside s k d) k) ≡ true → EntryDetail Sparse s k d (naming 8 (firstIndex (isOutside s k d) k))
+  pub naming-detail : (b : Bool) → (b ≡ true → Sparse) → let t = testFirst 8 b (isOutside s k d) k in t .holds ≡ true → EntryDetail Sparse s k d (t .gives)
   naming-detail b sparse h =
       let (holds, some) = and-eq-true-iff b (anyIndex (isOutside s k d) k) .0 h in
       let found = first-outside-found s k d some in
@@ -59,7 +56,7 @@ module _ (s : List ℕ) (n : Named) where
   ReadDetail r = EntryDetail (n ≡ Kind Float32Sparse) s (entryCount s) (sparseDims s) r
 
   no-entry : {m : ℕ} {b : Bool} → eqb m 8 ≡ false → b ≡ true → ReadDetail (refusal m)
-  no-entry {m = m} other _ = by-number-detail _ s (entryCount s) (sparseDims s) m other
+  no-entry other _ = no-entry-detail _ s (entryCount s) (sparseDims s) refl other
 
   own-details : (mode : Mode) → Each ReadDetail (ownRefusals mode n s)
   unfolding layoutRow
