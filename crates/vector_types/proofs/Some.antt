@@ -7,6 +7,7 @@ use native.Mathlib.Omega.{arith}
 use lib.Dec.{ltb}
 use borrow.Author.Tests.{ltb-true, lt-ltb, le-ltb}
 use Rattle.vector_types.specs.Search.{firstFrom, firstIndex, anyIndex}
+use Rattle.vector_types.proofs.Bools.{false-unless-true}
 
 -- the test fails at the n places from i on
 abbrev Fails : (ℕ → Bool) → ℕ → ℕ → Type 0
@@ -54,21 +55,13 @@ module _ (p : ℕ → Bool) (n : ℕ) where
   first-true e = hit-first p n 0 (omega (arith, ltb-true (firstIndex p n) n e))
 
   pub before-first : (j : ℕ) → j < firstIndex p n → p j ≡ false
-  before-first j less = by-value (p j) refl
-    where
-      by-value : (b : Bool) → p j ≡ b → p j ≡ false
-      by-value true q = absurd (omega (arith, first-within p n 0, hit-after p n 0 j (omega arith) (omega (arith, first-within p n 0)) q))
-      by-value false q = q
+  before-first j less = false-unless-true (p j) (λ q. omega (arith, hit-after p n 0 j (omega arith) (omega (arith, first-within p n 0)) q))
 
   true-some : (j : ℕ) → j < n → p j ≡ true → anyIndex p n ≡ true
   true-some j m q = lt-ltb (firstIndex p n) n (omega (arith, hit-after p n 0 j (omega arith) (omega arith) q))
 
   pub some-false : anyIndex p n ≡ false → (j : ℕ) → j < n → p j ≡ false
-  some-false e j m = by-value (p j) refl
-    where
-      by-value : (b : Bool) → p j ≡ b → p j ≡ false
-      by-value true q = absurd (true≢false (sym (true-some j m q) ∙ e))
-      by-value false q = q
+  some-false e j m = false-unless-true (p j) (λ q. true≢false (sym (true-some j m q) ∙ e))
 
   pub false-some : ((j : ℕ) → j < n → p j ≡ false) → anyIndex p n ≡ false
   false-some h = le-ltb (firstIndex p n) n (omega (arith, fails-from p n 0 (λ j l m. h j (omega arith))))

@@ -5,7 +5,7 @@ use mathlib.Core.List.{List}
 use lib.Dec.{leb, eqb}
 use lib.ListN.{length, getD}
 use Rattle.little_endian.specs.Bytes.{u32At}
-use Rattle.vector_types.specs.Search.{firstIndex, anyIndex}
+use Rattle.vector_types.specs.Search.{anyIndex}
 use Rattle.vector_types.specs.declared.VectorType.{VectorType}
 use Rattle.vector_types.specs.declared.VectorType.the-variants.{Float32Dense, Float64Dense, Float32Sparse, Float1Bit, Float8}
 use Rattle.vector_types.specs.declared.Named.{Named}
@@ -82,10 +82,6 @@ isOutside s k d j = leb d (indexAt s k j)
 -- whether a sparse body of a vector of d elements has an index that is not below d; another kind has none
 abbrev pub hasIndexOutside : VectorType → ℕ → List ℕ → Bool
 hasIndexOutside k d body = hasByte 9 k && anyIndex (isOutside body (length body / 8) d) (length body / 8)
-
--- the first entry that has one; an eighth of the body's length where there is none
-abbrev pub firstOutside : VectorType → ℕ → List ℕ → ℕ
-firstOutside k d body = let n = length body / 8 in cond (hasByte 9 k) (firstIndex (isOutside body n d) n) n
 
 -- a row of the table, the limits apart: when a blob is accepted, its dims, and how long its body is, which are its first bytes
 pub record LayoutRow : Type 0 where
