@@ -6,12 +6,12 @@ use native.Mathlib.Omega.{arith}
 use lib.Dec.{leb}
 use lib.ListN.{length, getD, length-append, List·getD-append}
 use lib.Seq.{getD-append-add}
-use Rattle.vector_types.specs.Search.{anyIndex}
+use Rattle.vector_types.specs.Search.{firstIndex, anyIndex}
 use Rattle.vector_types.specs.Layout.{namedKind, byByte, lengthBeforeType, isOutside}
-use Rattle.vector_types.specs.Read.{isBelowPrevious, unusedSet}
+use Rattle.vector_types.specs.Read.{isNotAbovePrevious, unusedSet}
 use Rattle.vector_types.proofs.Bodies.{index-appended}
 use Rattle.vector_types.proofs.Ends.{odd-typed}
-use Rattle.vector_types.proofs.Some.{some-same}
+use Rattle.vector_types.proofs.Some.{first-same, some-same}
 
 module _ (body tail : List ℕ) where
   -- the kind that is named, and how many bytes stand before the type byte
@@ -30,10 +30,10 @@ module _ (body tail : List ℕ) where
   outside-appended k d long =
       some-same (isOutside (body ++ tail) k d) (isOutside body k d) k (λ j h. ap (λ (i : ℕ). leb d i) (index-appended body tail k long j h))
 
-  pub order-appended : (k : ℕ) → length body ≡ 8 * k → anyIndex (isBelowPrevious (body ++ tail) k) k ≡ anyIndex (isBelowPrevious body k) k
-  order-appended k long = some-same (isBelowPrevious (body ++ tail) k) (isBelowPrevious body k) k same-order
+  pub order-appended : (k : ℕ) → length body ≡ 8 * k → firstIndex (isNotAbovePrevious (body ++ tail) k) k ≡ firstIndex (isNotAbovePrevious body k) k
+  order-appended k long = first-same (isNotAbovePrevious (body ++ tail) k) (isNotAbovePrevious body k) k same-order
     where
-      same-order : (j : ℕ) → j < k → isBelowPrevious (body ++ tail) k j ≡ isBelowPrevious body k j
+      same-order : (j : ℕ) → j < k → isNotAbovePrevious (body ++ tail) k j ≡ isNotAbovePrevious body k j
       same-order zero h = refl
       same-order (suc j) h = rw (index-appended body tail k long (suc j) h, index-appended body tail k long j (omega arith))
 

@@ -16,6 +16,7 @@ use Rattle.vector_types.specs.declared.Refusal.{Refusal}
 use Rattle.vector_types.proofs.Details.{EntryDetail, no-entry-detail, naming-detail}
 use Rattle.vector_types.proofs.Given.{Each, given-each}
 use Rattle.vector_types.proofs.SameKind.{same-kind}
+use Rattle.vector_types.proofs.Statements.{first-outside-found}
 use Rattle.blob_writer.specs.Answers.{written, writeRefused}
 use Rattle.blob_writer.specs.Write.{blobOf, writeRefusals, writeOf}
 use Rattle.blob_writer.specs.declared.WriteAnswer.{WriteAnswer}
@@ -48,20 +49,29 @@ module _ (k : VectorType) (d : ℕ) (body : List ℕ) (room : ℕ) where
   abbrev tests : List Test
   tests = writeRefusals k d body ++ (testRoom 15 room need ∷ [])
 
+  abbrev writeNames : ℕ → Bool
+  writeNames n = eqb n 8
+
+  abbrev WriteEntry : ℕ → ℕ → Type 0
+  WriteEntry n j = (k ≡ Float32Sparse) × FirstOutside body (length body / 8) d j
+
   abbrev WriteDetail : Refusal → Type 0
-  WriteDetail r = EntryDetail (k ≡ Float32Sparse) body (length body / 8) d r × NeedDetail need r
+  WriteDetail r = EntryDetail writeNames WriteEntry r × NeedDetail need r
 
   no-need-detail : {r : Refusal} → tellsNeed (r .detail) ≡ false → eqb (r .number) 15 ≡ false → NeedDetail need r
   no-need-detail untold other = record { exactly = rw (untold, other); told = λ m e. absurd (false≢true (sym untold ∙ ap tellsNeed e)) }
 
   no-detail : {n : ℕ} {b : Bool} → eqb n 8 ≡ false → eqb n 15 ≡ false → b ≡ true → WriteDetail (refusal n)
-  no-detail other another _ = (no-entry-detail _ body (length body / 8) d refl other, no-need-detail refl another)
+  no-detail other another _ = (no-entry-detail writeNames WriteEntry refl other, no-need-detail refl another)
 
   entry-told : let t = testFirst 8 (hasByte 9 k) (isOutside body (length body / 8) d) (length body / 8) in t .holds ≡ true → WriteDetail (t .gives)
-  entry-told h = (naming-detail _ body (length body / 8) d (hasByte 9 k) (same-kind k Float32Sparse) h, no-need-detail refl refl)
+  entry-told h =
+      let n = length body / 8 in
+      let named = naming-detail writeNames WriteEntry 8 (hasByte 9 k) (isOutside body n d) n refl (λ b some. (same-kind k Float32Sparse b, first-outside-found body n d some)) in
+      (named h, no-need-detail refl refl)
 
   need-told : WriteDetail (needing 15 need)
-  need-told = (no-entry-detail _ body (length body / 8) d refl refl, record { exactly = refl; told = λ m e. ap (needIn m) (sym e) })
+  need-told = (no-entry-detail writeNames WriteEntry refl refl, record { exactly = refl; told = λ m e. ap (needIn m) (sym e) })
 
   write-details : Each WriteDetail tests
   unfolding writeRefusals

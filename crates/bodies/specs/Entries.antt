@@ -1,10 +1,11 @@
 -- The entries of a sparse body: k values, then k indices.
-use Prim.Native.Nat.{ℕ, _*_, _/_, suc, _<_}
+use Prim.Native.Nat.{ℕ, _*_, _/_, _<_}
 use mathlib.Core.List.{List}
 use lib.ListN.{length}
 use lib.Ieee.{Float}
 use Rattle.little_endian.specs.Bytes.{f32At}
 use Rattle.vector_types.specs.Layout.{indexAt}
+use Rattle.vector_types.specs.Statements.{StrictlyIncreasing}
 
 -- entry i stands at the index `index i` and has `value i`, for i below the count
 pub record Entries : Type 0 where
@@ -21,7 +22,7 @@ entriesOf body = record { count = storedCount body; index = indexAt body (stored
 
 -- each index is above the one before it
 abbrev pub Rising : Entries → Type 0
-Rising v = (i : ℕ) → suc i < v .count → v .index i < v .index (suc i)
+Rising v = StrictlyIncreasing (v .index) (v .count)
 
 -- every index is below d
 abbrev pub Below : Entries → ℕ → Type 0

@@ -11,6 +11,7 @@ use Rattle.vector_types.specs.Search.{firstFrom}
 use Rattle.vector_types.specs.Layout.{namedKind, byByte, lengthBeforeType, bodyFits, layoutRow}
 use Rattle.vector_types.specs.Read.{readOf, refusals, shown}
 use Rattle.vector_types.specs.Parts.{bodyOf}
+use Rattle.vector_types.specs.Examples.{sparseAt}
 use Rattle.blob_writer.specs.Write.{writeOf, writeOutcome, writeRefusals, tailOf, blobOf}
 use Rattle.convert.specs.Convert.{convertOutcome}
 use Rattle.distance_sums.specs.Examples.{zeroBytes as zero, oneBytes as one}
@@ -52,9 +53,9 @@ abbrev pub fileRow : ℕ → ℕ → ℕ → ℕ → ℕ → ℕ → ℕ → ℕ
 fileRow n dims needed start next place found fill =
     exportOutcome n (old ∷ old ∷ dims ∷ old ∷ needed ∷ replicate 5 old ++ (start ∷ next ∷ place ∷ found ∷ fill ∷ replicate 17 old))
 
--- refusal 8: the blob that it is about, where there are several, and the entry that is wrong
-abbrev pub entryRow : ℕ → ℕ → List (List ℕ) → ExportOutcome
-entryRow which entry = exportOutcome 8 (replicate 5 old ++ (which ∷ old ∷ entry ∷ replicate 24 old))
+-- a refusal that names an entry, and the blob that it is about where there are several
+abbrev pub entryRow : ℕ → ℕ → ℕ → List (List ℕ) → ExportOutcome
+entryRow n which entry = exportOutcome n (replicate 5 old ++ (which ∷ old ∷ entry ∷ replicate 24 old))
 
 -- the first number is the byte that names the mode
 abbrev pub reads : ℕ → List ℕ → ExportOutcome → Example
@@ -136,13 +137,15 @@ table =
     ∷ finds Dot one one unknown (row 3 old old old old old 2 old [])
     ∷ finds Jaccard (bits 0) (bits 0) (bits 0) (row 18 old old old old old 0 old [])
     -- the entry that is wrong has a field of its own, whichever export refuses
-    ∷ reads 0 wrongEntry (entryRow old 1 [])
-    ∷ reads 1 wrongEntry (entryRow old 1 [])
-    ∷ writes 9 2 (take 16 wrongEntry) 4 (entryRow old 1 (replicate 4 old ∷ []))
-    ∷ converts wrongEntry 1 0 2 (entryRow old 1 ([] ∷ replicate 2 old ∷ []))
-    ∷ measures Cos wrongEntry noEntry (entryRow 1 1 [])
-    ∷ finds Dot noEntry noEntry wrongEntry (entryRow 2 1 [])
-    ∷ appendsTo 10 wrongEntry 0 (entryRow old 1 (replicate 10 old ∷ []))
+    ∷ reads 0 wrongEntry (entryRow 8 old 1 [])
+    ∷ reads 1 wrongEntry (entryRow 8 old 1 [])
+    ∷ reads 0 (sparseAt (0 ∷ 0 ∷ [])) (row 0 old 9 4 16 old old old [])
+    ∷ reads 1 (sparseAt (0 ∷ 0 ∷ [])) (entryRow 10 old 1 [])
+    ∷ writes 9 2 (take 16 wrongEntry) 4 (entryRow 8 old 1 (replicate 4 old ∷ []))
+    ∷ converts wrongEntry 1 0 2 (entryRow 8 old 1 ([] ∷ replicate 2 old ∷ []))
+    ∷ measures Cos wrongEntry noEntry (entryRow 8 1 1 [])
+    ∷ finds Dot noEntry noEntry wrongEntry (entryRow 8 2 1 [])
+    ∷ appendsTo 10 wrongEntry 0 (entryRow 8 old 1 (replicate 10 old ∷ []))
     -- files of vectors: the end and a vector are both answers; a refusal says where the vector starts
     ∷ readsFvecs [] 0 (fileRow 0 old old old old old 0 old [])
     ∷ readsFvecs (oneVector ++ oneVector) 8 (fileRow 0 1 old 12 16 old 1 old [])

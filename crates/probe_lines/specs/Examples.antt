@@ -53,6 +53,8 @@ blobs =
     ∷ example "read\taa1003" "R\t7"
     ∷ example "read\taa1103" "R\t5"
     ∷ example "strict\tab0903" "R\t11"
+    ∷ example "strict\t0000803f0000803f00000000000000000100000009" "R\t10\t1"
+    ∷ example "strict\t0000803f000000000100000009" "V\t9\t1\t0000803f00000000"
     ∷ example "read\t0000803f0000803f01000000050000000200000009" "R\t8\t1"
     ∷ example "strict\t0000803f0000803f01000000050000000200000009" "R\t8\t1"
     ∷ example "write\t9\t2\t0000803f0000803f0100000005000000" "R\t8\t1"

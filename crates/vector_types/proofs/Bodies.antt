@@ -1,9 +1,8 @@
--- What a view tells of its body, as bytes of their own: which they are, how many, that every index is below dims, and that it has elements
--- where its kind must.
-use mathlib.Core.Path.{_≡_, refl, ap, _∙_}
+-- What a view tells of its body, as bytes of their own: which they are, how many, and what is known of its indices and its elements.
+use mathlib.Core.Path.{_≡_, refl, sym, ap, _∙_}
 use mathlib.Core.Bool.{true, false, not, _&&_, and-eq-true-iff}
 use mathlib.Core.List.{List, _++_}
-use Prim.Native.Nat.{ℕ, _+_, _-_, _*_, _/_, _%_, _<_, _≤_}
+use Prim.Native.Nat.{ℕ, suc, _+_, _-_, _*_, _/_, _%_, _<_, _≤_}
 use native.Mathlib.Omega.{arith}
 use lib.Dec.{leb, eqb}
 use lib.ListN.{length, take, drop, take-append-drop}
@@ -14,7 +13,7 @@ use Rattle.vector_types.specs.Search.{anyIndex}
 use Rattle.vector_types.specs.Layout.{maxDims, hasTrailingCount, lengthBeforeType, trailingCount, entryCount, sparseDims, rowAccepts, dimsOf, indexAt, isOutside, hasIndexOutside, bodyFits, layoutRow}
 use Rattle.vector_types.specs.Read.{readOf}
 use Rattle.vector_types.specs.Parts.{bodyOf, shownLength}
-use Rattle.vector_types.specs.Statements.{IndicesBelow}
+use Rattle.vector_types.specs.Statements.{IndicesBelow, IndicesRise}
 use Rattle.vector_types.specs.declared.View.{View}
 use Rattle.vector_types.specs.declared.VectorType.{VectorType}
 use Rattle.vector_types.specs.declared.VectorType.the-variants.{Float32Dense, Float64Dense, Float32Sparse, Float1Bit, Float8}
@@ -82,13 +81,24 @@ module _ (s : List ℕ) (v : View) (e : readOf Plain s ≡ Accepted v) where
       let long : v .length ≡ 8 * entryCount s = facts .long ∙ rw h in
       (long, omega (arith, facts .within))
 
+  -- the body has the same indices
+  body-count : v .kind ≡ Float32Sparse → length (bodyOf s) / 8 ≡ entryCount s
+  body-count h = omega (arith, length-body, entries-within h .0)
+
+  body-index : v .kind ≡ Float32Sparse → (j : ℕ) → j < entryCount s → indexAt (bodyOf s) (length (bodyOf s) / 8) j ≡ indexAt s (entryCount s) j
+  body-index h j less =
+      let (long, room) = entries-within h in
+      rw (body-count h, body-is, long) (sym (index-taken s (entryCount s) room j less))
+
   pub body-indices-below : v .kind ≡ Float32Sparse → IndicesBelow (bodyOf s) (length (bodyOf s) / 8) (v .dims .0)
   body-indices-below h j less =
-      let k = entryCount s in
-      let (long, room) = entries-within h in
-      let count : v .length / 8 ≡ k = omega arith in
-      let less : j < k = omega (arith, length-body) in
-      rw (length-body, count, body-is, long, ← index-taken s k room j less) (view-indices-below h j less)
+      let less : j < entryCount s = rw (body-count h) at less in
+      rw (body-index h j less) (view-indices-below h j less)
+
+  pub body-indices-rise : v .kind ≡ Float32Sparse → IndicesRise s (entryCount s) → IndicesRise (bodyOf s) (length (bodyOf s) / 8)
+  body-indices-rise h rise j less =
+      let less : suc j < entryCount s = rw (body-count h) at less in
+      rw (body-index h j (omega arith), body-index h (suc j) less) (rise j less)
 
   body-inside : hasIndexOutside (v .kind) (v .dims .0) (bodyOf s) ≡ false
   body-inside = by-kind (v .kind) refl

@@ -73,5 +73,9 @@ firstFrom-same p q i (suc n) h =
     let rest = firstFrom-same p q (suc i) n (λ j l m. h j (omega arith) (omega arith)) in
     rw (h i (omega arith) (omega arith), rest)
 
-pub some-same : (p q : ℕ → Bool) (n : ℕ) → ((j : ℕ) → j < n → p j ≡ q j) → anyIndex p n ≡ anyIndex q n
-some-same p q n h = ap (λ (i : ℕ). ltb i n) (firstFrom-same p q 0 n (λ j l m. h j (omega arith)))
+module _ (p q : ℕ → Bool) (n : ℕ) (h : (j : ℕ) → j < n → p j ≡ q j) where
+  pub first-same : firstIndex p n ≡ firstIndex q n
+  first-same = firstFrom-same p q 0 n (λ j l m. h j (omega arith))
+
+  pub some-same : anyIndex p n ≡ anyIndex q n
+  some-same = ap (λ (i : ℕ). ltb i n) first-same

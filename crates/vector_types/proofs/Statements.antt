@@ -1,15 +1,15 @@
--- The tests of the modes against the statements: a test finds nothing exactly if its statement holds of every place, that of 8 else the first.
+-- The tests of the modes against the statements: a test finds nothing exactly if its statement holds of every place, those of 8 and 10 else the first.
 use mathlib.Core.Path.{_≡_, refl}
-use mathlib.Core.Bool.{true, false}
+use mathlib.Core.Bool.{Bool, true, false, false≢true}
 use mathlib.Core.Logic.{_↔_}
 use mathlib.Core.List.{List}
 use Prim.Native.Nat.{ℕ, zero, suc, _+_, _-_, _*_, _<_}
 use native.Mathlib.Omega.{arith}
-use borrow.Author.Tests.{ltb-true, leb-true, leb-false, lt-leb, ltb-false, le-ltb, eqb-false, ne-eqb}
+use borrow.Author.Tests.{ltb-true, leb-true, leb-false, lt-leb, eqb-false, ne-eqb}
 use Rattle.vector_types.specs.Search.{firstIndex, anyIndex}
 use Rattle.vector_types.specs.Layout.{indexAt, isOutside, bitAt}
-use Rattle.vector_types.specs.Read.{isBelowPrevious, unusedSet}
-use Rattle.vector_types.specs.Statements.{IndicesBelow, FirstOutside, Sorted, UnusedZero}
+use Rattle.vector_types.specs.Read.{isNotAbovePrevious, unusedSet}
+use Rattle.vector_types.specs.Statements.{IndicesBelow, FirstOutside, IndicesRise, FirstNotAbove, UnusedZero}
 use Rattle.vector_types.proofs.Some.{first-true, before-first, some-false, false-some}
 
 -- refusal 8
@@ -27,15 +27,29 @@ first-outside-found s k d e = record {
 }
 
 -- refusal 10
-pub none-below-previous : (s : List ℕ) (k : ℕ) → anyIndex (isBelowPrevious s k) k ≡ false ↔ Sorted s k
-none-below-previous s k = (
-  λ e j l. ltb-false (indexAt s k (suc j)) (indexAt s k j) (some-false (isBelowPrevious s k) k e (suc j) l),
-  λ sorted. false-some (isBelowPrevious s k) k (sorted-not-below sorted),
+pub none-not-above : (s : List ℕ) (k : ℕ) → anyIndex (isNotAbovePrevious s k) k ≡ false ↔ IndicesRise s k
+none-not-above s k = (
+  λ e j l. leb-false (indexAt s k (suc j)) (indexAt s k j) (some-false (isNotAbovePrevious s k) k e (suc j) l),
+  λ rise. false-some (isNotAbovePrevious s k) k (all-above rise),
 )
   where
-    sorted-not-below : Sorted s k → (j : ℕ) → j < k → isBelowPrevious s k j ≡ false
-    sorted-not-below sorted zero l = refl
-    sorted-not-below sorted (suc j) l = le-ltb (indexAt s k (suc j)) (indexAt s k j) (sorted j l)
+    all-above : IndicesRise s k → (j : ℕ) → j < k → isNotAbovePrevious s k j ≡ false
+    all-above rise zero l = refl
+    all-above rise (suc j) l = lt-leb (indexAt s k (suc j)) (indexAt s k j) (rise j l)
+
+pub first-not-above-found : (s : List ℕ) (k : ℕ) → anyIndex (isNotAbovePrevious s k) k ≡ true → FirstNotAbove s k (firstIndex (isNotAbovePrevious s k) k)
+first-not-above-found s k e =
+    let p : ℕ → Bool = isNotAbovePrevious s k in
+    at-place (firstIndex p k) (ltb-true (firstIndex p k) k e) (first-true p k e) (before-first p k)
+  where
+    at-place : (j : ℕ) → j < k → isNotAbovePrevious s k j ≡ true → ((i : ℕ) → i < j → isNotAbovePrevious s k i ≡ false) → FirstNotAbove s k j
+    at-place zero l holds fails = absurd (false≢true holds)
+    at-place (suc j) l holds fails = record {
+      entry = l;
+      notFirst = omega arith;
+      notAbove = let previous : suc j - 1 ≡ j = omega arith in rw previous (leb-true (indexAt s k (suc j)) (indexAt s k j) holds);
+      before = λ i m. leb-false (indexAt s k (suc i)) (indexAt s k i) (fails (suc i) m);
+    }
 
 -- refusal 11
 pub none-unused-set : (s : List ℕ) (d m : ℕ) → anyIndex (unusedSet s d) (8 * m - d) ≡ false ↔ UnusedZero s d m

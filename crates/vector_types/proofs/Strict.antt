@@ -1,14 +1,15 @@
--- The strict mode: of what the plain mode shows it refuses exactly unsorted indices and unused bits that are set.
+-- The strict mode: of what the plain mode shows it refuses exactly indices that do not rise and unused bits that are set.
 use mathlib.Core.Path.{_≡_, refl, sym, ap₂, _∙_}
 use mathlib.Core.Bool.{Bool, true, false, cond, true≢false}
 use mathlib.Core.Logic.{_↔_, Iff·trans}
 use mathlib.Core.List.{List}
 use Prim.Native.Nat.{ℕ, _-_, _*_}
-use Rattle.vector_types.specs.Answers.{none, given, firstGiven, unless, refused, refusal}
-use Rattle.vector_types.specs.Search.{anyIndex}
+use lib.Dec.{ltb}
+use Rattle.vector_types.specs.Answers.{none, given, firstGiven, unless, refused, refusal, naming}
+use Rattle.vector_types.specs.Search.{firstIndex, anyIndex}
 use Rattle.vector_types.specs.Layout.{hasByte, entryCount, dimsOf, lengthOf, layoutRow}
-use Rattle.vector_types.specs.Read.{readOf, ownRefusals, isBelowPrevious, unusedSet}
-use Rattle.vector_types.specs.Statements.{Sorted, UnusedZero}
+use Rattle.vector_types.specs.Read.{readOf, ownRefusals, isNotAbovePrevious, unusedSet}
+use Rattle.vector_types.specs.Statements.{IndicesRise, UnusedZero}
 use Rattle.vector_types.specs.declared.VectorType.{VectorType}
 use Rattle.vector_types.specs.declared.Named.the-variants.{Kind}
 use Rattle.vector_types.specs.declared.VectorType.the-variants.{Float32Sparse, Float1Bit}
@@ -18,7 +19,7 @@ use Rattle.vector_types.specs.declared.ReadAnswer.{ReadAnswer}
 use Rattle.vector_types.specs.declared.ReadAnswer.the-variants.{Accepted}
 use Rattle.vector_types.specs.declared.Mode.the-variants.{Plain, Strict}
 use Rattle.vector_types.proofs.Given.{refused-not-accepted}
-use Rattle.vector_types.proofs.Statements.{none-below-previous, none-unused-set}
+use Rattle.vector_types.proofs.Statements.{none-not-above, none-unused-set}
 use Rattle.vector_types.proofs.Modes.{read-by-own}
 use Rattle.vector_types.proofs.Views.{view-facts}
 
@@ -30,14 +31,18 @@ accepted-iff : (b : Bool) (r : Refusal) (v : View) → cond b (refused r) (Accep
 accepted-iff true r v = (λ e. absurd (refused-not-accepted r v e), λ e. absurd (true≢false e))
 accepted-iff false r v = (λ _. refl, λ _. refl)
 
+-- the first entry of a sparse blob that is not above the one before it, or how many there are
+abbrev pub firstNotAbove : List ℕ → ℕ
+firstNotAbove s = firstIndex (isNotAbovePrevious s (entryCount s)) (entryCount s)
+
 -- what the strict mode answers where the plain one shows v, by kind
 module _ (s : List ℕ) (v : View) (e : readOf Plain s ≡ Accepted v) where
   strict-kind : (k : VectorType) → v .kind ≡ k → readOf Strict s ≡ unless (firstGiven (ownRefusals Strict (Kind k) s)) refused (Accepted v)
   strict-kind k h = read-by-own Strict s v e ∙ rw (view-facts s v e .names, h)
 
-  pub strict-sparse : v .kind ≡ Float32Sparse → readOf Strict s ≡ cond (anyIndex (isBelowPrevious s (entryCount s)) (entryCount s)) (refused (refusal 10)) (Accepted v)
+  pub strict-sparse : v .kind ≡ Float32Sparse → readOf Strict s ≡ cond (ltb (firstNotAbove s) (entryCount s)) (refused (naming 10 (firstNotAbove s))) (Accepted v)
   unfolding layoutRow
-  strict-sparse h = strict-kind Float32Sparse h ∙ one-test (anyIndex (isBelowPrevious s (entryCount s)) (entryCount s)) (refusal 10) (Accepted v)
+  strict-sparse h = strict-kind Float32Sparse h ∙ one-test (ltb (firstNotAbove s) (entryCount s)) (naming 10 (firstNotAbove s)) (Accepted v)
 
   pub strict-bits : v .kind ≡ Float1Bit
       → readOf Strict s ≡ cond (anyIndex (unusedSet s (v .dims .0)) (8 * v .length - v .dims .0)) (refused (refusal 11)) (Accepted v)
@@ -55,10 +60,9 @@ module _ (s : List ℕ) (v : View) (e : readOf Plain s ≡ Accepted v) where
   unfolding layoutRow
   strict-other sparse bits = strict-kind (v .kind) refl ∙ rw (sparse, bits)
 
-  pub strict-sorted : v .kind ≡ Float32Sparse → readOf Strict s ≡ Accepted v ↔ Sorted s (entryCount s)
-  strict-sorted h =
-      let b : Bool = anyIndex (isBelowPrevious s (entryCount s)) (entryCount s) in
-      let exactly = Iff·trans (accepted-iff b (refusal 10) v) (none-below-previous s (entryCount s)) in
+  pub strict-indices-rise : v .kind ≡ Float32Sparse → readOf Strict s ≡ Accepted v ↔ IndicesRise s (entryCount s)
+  strict-indices-rise h =
+      let exactly = Iff·trans (accepted-iff (ltb (firstNotAbove s) (entryCount s)) (naming 10 (firstNotAbove s)) v) (none-not-above s (entryCount s)) in
       rw (strict-sparse h) exactly
 
   pub strict-unused : v .kind ≡ Float1Bit → readOf Strict s ≡ Accepted v ↔ UnusedZero s (v .dims .0) (v .length)

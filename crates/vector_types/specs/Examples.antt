@@ -1,8 +1,9 @@
 -- Blobs that the two modes answer differently, and refusals that the customer's own examples (distance/specs/Examples.antt) do not have: one table, which antt computes.
 -- The P examples of reading stand with those of distances, in the crate `distance`.
 use mathlib.Core.Path.{_≡_, refl}
-use mathlib.Core.List.{List, [], _∷_, map}
-use Prim.Native.Nat.{ℕ}
+use mathlib.Core.List.{List, [], _∷_, _++_, map}
+use Prim.Native.Nat.{ℕ, _*_}
+use lib.ListN.{length}
 use Rattle.little_endian.specs.Bytes.{numberAt}
 use Rattle.vector_types.specs.Answers.{acceptedAs, refused, refusal, naming}
 use Rattle.vector_types.specs.Search.{firstFrom}
@@ -40,9 +41,24 @@ bothName s n entry = bothAnswer s (refused (naming n entry))
 abbrev pub strictRefuses : List ℕ → ReadAnswer → ℕ → Example
 strictRefuses s r n = answers s r (refused (refusal n))
 
--- a sparse blob of two entries, dims 4
-abbrev pub pair : ℕ → ℕ → List ℕ
-pair i j = 0 ∷ 0 ∷ 0x80 ∷ 0x3f ∷ 0 ∷ 0 ∷ 0x80 ∷ 0x3f ∷ i ∷ 0 ∷ 0 ∷ 0 ∷ j ∷ 0 ∷ 0 ∷ 0 ∷ 4 ∷ 0 ∷ 0 ∷ 0 ∷ 9 ∷ []
+-- a sparse blob of dims 4 with the value 1.0 at each of these indices
+abbrev pub values : List ℕ → List ℕ
+values [] = []
+values (i ∷ is) = 0 ∷ 0 ∷ 0x80 ∷ 0x3f ∷ values is
+
+abbrev pub indices : List ℕ → List ℕ
+indices [] = []
+indices (i ∷ is) = i ∷ 0 ∷ 0 ∷ 0 ∷ indices is
+
+abbrev pub sparseAt : List ℕ → List ℕ
+sparseAt is = values is ++ indices is ++ (4 ∷ 0 ∷ 0 ∷ 0 ∷ 9 ∷ [])
+
+abbrev pub bothShow : List ℕ → Example
+bothShow is = bothAnswer (sparseAt is) (acceptedAs Float32Sparse 4 (8 * length is))
+
+-- the strict mode names an entry by 10
+abbrev pub strictNames : List ℕ → ℕ → Example
+strictNames is entry = answers (sparseAt is) (acceptedAs Float32Sparse 4 (8 * length is)) (refused (naming 10 entry))
 
 -- a 1-bit blob of five elements in the byte b
 abbrev pub five : ℕ → List ℕ
@@ -50,21 +66,29 @@ five b = b ∷ 11 ∷ 3 ∷ []
 
 abbrev pub table : List Example
 table =
-    bothAnswer (pair 1 2) (acceptedAs Float32Sparse 4 16)
-    -- equal neighbours are sorted
-    ∷ bothAnswer (pair 1 1) (acceptedAs Float32Sparse 4 16)
-    ∷ strictRefuses (pair 2 1) (acceptedAs Float32Sparse 4 16) 10
+    bothShow []
+    ∷ bothShow (0 ∷ [])
+    ∷ bothShow (1 ∷ 2 ∷ [])
+    -- 10 names the first entry that is not above the one before it: equal neighbours first, last, before a fall and after one
+    ∷ strictNames (0 ∷ 0 ∷ []) 1
+    ∷ strictNames (1 ∷ 1 ∷ 2 ∷ []) 1
+    ∷ strictNames (1 ∷ 2 ∷ 2 ∷ []) 2
+    ∷ strictNames (1 ∷ 2 ∷ 2 ∷ 0 ∷ []) 2
+    ∷ strictNames (1 ∷ 2 ∷ 0 ∷ 0 ∷ []) 2
+    ∷ strictNames (2 ∷ 1 ∷ []) 1
     -- 8 names the first entry that is not below dims, and comes before 10
-    ∷ bothName (pair 5 1) 8 0
-    ∷ bothName (pair 1 4) 8 1
-    ∷ bothName (pair 4 9) 8 0
+    ∷ bothName (sparseAt (5 ∷ 1 ∷ [])) 8 0
+    ∷ bothName (sparseAt (1 ∷ 4 ∷ [])) 8 1
+    ∷ bothName (sparseAt (4 ∷ 9 ∷ [])) 8 0
+    ∷ bothName (sparseAt (1 ∷ 1 ∷ 4 ∷ [])) 8 2
     ∷ bothAnswer (five 0x1f) (acceptedAs Float1Bit 5 1)
     ∷ strictRefuses (five 0x3f) (acceptedAs Float1Bit 5 1) 11
     ∷ bothRefuse (0x07 ∷ []) 3
     ∷ bothRefuse (0x09 ∷ []) 7
     ∷ bothRefuse (1 ∷ 0 ∷ 1 ∷ 0 ∷ 9 ∷ []) 9
-    -- 8 before 9: the dims are 65,537, and the index is as great
-    ∷ bothName (0 ∷ 0 ∷ 0x80 ∷ 0x3f ∷ 1 ∷ 0 ∷ 1 ∷ 0 ∷ 1 ∷ 0 ∷ 1 ∷ 0 ∷ 9 ∷ []) 8 0
+    -- 8 before 9 before 10: the dims are 65,537, and an index is as great; or two are equal
+    ∷ bothName (values (0 ∷ []) ++ (1 ∷ 0 ∷ 1 ∷ 0 ∷ 1 ∷ 0 ∷ 1 ∷ 0 ∷ 9 ∷ [])) 8 0
+    ∷ bothRefuse (values (0 ∷ 0 ∷ []) ++ indices (0 ∷ 0 ∷ []) ++ (1 ∷ 0 ∷ 1 ∷ 0 ∷ 9 ∷ [])) 9
     ∷ []
 
 pub table-holds : map (λ (e : Example). e .defined) table ≡ map (λ (e : Example). e .expected) table

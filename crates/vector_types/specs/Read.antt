@@ -31,10 +31,10 @@ ofKind (Kind k) p = p k
 ofKind Unsupported p = false
 ofKind Unknown p = false
 
--- whether entry j of the k of a sparse body is below the one before it
-abbrev pub isBelowPrevious : List ℕ → ℕ → ℕ → Bool
-isBelowPrevious s k zero = false
-isBelowPrevious s k (suc j) = ltb (indexAt s k (suc j)) (indexAt s k j)
+-- whether index j of the k of a sparse body is not above the one before it; entry 0 has none before it
+abbrev pub isNotAbovePrevious : List ℕ → ℕ → ℕ → Bool
+isNotAbovePrevious s k zero = false
+isNotAbovePrevious s k (suc j) = leb (indexAt s k (suc j)) (indexAt s k j)
 
 -- whether bit i of those past d is set
 abbrev pub unusedSet : List ℕ → ℕ → ℕ → Bool
@@ -45,7 +45,7 @@ abbrev pub ownRefusals : Mode → Named → List ℕ → List Test
 unfolding lengthBeforeType layoutRow
 ownRefusals Plain names s = []
 ownRefusals Strict names s =
-    test 10 (ofKind names (λ k. hasByte 9 k && anyIndex (isBelowPrevious s (entryCount s)) (entryCount s)))
+    testFirst 10 (ofKind names (hasByte 9)) (isNotAbovePrevious s (entryCount s)) (entryCount s)
     ∷ test 11 (ofKind names (λ k. hasByte 3 k && anyIndex (unusedSet s (dimsOf k s)) (8 * lengthOf k s - dimsOf k s)))
     ∷ []
 

@@ -1,5 +1,5 @@
 -- What the modes ask of indices and unused bits, as statements about every one of them, without a test; and what a refusal carries.
-use Prim.Native.Nat.{ℕ, suc, _*_, _<_, _≤_}
+use Prim.Native.Nat.{ℕ, suc, _-_, _*_, _<_, _≤_}
 use mathlib.Core.Path.{_≡_}
 use mathlib.Core.Bool.{Bool, true, false}
 use mathlib.Core.List.{List}
@@ -17,9 +17,20 @@ pub record FirstOutside (s : List ℕ) (k d j : ℕ) : Type 0 where
   pub outside : d ≤ indexAt s k j
   pub before : (i : ℕ) → i < j → indexAt s k i < d
 
--- the k indices of a sparse body are in sorted order, as the Rust's `turso_debug_assert!(idx.is_sorted())` tests it: equal neighbours pass
-abbrev pub Sorted : List ℕ → ℕ → Type 0
-Sorted s k = (j : ℕ) → suc j < k → indexAt s k j ≤ indexAt s k (suc j)
+-- each of the first n numbers of f is above the one before it
+abbrev pub StrictlyIncreasing : (ℕ → ℕ) → ℕ → Type 0
+StrictlyIncreasing f n = (j : ℕ) → suc j < n → f j < f (suc j)
+
+-- the k indices of a sparse body rise, so none stands twice
+abbrev pub IndicesRise : List ℕ → ℕ → Type 0
+IndicesRise s k = StrictlyIncreasing (indexAt s k) k
+
+-- j is the first of the k entries of a sparse body whose index is not above that of the entry before it; entry 0 has none before it
+pub record FirstNotAbove (s : List ℕ) (k j : ℕ) : Type 0 where
+  pub entry : j < k
+  pub notFirst : 0 < j
+  pub notAbove : indexAt s k j ≤ indexAt s k (j - 1)
+  pub before : StrictlyIncreasing (indexAt s k) j
 
 -- the bits of a 1-bit body of m bytes that stand for none of the d elements are zero
 abbrev pub UnusedZero : List ℕ → ℕ → ℕ → Type 0

@@ -1,27 +1,32 @@
-// The tests of the strict mode: sparse indices are sorted, and unused bits are zero.
+// The tests of the strict mode: sparse indices rise, and unused bits are zero.
 ghost use mathlib.Core.Path.{_≡_};
 ghost use Prim.Native.Nat.{_*_, _-_, _≤_, _<_};
 ghost use lib.ListN.{length};
 ghost use Rattle.vector_types.specs.Search.{firstIndex, anyIndex};
 ghost use Rattle.vector_types.specs.Layout.{ceil};
-ghost use Rattle.vector_types.specs.Read.{readOf, isBelowPrevious, unusedSet};
+ghost use Rattle.vector_types.specs.Read.{readOf, isNotAbovePrevious, unusedSet};
 ghost use Rattle.vector_types.specs.declared.ReadAnswer.the-variants.{Accepted};
 ghost use Rattle.vector_types.specs.declared.Mode.the-variants.{Plain, Strict};
 use crate::ReadAnswer;
+use crate::Refusal;
 use crate::VectorType;
 use crate::View;
 use crate::refuse;
 
-// The first of the count indices of a sparse body that is below the one before it, or count.
-fn first_below_previous(s: &[u8], count: usize) -> usize
+// The first of the count indices of a sparse body that is not above the one before it, or count. Entry 0
+// has none before it.
+fn first_not_above_previous(s: &[u8], count: usize) -> usize
     requires { ⌜ 8 * count ≤ length (now s) ⌝ }
-    ensures { λ r. ⌜ r ≡ firstIndex (isBelowPrevious (now (s .entry)) count) count ⌝ }
+    ensures { λ r. ⌜ r ≡ firstIndex (isNotAbovePrevious (now (s .entry)) count) count ⌝ }
 {
-    let mut last: u32 = 0;
-    let mut j = 0;
+    if count == 0 {
+        return count;
+    }
+    let mut last = little_endian::u32_at(s, 4 * count);
+    let mut j = 1;
     while j < count {
         let index = little_endian::u32_at(s, 4 * count + 4 * j);
-        if index < last {
+        if index <= last {
             return j;
         }
         last = index;
@@ -51,8 +56,9 @@ pub(crate) fn check_strict(blob: &[u8], view: View) -> ReadAnswer
     match kind {
         VectorType::Float32Sparse => {
             let count = view.length / 8;
-            if first_below_previous(blob, count) < count {
-                return refuse(10);
+            let wrong = first_not_above_previous(blob, count);
+            if wrong < count {
+                return ReadAnswer::Refused(Refusal::naming(10, wrong));
             }
             ReadAnswer::Accepted(view)
         }

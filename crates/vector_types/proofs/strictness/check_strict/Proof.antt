@@ -7,10 +7,10 @@ use native.Mathlib.Omega.{arith}
 use lib.Dec.{ltb}
 use lib.ListN.{length}
 use borrow.Author.Tests.{lt-ltb, le-ltb, eqb-true}
-use Rattle.vector_types.specs.Answers.{refused, refusal}
+use Rattle.vector_types.specs.Answers.{refused, refusal, naming}
 use Rattle.vector_types.specs.Search.{firstIndex, anyIndex}
 use Rattle.vector_types.specs.Layout.{ceil, hasByte, entryCount, lengthOf, bodyFits, layoutRow}
-use Rattle.vector_types.specs.Read.{readOf, isBelowPrevious, unusedSet}
+use Rattle.vector_types.specs.Read.{readOf, isNotAbovePrevious, unusedSet}
 use Rattle.vector_types.specs.declared.View.{View}
 use Rattle.vector_types.specs.declared.VectorType.the-variants.{Float32Sparse, Float1Bit}
 use Rattle.vector_types.specs.declared.ReadAnswer.the-variants.{Accepted}
@@ -35,10 +35,8 @@ module _ (s : List ℕ) (v : View) (e : readOf Plain s ≡ Accepted v) where
   bits-within h = omega (arith, length-by-dims h, view-facts s v e .within)
 
   by-order : v .kind ≡ Float32Sparse → (b : Bool) (place : ℕ) → let count = v .length / 8 in
-      place ≡ firstIndex (isBelowPrevious s count) count → ltb place count ≡ b → readOf Strict s ≡ cond b (refused (refusal 10)) (Accepted v)
-  by-order h b place p q =
-      let test : anyIndex (isBelowPrevious s (entryCount s)) (entryCount s) ≡ b = rw (count-by-length h, ← p) q in
-      strict-sparse s v e h ∙ ap (λ (t : Bool). cond t (refused (refusal 10)) (Accepted v)) test
+      place ≡ firstIndex (isNotAbovePrevious s count) count → ltb place count ≡ b → readOf Strict s ≡ cond b (refused (naming 10 place)) (Accepted v)
+  by-order h b place p q = strict-sparse s v e h ∙ rw (count-by-length h, ← p, q)
 
   by-bits : v .kind ≡ Float1Bit → (b : Bool) → anyIndex (unusedSet s (v .dims .0)) (8 * ceil (v .dims .0) 8 - v .dims .0) ≡ b
       → readOf Strict s ≡ cond b (refused (refusal 11)) (Accepted v)
@@ -46,22 +44,22 @@ module _ (s : List ℕ) (v : View) (e : readOf Plain s ≡ Accepted v) where
       let test : anyIndex (unusedSet s (v .dims .0)) (8 * v .length - v .dims .0) ≡ b = rw (length-by-dims h) q in
       strict-bits s v e h ∙ ap (λ (t : Bool). cond t (refused (refusal 11)) (Accepted v)) test
 
-first-below-previous-requires : tie.Need-first-below-previous-requires
-first-below-previous-requires c κs = omega (arith, view-facts _ _ (c .before .before .before .before .pre) .within)
+first-not-above-previous-requires : tie.Need-first-not-above-previous-requires
+first-not-above-previous-requires c κs = omega (arith, view-facts _ _ (c .before .before .before .before .pre) .within)
 
 returns : tie.Need-returns
 returns c =
-    c .refuse .ensures
+    ap refused (c .naming .ensures)
     ∙ sym
     (by-order _ _ (c .before .before .before .before .before .before .before .pre) (c .before .before .before .before .enum-told .given .1) true _
-    (c .before .before .first-below-previous .ensures) (lt-ltb _ _ (c .before .if1 .taken)))
+    (c .before .before .first-not-above-previous .ensures) (lt-ltb _ _ (c .before .if1 .taken)))
 
 unused-set-requires : tie.Need-unused-set-requires
 unused-set-requires c κs = bits-within _ _ (c .before .before .before .pre) (c .enum-told2 .given .1)
 
 returns-2 : tie.Need-returns-2
 returns-2 c =
-    c .refuse2 .ensures
+    c .refuse .ensures
     ∙ sym
     (by-bits _ _ (c .before .before .before .before .before .before .pre) (c .before .before .before .enum-told2 .given .1) true
     (sym (c .before .before .unused-set .ensures) ∙ c .before .if2 .taken))
@@ -70,7 +68,7 @@ returns-3 : tie.Need-returns-3
 returns-3 c =
     sym
     (by-order _ _ (c .before .before .before .before .before .before .pre) (c .before .before .before .enum-told .given .1) false _
-    (c .before .first-below-previous .ensures) (le-ltb _ _ (c .if1 .left)))
+    (c .before .first-not-above-previous .ensures) (le-ltb _ _ (c .if1 .left)))
 
 returns-4 : tie.Need-returns-4
 returns-4 c =
@@ -92,7 +90,7 @@ check-strict-spec =
     tie.close
     (tie.spec
     (λ c. search needs)
-    first-below-previous-requires
+    first-not-above-previous-requires
     (λ c κs. search needs)
     returns
     (λ c. search needs)
