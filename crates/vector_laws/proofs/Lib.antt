@@ -10,4 +10,5 @@ pub mod Summed
 pub mod Spreading
 pub mod DenseFormSums
 pub mod DenseForm
+pub mod StrictDenseForm
 pub mod Padding

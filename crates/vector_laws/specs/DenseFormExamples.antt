@@ -9,6 +9,7 @@ use lib.Ieee.{add, sub, mul, div, neg, eq, lt, ofBits, binary64}
 use Rattle.float_laws.specs.Running.{running}
 use Rattle.little_endian.specs.Bytes.{numberAt, bytesOf, put}
 use Rattle.rounding.specs.Root.{root}
+use Rattle.vector_types.specs.Answers.{refused, naming}
 use Rattle.vector_types.specs.Search.{firstFrom}
 use Rattle.vector_types.specs.Layout.{namedKind, byByte, lengthBeforeType, bodyFits, layoutRow}
 use Rattle.vector_types.specs.Read.{readOf, refusals, shown}
@@ -17,7 +18,7 @@ use Rattle.blob_writer.specs.Write.{tailOf, blobOf}
 use Rattle.vector_types.specs.declared.ReadAnswer.{ReadAnswer}
 use Rattle.vector_types.specs.declared.ReadAnswer.the-variants.{Accepted, Refused as Unread}
 use Rattle.vector_types.specs.declared.VectorType.the-variants.{Float32Sparse}
-use Rattle.vector_types.specs.declared.Mode.the-variants.{Plain}
+use Rattle.vector_types.specs.declared.Mode.the-variants.{Plain, Strict}
 use Rattle.convert_parts.specs.Spread.{spread}
 use Rattle.convert_parts.specs.Result.{resultOf}
 use Rattle.distance_sums.specs.Extremes.{lesser, greater}
@@ -118,3 +119,8 @@ table-holds = refl
 -- and no two of them are one
 pub all-change : map (λ (e : Example). eqb (e .sparse) (e .dense)) table ≡ map (λ (e : Example). false) table
 all-change = refl
+
+-- the strict mode refuses the two whose indices do not rise, and names entry 1
+pub not-rising-refused : map (readOf Strict) (repeating ∷ falling ∷ []) ≡ refused (naming 10 1) ∷ refused (naming 10 1) ∷ []
+unfolding readOf namedKind byByte lengthBeforeType bodyFits refusals shown firstFrom numberAt bytesOf put layoutRow tailOf blobOf
+not-rising-refused = refl
