@@ -3,7 +3,7 @@
 use std::borrow::Cow;
 use std::hint::black_box;
 
-use crate::rules::{Kind, Measure, View};
+use crate::rules::{self, Kind, Measure, View};
 
 /// Limit 1: a blob, read or written, is no longer than this. The Rust has no limit.
 pub const MOST_LENGTH: usize = 524_293;
@@ -13,6 +13,12 @@ pub const MOST_DIMS: usize = 65_536;
 
 const NAN_32: u32 = 0x7fc0_0000;
 const NAN_64: u64 = 0x7ff8_0000_0000_0000;
+
+/// Whether the strict mode accepts the indices of a sparse body. What the Rust calls unsorted it refuses;
+/// of what the Rust calls sorted it refuses equal neighbours, and nothing else.
+pub fn rises(sorted: bool, body: &[u8]) -> bool {
+    sorted && rules::neighbours(body).all(|(before, index)| index != before)
+}
 
 /// A computed f32: every NaN has one pattern, where the Rust's has any sign and payload.
 /// The value is hidden, since compilers take `x < 0 ? NaN : sqrt(x)` for a plain `sqrt(x)`.
@@ -119,6 +125,17 @@ mod tests {
         let sparse = [1, 0, 1, 0, 9];
         assert_eq!(shape(&sparse), Ok((Kind::Float32Sparse, 65_537)));
         assert_eq!(rules::read(&sparse), Err(9.into()));
+    }
+
+    /// Row 'equal neighbours' of docs/DIFFERENCES.md: the Rust's test passes two entries in one place.
+    #[test]
+    fn equal_neighbours_are_sorted_and_do_not_rise() {
+        let body = [0x3f80_0000_u32, 0x3f80_0000, 0, 0].map(u32::to_le_bytes).concat();
+        let blob = rules::blob(Kind::Float32Sparse, 1, &body);
+        assert_eq!(original::indices_are_sorted(&blob), Ok(true));
+        assert!(!rises(true, &body));
+        assert!(rises(true, &body[4..12]));
+        assert!(!rises(false, &body[4..12]));
     }
 
     #[test]

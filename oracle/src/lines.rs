@@ -245,7 +245,7 @@ mod tests {
             "trunc|c37fffff = F|00",
             "strict|ff0903 = R|11",
             "strict|7f0903 = V|3|7|7f",
-            "strict|000080bf0000803f01000000000000000200000009 = R|10",
+            "strict|000080bf0000803f01000000000000000200000009 = R|10|1",
             "conv|4|00000000ffff7f7f = C|4|2|00ff00008080807b00000000",
             "conv|1|000080bf0000803f01000000010000000200000009 = C|1|2|000000000000803f",
             "write|3|8|aa = W|aa0803",
@@ -279,13 +279,45 @@ mod tests {
             format!("near|l2|{wrong}|0200000009|0200000009 = R|8|p|1"),
             format!("near|l2|0200000009|{wrong}|0200000009 = R|8|a|1"),
             format!("near|l2|0200000009|0200000009|{wrong} = R|8|b|1"),
-            // both indices are out of range, and not sorted
+            // both indices are out of range, and fall
             "strict|0000803f0000803f05000000020000000200000009 = R|8|0".to_string(),
             "write|9|2|0000803f0000803f0100000005000000 = R|8|1".to_string(),
             // dims 65,537, and an index as great
             "read|0000803f010001000100010009 = R|8|0".to_string(),
         ];
         ask(Program::Vecprobe, &lines.each_ref().map(String::as_str));
+    }
+
+    /// Strict order: the plain mode takes indices as they come.
+    #[test]
+    fn the_entry_that_does_not_rise() {
+        let ones = |count: usize| "0000803f".repeat(count);
+        let strict = |indices: &[u8], answer: &str| {
+            let indices: String = indices.iter().map(|i| format!("{i:02x}000000")).collect();
+            let count = indices.len() / 8;
+            let blob = format!("{}{indices}0900000009", ones(count));
+            let shown = format!("V|9|9|{}{indices}", ones(count));
+            let answer = if answer == "V" { &shown } else { answer };
+            [
+                format!("read|{blob} = {shown}"),
+                format!("strict|{blob} = {answer}"),
+            ]
+        };
+        let lines = [
+            strict(&[], "V"),
+            strict(&[0], "V"),
+            strict(&[0, 7, 8], "V"),
+            strict(&[0, 0], "R|10|1"),
+            strict(&[7, 7, 8], "R|10|1"),
+            strict(&[7, 8, 8], "R|10|2"),
+            strict(&[1, 7, 7, 8], "R|10|2"),
+            strict(&[1, 7, 7, 0], "R|10|2"),
+            strict(&[1, 7, 0, 0], "R|10|2"),
+            strict(&[8, 7], "R|10|1"),
+        ];
+        let lines = lines.concat();
+        let lines: Vec<&str> = lines.iter().map(String::as_str).collect();
+        ask(Program::Vecprobe, &lines);
     }
 
     #[test]

@@ -50,7 +50,9 @@ impl Oracle {
         let view = self.read(blob)?;
         let strict = rules::strict(&view);
         if view.kind == Kind::Float32Sparse {
-            self.hold(&Ok(strict.is_ok()), &original::indices_are_sorted(blob));
+            let sorted = original::indices_are_sorted(blob);
+            let rises = sorted.map(|sorted| differences::rises(sorted, &view.body));
+            self.hold(&Ok(strict.is_ok()), &rises);
         }
         strict.map(|()| view)
     }

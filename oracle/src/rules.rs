@@ -50,8 +50,8 @@ pub enum Measure {
     Jac,
 }
 
-/// A number of the table of refusals, and what it carries: 8 the entry that is wrong, 15 the need, 19 the
-/// place where the vector starts.
+/// A number of the table of refusals, and what it carries: 8 and 10 the entry that is wrong, 15 the need,
+/// 19 the place where the vector starts.
 #[derive(Clone, Copy, Debug, PartialEq, Eq)]
 pub struct Refusal {
     pub number: u8,
@@ -178,10 +178,21 @@ fn inside(dims: usize, body: &[u8]) -> Result<(), Refusal> {
     outside.map_or(Ok(()), |entry| Err(Refusal::carrying(8, entry)))
 }
 
+/// Each index of a body, from entry 1 on, beside the one before it.
+pub fn neighbours(body: &[u8]) -> impl Iterator<Item = (u32, u32)> + '_ {
+    indices(body).zip(indices(body).skip(1))
+}
+
+/// Whether the indices of a sparse body rise: 10, with the first entry that is not above the one before it.
+fn rising(body: &[u8]) -> Result<(), Refusal> {
+    let wrong = neighbours(body).position(|(before, index)| index <= before);
+    wrong.map_or(Ok(()), |pair| Err(Refusal::carrying(10, pair + 1)))
+}
+
 /// What the strict mode tests besides: 10, then 11.
 pub fn strict(view: &View) -> Result<(), Refusal> {
     match view.kind {
-        Kind::Float32Sparse if !indices(&view.body).is_sorted() => Err(10.into()),
+        Kind::Float32Sparse => rising(&view.body),
         Kind::Float1Bit if unused_bits(view) > 0 => Err(11.into()),
         _ => Ok(()),
     }
@@ -306,13 +317,17 @@ mod tests {
         assert_eq!(entries(65_537), Err(1.into()));
     }
 
+    /// A sparse body with these indices.
+    fn entries(indices: &[u32]) -> Vec<u8> {
+        let values = vec![0; 4 * indices.len()];
+        let indices = indices.iter().flat_map(|index| index.to_le_bytes());
+        values.into_iter().chain(indices).collect()
+    }
+
     #[test]
     fn the_first_wrong_entry_is_named() {
         let sparse = |indices: &[u32]| {
-            let values = vec![0; 4 * indices.len()];
-            let indices = indices.iter().flat_map(|index| index.to_le_bytes());
-            let body: Vec<u8> = values.into_iter().chain(indices).collect();
-            let kind = Kind::Float32Sparse;
+            let (kind, body) = (Kind::Float32Sparse, entries(indices));
             (
                 read(&blob(kind, 4, &body)).err(),
                 write(kind, 4, &body).err(),
@@ -329,6 +344,23 @@ mod tests {
         assert_eq!(sparse(&[4]), both(0));
         assert_eq!(sparse(&[0, 1, 4]), both(2));
         assert_eq!(sparse(&[0, 9, 1, 4]), both(1));
+    }
+
+    #[test]
+    fn the_first_entry_that_does_not_rise_is_named() {
+        let sparse = |indices: &[u32]| {
+            strict(&View::new(Kind::Float32Sparse, 9, &entries(indices))).err()
+        };
+        let at = |entry: usize| Some(Refusal::carrying(10, entry));
+        assert_eq!(sparse(&[]), None);
+        assert_eq!(sparse(&[0]), None);
+        assert_eq!(sparse(&[0, 1, 8]), None);
+        assert_eq!(sparse(&[0, 0]), at(1));
+        assert_eq!(sparse(&[3, 3, 4]), at(1));
+        assert_eq!(sparse(&[3, 4, 4]), at(2));
+        assert_eq!(sparse(&[2, 5, 5, 1]), at(2));
+        assert_eq!(sparse(&[2, 5, 1, 1]), at(2));
+        assert_eq!(sparse(&[8, 0]), at(1));
     }
 
     #[test]

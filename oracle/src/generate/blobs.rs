@@ -100,13 +100,16 @@ impl Random {
         }
     }
 
-    /// Sparse entries with rising indices, or repeated, unsorted or out of range.
+    /// Sparse entries with rising indices, or repeated, falling or out of range.
     pub fn entries(&mut self, dims: usize, count: usize) -> Vec<u8> {
         let mut indices: Vec<u32> = (0..count).map(|_| self.below(dims.max(1)) as u32).collect();
         if !self.one_in(4) {
             indices.sort_unstable();
             if !self.one_in(4) {
                 indices.dedup();
+            }
+            if indices.len() > 1 && self.one_in(4) {
+                self.put_twice(&mut indices);
             }
         }
         if !indices.is_empty() && self.one_in(20) {
@@ -115,6 +118,22 @@ impl Random {
         let mut body = self.floats(SINGLE, indices.len());
         body.extend(indices.into_iter().flat_map(u32::to_le_bytes));
         body
+    }
+
+    /// Repeats the index of the first entry, of the last but one or of any other in the next; a third of the
+    /// time a later index is no greater.
+    fn put_twice(&mut self, indices: &mut [u32]) {
+        let last = indices.len() - 1;
+        let at = match self.below(3) {
+            0 => 1,
+            1 => last,
+            _ => self.between(1..=last),
+        };
+        indices[at] = indices[at - 1];
+        if at < last && self.one_in(3) {
+            let after = self.between(at + 1..=last);
+            indices[after] = self.below(indices[at] as usize + 1) as u32;
+        }
     }
 
     /// Puts an index out of range, or two of them, or the last.
