@@ -58,7 +58,8 @@ enum fulandewu_kind {
     FULANDEWU_FLOAT32_SPARSE = 9
 };
 
-/* How a blob is read. Strict asks besides that sparse indices are in order and unused bits zero.
+/* How a blob is read. Strict asks besides that each sparse index is above the one before it and
+ * that unused bits are zero.
  * Conversions, distances, nearer of two and fulandewu_fvecs_append read plainly. */
 enum fulandewu_mode {
     FULANDEWU_PLAIN = 0,
@@ -79,7 +80,7 @@ enum fulandewu_refusal {
                                                1-bit or Float8 */
     FULANDEWU_INDEX_NOT_BELOW_DIMS = 8,     /* a sparse index not below dims */
     FULANDEWU_DIMS_OVER_LIMIT = 9,          /* dims over 65,536 */
-    FULANDEWU_SPARSE_ORDER = 10,            /* strict: sparse indices not in order */
+    FULANDEWU_SPARSE_ORDER = 10,            /* strict: a sparse index not above the one before it */
     FULANDEWU_UNUSED_BIT_SET = 11,          /* strict: an unused bit of the last 1-bit byte is set */
     FULANDEWU_DIMS_DIFFER = 12,             /* the two vectors' dims differ */
     FULANDEWU_KINDS_DIFFER = 13,            /* the two vectors' kinds differ; append: the blob is not
@@ -114,7 +115,8 @@ struct fulandewu_answer {
     uint64_t needed; /* how long a buffer has to be that is too short, in bytes; append: after the fill */
     uint64_t which;  /* an enum fulandewu_which: the blob that a refusal is about */
     uint64_t nearer; /* FULANDEWU_FIRST or FULANDEWU_SECOND: the nearer candidate */
-    uint64_t entry;  /* of a sparse vector, counted from 0: the first whose index is not below dims */
+    uint64_t entry;  /* of a sparse vector, counted from 0: the first whose index is not below dims (refusal 8)
+                        or not above the one before it (refusal 10) */
     uint64_t readings;
     uint64_t other_readings;
     uint64_t start; /* of a vector in a file: where its elements start */
@@ -134,7 +136,7 @@ typedef char fulandewu_lengths_have_8_bytes[sizeof(size_t) == 8 ? 1 : -1];
  * first `length` bytes of the caller's own blob. A sparse body is its values (f32) in the first half and
  * its indices (u32) in the second; numbers are little-endian. Both modes show the same of a blob that
  * both accept.
- * An answer writes `kind`, `dims` and `length`, refusal 8 `entry`, another refusal nothing.
+ * An answer writes `kind`, `dims` and `length`, refusals 8 and 10 `entry`, another refusal nothing.
  * Refusals: plain 1 to 9, strict 1 to 11, in that order. */
 uint32_t fulandewu_read(uint8_t mode, const uint8_t *blob, size_t blob_length, struct fulandewu_answer *answer);
 

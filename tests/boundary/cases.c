@@ -33,10 +33,10 @@ static const struct bytes REFUSED[10] = {
     {REFUSED_5, 3},    {REFUSED_6, 3},    {REFUSED_7, 3}, {REFUSED_8, 21}, {REFUSED_9, 5},
 };
 
-/* A refusal, of which 8 names entry 1. */
+/* A refusal, of which 8 and 10 name entry 1. */
 static struct answer expect_refused(struct request request, uint32_t refusal) {
     struct answer a = expect(request, refusal);
-    if (refusal == FULANDEWU_INDEX_NOT_BELOW_DIMS) expect_field(&a, ENTRY, 1);
+    if (refusal == FULANDEWU_INDEX_NOT_BELOW_DIMS || refusal == FULANDEWU_SPARSE_ORDER) expect_field(&a, ENTRY, 1);
     return a;
 }
 
@@ -80,12 +80,16 @@ static void reader_refusals(void) {
 
 /* All 256 bytes as a mode: 0 is the plain one, and every other byte reads strictly. */
 static void mode_bytes(void) {
-    static const uint8_t unsorted[] = {0, 0, 0x80, 0x3f, 0, 0, 0x80, 0x3f, 1, 0, 0, 0, 0, 0, 0, 0, 2, 0, 0, 0, 9};
+    static const uint8_t falling[] = {0, 0, 0x80, 0x3f, 0, 0, 0x80, 0x3f, 1, 0, 0, 0, 0, 0, 0, 0, 2, 0, 0, 0, 9};
+    static const uint8_t repeating[] = {0, 0, 0x80, 0x3f, 0, 0, 0x80, 0x3f, 0, 0, 0, 0, 0, 0, 0, 0, 1, 0, 0, 0, 9};
+    static const uint8_t in_place_0[] = {0, 0, 0x80, 0x3f, 0, 0, 0, 0, 1, 0, 0, 0, 9};
     static const uint8_t unused_set[] = {0xff, 0x09, FULANDEWU_FLOAT1BIT};
     now_from = "the bytes that name modes";
     for (unsigned byte = 0; byte < 256; byte++) {
         int strict = byte != FULANDEWU_PLAIN;
-        expect(reading(byte, BYTES(unsorted)), strict ? FULANDEWU_SPARSE_ORDER : FULANDEWU_ANSWERED);
+        expect_refused(reading(byte, BYTES(falling)), strict ? FULANDEWU_SPARSE_ORDER : FULANDEWU_ANSWERED);
+        expect_refused(reading(byte, BYTES(repeating)), strict ? FULANDEWU_SPARSE_ORDER : FULANDEWU_ANSWERED);
+        expect(reading(byte, BYTES(in_place_0)), FULANDEWU_ANSWERED);
         expect(reading(byte, BYTES(unused_set)), strict ? FULANDEWU_UNUSED_BIT_SET : FULANDEWU_ANSWERED);
         struct answer a = expect(reading(byte, BYTES(ONE_BIT)), FULANDEWU_ANSWERED);
         expect_field(&a, DIMS, 2);

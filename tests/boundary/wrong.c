@@ -32,10 +32,12 @@ uint32_t __wrap_fulandewu_read(READ_ARGUMENTS) {
     if (wrong("length_not_written") && refusal == 0) memset(&answer->length, 0xa5, 8);
     if (wrong("length_for_dims") && refusal == 0) answer->dims = answer->length;
     if (wrong("all_fields_cleared") && refusal == 0) memset(&answer->needed, 0, 8 * 28);
-    if (wrong("entry_on_another_refusal") && refusal && refusal != 8) answer->entry = 0;
+    if (wrong("entry_on_another_refusal") && refusal && refusal != 8 && refusal != 10) answer->entry = 0;
     if (wrong("entry_on_an_answer") && refusal == 0) answer->entry = 0;
     if (wrong("entry_0") && refusal == 8) answer->entry = 0;
     if (wrong("a_byte_offset_as_entry") && refusal == 8) answer->entry *= 4;
+    if (wrong("the_entry_before") && refusal == 10) answer->entry -= 1;
+    if (wrong("no_entry_out_of_order") && refusal == 10) memset(&answer->entry, 0xa5, 8);
     if (wrong("the_first_reserved_field")) answer->readings = 0;
     if (wrong("the_last_reserved_field")) answer->reserved[16] = 0;
     if (wrong("a_33rd_field")) ((volatile uint64_t *)answer)[32] = 0;

@@ -60,7 +60,7 @@ pub const MOST_DIMS: usize = 65_536;
 pub enum Mode {
     /// As turso reads it.
     Plain = 0,
-    /// Sparse indices are to be in order, and unused bits zero, besides.
+    /// Each sparse index is to be above the one before it, and unused bits zero, besides.
     Strict = 1,
 }
 
@@ -88,8 +88,8 @@ fn answered(number: u32, answer: &Answer) -> Result<(), Refusal> {
     }
 }
 
-/// Reads a blob in a mode. Refusals: 1 to 9, and of [`Mode::Strict`] 10 and 11, in that order; 8 names an
-/// entry ([`Refusal::entry`]), here and where a blob is read to be converted, measured or appended. Both
+/// Reads a blob in a mode. Refusals: 1 to 9, and of [`Mode::Strict`] 10 and 11, in that order; 8 and 10 name
+/// an entry ([`Refusal::entry`]), 8 also where a blob is read to be converted, measured or appended. Both
 /// modes show the same of a blob that both accept.
 ///
 /// ```
@@ -109,6 +109,12 @@ fn answered(number: u32, answer: &Answer) -> Result<(), Refusal> {
 /// let wrong = [0, 0, 0x70, 0x42, 0, 0, 0x70, 0x42, 1, 0, 0, 0, 5, 0, 0, 0, 3, 0, 0, 0, 9];
 /// let refusal = read(Mode::Plain, &wrong).unwrap_err();
 /// assert_eq!((refusal.reason(), refusal.entry()), (Reason::IndexNotBelowDims, Some(1)));
+///
+/// // both entries are at place 0
+/// let twice = [0, 0, 0x70, 0x42, 0, 0, 0x70, 0x42, 0, 0, 0, 0, 0, 0, 0, 0, 3, 0, 0, 0, 9];
+/// assert!(read(Mode::Plain, &twice).is_ok());
+/// let refusal = read(Mode::Strict, &twice).unwrap_err();
+/// assert_eq!((refusal.reason(), refusal.entry()), (Reason::SparseOrder, Some(1)));
 ///
 /// // one bit does not count, and it is set
 /// assert_eq!(read(Mode::Plain, &[0xff, 0x09, 3])?.dims(), 7);

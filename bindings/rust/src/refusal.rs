@@ -27,7 +27,7 @@ pub enum Reason {
     IndexNotBelowDims = 8,
     /// Dims over 65,536.
     DimsOverLimit = 9,
-    /// Strict: sparse indices not in order.
+    /// Strict: a sparse index not above the one before it.
     SparseOrder = 10,
     /// Strict: an unused bit of the last 1-bit byte is set.
     UnusedBitSet = 11,
@@ -72,7 +72,10 @@ const REASONS: [(Reason, &str); 19] = [
         "a sparse index is not below dims",
     ),
     (Reason::DimsOverLimit, "dims are over 65,536"),
-    (Reason::SparseOrder, "sparse indices are not in order"),
+    (
+        Reason::SparseOrder,
+        "a sparse index is not above the one before it",
+    ),
     (Reason::UnusedBitSet, "an unused bit is set"),
     (Reason::DimsDiffer, "dims differ"),
     (Reason::KindsDiffer, "kinds differ"),
@@ -143,7 +146,10 @@ impl Refusal {
 
     /// With the entry that is wrong, where the reason names one.
     pub(crate) fn naming(mut self, entry: usize) -> Refusal {
-        if self.reason == Reason::IndexNotBelowDims {
+        if matches!(
+            self.reason,
+            Reason::IndexNotBelowDims | Reason::SparseOrder
+        ) {
             self.entry = Some(entry);
         }
         self
@@ -189,8 +195,8 @@ impl Refusal {
         self.reason.number()
     }
 
-    /// The first entry whose index is not below dims, counted from 0 in the order in which the entries are
-    /// stored: of [`Reason::IndexNotBelowDims`] only.
+    /// The first entry whose index is not below dims, of [`Reason::IndexNotBelowDims`], or not above the one
+    /// before it, of [`Reason::SparseOrder`]: counted from 0 in the order in which the entries are stored.
     pub fn entry(&self) -> Option<usize> {
         self.entry
     }
@@ -267,8 +273,8 @@ mod tests {
         for number in NUMBERS {
             let refusal = Refusal::numbered(number).unwrap();
             let refusal = refusal.naming(6).needing(7).starting(8);
-            let needs = number == 15 || number == 17;
-            assert_eq!(refusal.entry(), if number == 8 { Some(6) } else { None });
+            let (names, needs) = (number == 8 || number == 10, number == 15 || number == 17);
+            assert_eq!(refusal.entry(), if names { Some(6) } else { None });
             assert_eq!(refusal.needed(), if needs { Some(7) } else { None });
             assert_eq!(refusal.place(), if number == 19 { Some(8) } else { None });
         }

@@ -107,14 +107,24 @@ fn the_readers_refusals_name_the_blob() {
 
 #[test]
 fn the_strict_mode_refuses_order_and_unused_bits() {
-    let unsorted = [
-        0, 0, 0, 0, 0, 0, 0, 0, 1, 0, 0, 0, 0, 0, 0, 0, 2, 0, 0, 0, 9,
-    ];
-    assert!(read(Mode::Plain, &unsorted).is_ok());
-    assert_eq!(
-        read(Mode::Strict, &unsorted).unwrap_err().reason(),
-        Reason::SparseOrder
-    );
+    for second in 0..=1 {
+        let mut repeating_or_falling = [
+            0, 0, 0, 0, 0, 0, 0, 0, 1, 0, 0, 0, 0, 0, 0, 0, 2, 0, 0, 0, 9,
+        ];
+        repeating_or_falling[12] = second;
+        assert!(read(Mode::Plain, &repeating_or_falling).is_ok());
+        let refusal = read(Mode::Strict, &repeating_or_falling).unwrap_err();
+        assert_eq!(
+            (refusal.reason(), refusal.entry()),
+            (Reason::SparseOrder, Some(1))
+        );
+        assert_eq!(
+            refusal.to_string(),
+            "refusal 10: a sparse index is not above the one before it, that of entry 1"
+        );
+    }
+    let in_place_0 = [0, 0, 0, 0, 0, 0, 0, 0, 1, 0, 0, 0, 9];
+    assert!(read(Mode::Strict, &in_place_0).is_ok());
     assert_eq!(
         read(Mode::Strict, &[0xff, 0x09, 3]).unwrap_err().reason(),
         Reason::UnusedBitSet
