@@ -130,7 +130,9 @@ mod tests {
     /// Row 'equal neighbours' of docs/DIFFERENCES.md: the Rust's test passes two entries in one place.
     #[test]
     fn equal_neighbours_are_sorted_and_do_not_rise() {
-        let body = [0x3f80_0000_u32, 0x3f80_0000, 0, 0].map(u32::to_le_bytes).concat();
+        let body = [0x3f80_0000_u32, 0x3f80_0000, 0, 0]
+            .map(u32::to_le_bytes)
+            .concat();
         let blob = rules::blob(Kind::Float32Sparse, 1, &body);
         assert_eq!(original::indices_are_sorted(&blob), Ok(true));
         assert!(!rises(true, &body));

@@ -348,9 +348,8 @@ mod tests {
 
     #[test]
     fn the_first_entry_that_does_not_rise_is_named() {
-        let sparse = |indices: &[u32]| {
-            strict(&View::new(Kind::Float32Sparse, 9, &entries(indices))).err()
-        };
+        let sparse =
+            |indices: &[u32]| strict(&View::new(Kind::Float32Sparse, 9, &entries(indices))).err();
         let at = |entry: usize| Some(Refusal::carrying(10, entry));
         assert_eq!(sparse(&[]), None);
         assert_eq!(sparse(&[0]), None);

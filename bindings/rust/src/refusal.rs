@@ -146,10 +146,7 @@ impl Refusal {
 
     /// With the entry that is wrong, where the reason names one.
     pub(crate) fn naming(mut self, entry: usize) -> Refusal {
-        if matches!(
-            self.reason,
-            Reason::IndexNotBelowDims | Reason::SparseOrder
-        ) {
+        if matches!(self.reason, Reason::IndexNotBelowDims | Reason::SparseOrder) {
             self.entry = Some(entry);
         }
         self
