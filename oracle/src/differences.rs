@@ -127,17 +127,25 @@ mod tests {
         assert_eq!(rules::read(&sparse), Err(9.into()));
     }
 
-    /// Row 'equal neighbours' of docs/DIFFERENCES.md: the Rust's test passes two entries in one place.
+    /// Row 'equal neighbours in the strict mode' of docs/DIFFERENCES.md: the Rust's test passes them.
     #[test]
     fn equal_neighbours_are_sorted_and_do_not_rise() {
-        let body = [0x3f80_0000_u32, 0x3f80_0000, 0, 0]
-            .map(u32::to_le_bytes)
-            .concat();
-        let blob = rules::blob(Kind::Float32Sparse, 1, &body);
-        assert_eq!(original::indices_are_sorted(&blob), Ok(true));
-        assert!(!rises(true, &body));
-        assert!(rises(true, &body[4..12]));
-        assert!(!rises(false, &body[4..12]));
+        let body = |indices: &[u32]| {
+            let words = [&vec![0; indices.len()], indices].concat();
+            words.into_iter().flat_map(u32::to_le_bytes).collect()
+        };
+        let rises = |indices: &[u32]| {
+            let body: Vec<u8> = body(indices);
+            let blob = rules::blob(Kind::Float32Sparse, 9, &body);
+            let sorted = original::indices_are_sorted(&blob).expect("is read");
+            (sorted, rises(sorted, &body))
+        };
+        assert_eq!(rises(&[]), (true, true));
+        assert_eq!(rises(&[0]), (true, true));
+        assert_eq!(rises(&[0, 1, 8]), (true, true));
+        assert_eq!(rises(&[0, 0]), (true, false));
+        assert_eq!(rises(&[0, 1, 1]), (true, false));
+        assert_eq!(rises(&[1, 0]), (false, false));
     }
 
     #[test]

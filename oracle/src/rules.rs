@@ -318,7 +318,7 @@ mod tests {
     }
 
     /// A sparse body with these indices.
-    fn entries(indices: &[u32]) -> Vec<u8> {
+    fn sparse_body(indices: &[u32]) -> Vec<u8> {
         let values = vec![0; 4 * indices.len()];
         let indices = indices.iter().flat_map(|index| index.to_le_bytes());
         values.into_iter().chain(indices).collect()
@@ -327,7 +327,7 @@ mod tests {
     #[test]
     fn the_first_wrong_entry_is_named() {
         let sparse = |indices: &[u32]| {
-            let (kind, body) = (Kind::Float32Sparse, entries(indices));
+            let (kind, body) = (Kind::Float32Sparse, sparse_body(indices));
             (
                 read(&blob(kind, 4, &body)).err(),
                 write(kind, 4, &body).err(),
@@ -348,8 +348,9 @@ mod tests {
 
     #[test]
     fn the_first_entry_that_does_not_rise_is_named() {
-        let sparse =
-            |indices: &[u32]| strict(&View::new(Kind::Float32Sparse, 9, &entries(indices))).err();
+        let sparse = |indices: &[u32]| {
+            strict(&View::new(Kind::Float32Sparse, 9, &sparse_body(indices))).err()
+        };
         let at = |entry: usize| Some(Refusal::carrying(10, entry));
         assert_eq!(sparse(&[]), None);
         assert_eq!(sparse(&[0]), None);

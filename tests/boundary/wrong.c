@@ -37,7 +37,7 @@ uint32_t __wrap_fulandewu_read(READ_ARGUMENTS) {
     if (wrong("entry_0") && refusal == 8) answer->entry = 0;
     if (wrong("a_byte_offset_as_entry") && refusal == 8) answer->entry *= 4;
     if (wrong("the_entry_before") && refusal == 10) answer->entry -= 1;
-    if (wrong("no_entry_out_of_order") && refusal == 10) memset(&answer->entry, 0xa5, 8);
+    if (wrong("entry_of_10_not_written") && refusal == 10) memset(&answer->entry, 0xa5, 8);
     if (wrong("the_first_reserved_field")) answer->readings = 0;
     if (wrong("the_last_reserved_field")) answer->reserved[16] = 0;
     if (wrong("a_33rd_field")) ((volatile uint64_t *)answer)[32] = 0;

@@ -220,7 +220,7 @@ impl fmt::Display for Refusal {
     fn fmt(&self, f: &mut fmt::Formatter<'_>) -> fmt::Result {
         write!(f, "refusal {}: {}", self.number(), self.reason.words())?;
         if let Some(entry) = self.entry {
-            write!(f, ", that of entry {}", entry)?;
+            write!(f, ", at entry {}", entry)?;
         }
         if let Some(needed) = self.needed {
             write!(f, ", {} bytes are needed", needed)?;

@@ -106,7 +106,7 @@ fn the_readers_refusals_name_the_blob() {
 }
 
 #[test]
-fn the_strict_mode_refuses_order_and_unused_bits() {
+fn the_strict_mode_tests_order_and_unused_bits() {
     for second in 0..=1 {
         let mut repeating_or_falling = [
             0, 0, 0, 0, 0, 0, 0, 0, 1, 0, 0, 0, 0, 0, 0, 0, 2, 0, 0, 0, 9,
@@ -120,7 +120,7 @@ fn the_strict_mode_refuses_order_and_unused_bits() {
         );
         assert_eq!(
             refusal.to_string(),
-            "refusal 10: a sparse index is not above the one before it, that of entry 1"
+            "refusal 10: a sparse index is not above the one before it, at entry 1"
         );
     }
     let in_place_0 = [0, 0, 0, 0, 0, 0, 0, 0, 1, 0, 0, 0, 9];
@@ -288,6 +288,6 @@ fn a_refusal_says_itself() {
     let outside = distance(Distance::Cos, REFUSED[6], &[]).unwrap_err();
     assert_eq!(
         outside.to_string(),
-        "refusal 8: a sparse index is not below dims, that of entry 1 (the first blob)"
+        "refusal 8: a sparse index is not below dims, at entry 1 (the first blob)"
     );
 }

@@ -49,6 +49,7 @@ module _ (k : VectorType) (d : ℕ) (body : List ℕ) (room : ℕ) where
   abbrev tests : List Test
   tests = writeRefusals k d body ++ (testRoom 15 room need ∷ [])
 
+  -- the numbers by which the writer names an entry, and what is said of that entry
   abbrev writeNames : ℕ → Bool
   writeNames n = eqb n 8
 
@@ -96,4 +97,4 @@ module _ (k : VectorType) (d : ℕ) (body : List ℕ) (room : ℕ) where
     write-need-is-length n h = write-detail .1 .told n h
 
   pub write-first-outside-named : (j : ℕ) → writeOf k d body room ≡ writeRefused (naming 8 j) → (k ≡ Float32Sparse) × FirstOutside body (length body / 8) d j
-  write-first-outside-named j e = write-detail (naming 8 j) e .0 .first j refl
+  write-first-outside-named j e = write-detail (naming 8 j) e .0 .says j refl

@@ -1,4 +1,4 @@
--- Indices of a sparse blob that the strict mode accepts rise, so two such blobs have the distances of their Float32Dense forms by `dense-form-same-distance`.
+-- The indices of a sparse blob that the strict mode accepts rise, so `dense-form-same-distance` holds of two such blobs with its other premises alone; L2 and Jaccard have none.
 use mathlib.Core.Path.{_≡_}
 use mathlib.Core.List.{List}
 use Prim.Native.Nat.{ℕ}

@@ -1,5 +1,5 @@
 -- Sparse blobs whose distances change when they become Float32Dense, one for each premise of `dense-form-same-distance` (proofs/DenseForm.antt):
--- one table, and one statement about all of it, which antt computes.
+-- one table, which antt computes, and what the strict mode answers to the blobs whose indices do not rise.
 use mathlib.Core.Path.{_≡_, refl}
 use mathlib.Core.List.{List, [], _∷_, _++_, map}
 use mathlib.Core.Bool.{false}

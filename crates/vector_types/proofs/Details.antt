@@ -29,21 +29,21 @@ entryIn j (Needs need) = j
 entryIn j (Starts place) = j
 entryIn j (Entry i) = i
 
--- a refusal names an entry exactly if `names` holds of its number, and then `First` holds of the number and the entry
-pub record EntryDetail (names : ℕ → Bool) (First : ℕ → ℕ → Type 0) (r : Refusal) : Type 0 where
+-- a refusal names an entry exactly if `names` holds of its number, and then `Says` holds of the number and the entry
+pub record EntryDetail (names : ℕ → Bool) (Says : ℕ → ℕ → Type 0) (r : Refusal) : Type 0 where
   pub exactly : namesEntry (r .detail) ≡ names (r .number)
-  pub first : (j : ℕ) → r .detail ≡ Entry j → First (r .number) j
+  pub says : (j : ℕ) → r .detail ≡ Entry j → Says (r .number) j
 
-module _ (names : ℕ → Bool) (First : ℕ → ℕ → Type 0) where
-  pub no-entry-detail : {r : Refusal} → namesEntry (r .detail) ≡ false → names (r .number) ≡ false → EntryDetail names First r
-  no-entry-detail unnamed other = record { exactly = rw (unnamed, other); first = λ j e. absurd (false≢true (sym unnamed ∙ ap namesEntry e)) }
+module _ (names : ℕ → Bool) (Says : ℕ → ℕ → Type 0) where
+  pub no-entry-detail : {r : Refusal} → namesEntry (r .detail) ≡ false → names (r .number) ≡ false → EntryDetail names Says r
+  no-entry-detail unnamed other = record { exactly = rw (unnamed, other); says = λ j e. absurd (false≢true (sym unnamed ∙ ap namesEntry e)) }
 
   -- a test that is made of a search
-  pub naming-detail : (n : ℕ) (b : Bool) (p : ℕ → Bool) (k : ℕ) → names n ≡ true → (b ≡ true → anyIndex p k ≡ true → First n (firstIndex p k))
-      → let t = testFirst n b p k in t .holds ≡ true → EntryDetail names First (t .gives)
+  pub naming-detail : (n : ℕ) (b : Bool) (p : ℕ → Bool) (k : ℕ) → names n ≡ true → (b ≡ true → anyIndex p k ≡ true → Says n (firstIndex p k))
+      → let t = testFirst n b p k in t .holds ≡ true → EntryDetail names Says (t .gives)
   naming-detail n b p k named found h =
       let (holds, some) = and-eq-true-iff b (anyIndex p k) .0 h in
-      record { exactly = sym named; first = λ j e. subst (First n) (ap (entryIn j) e) (found holds some) }
+      record { exactly = sym named; says = λ j e. subst (Says n) (ap (entryIn j) e) (found holds some) }
 
 only-sparse : (n : Named) → ofKind n (hasByte 9) ≡ true → n ≡ Kind Float32Sparse
 only-sparse (Kind k) h = ap Kind (same-kind k Float32Sparse h)
@@ -51,6 +51,7 @@ only-sparse Unsupported h = absurd (false≢true h)
 only-sparse Unknown h = absurd (false≢true h)
 
 -- ---- the refusals of a mode
+-- the numbers by which the reader names an entry
 abbrev readNames : ℕ → Bool
 readNames m = eqb m 8 || eqb m 10
 
@@ -58,7 +59,7 @@ module _ (s : List ℕ) (n : Named) where
   abbrev k : ℕ
   k = entryCount s
 
-  -- what the number m, 8 or else 10, says of the entry that it names
+  -- what 8, or else 10, says of the entry that it names
   abbrev ReadEntry : ℕ → ℕ → Type 0
   ReadEntry m j = (n ≡ Kind Float32Sparse) × cond (eqb m 8) (FirstOutside s k (sparseDims s) j) (FirstNotAbove s k j)
 
@@ -91,7 +92,7 @@ module _ (mode : Mode) (s : List ℕ) where
 
   pub first-outside-named : (j : ℕ) → readOf mode s ≡ refused (naming 8 j)
       → (namedKind s ≡ Kind Float32Sparse) × FirstOutside s (entryCount s) (sparseDims s) j
-  first-outside-named j e = read-detail (naming 8 j) e .first j refl
+  first-outside-named j e = read-detail (naming 8 j) e .says j refl
 
   pub first-not-above-named : (j : ℕ) → readOf mode s ≡ refused (naming 10 j) → (namedKind s ≡ Kind Float32Sparse) × FirstNotAbove s (entryCount s) j
-  first-not-above-named j e = read-detail (naming 10 j) e .first j refl
+  first-not-above-named j e = read-detail (naming 10 j) e .says j refl

@@ -46,7 +46,7 @@ first-not-above-found s k e =
     at-place zero l holds fails = absurd (false≢true holds)
     at-place (suc j) l holds fails = record {
       entry = l;
-      notFirst = omega arith;
+      positive = omega arith;
       notAbove = let previous : suc j - 1 ≡ j = omega arith in rw previous (leb-true (indexAt s k (suc j)) (indexAt s k j) holds);
       before = λ i m. leb-false (indexAt s k (suc i)) (indexAt s k i) (fails (suc i) m);
     }

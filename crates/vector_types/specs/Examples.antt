@@ -41,17 +41,18 @@ bothName s n entry = bothAnswer s (refused (naming n entry))
 abbrev pub strictRefuses : List ℕ → ReadAnswer → ℕ → Example
 strictRefuses s r n = answers s r (refused (refusal n))
 
+-- the bytes of the value 1.0, once for each of these indices, and those of the indices, each below 256
+abbrev pub onesAt : List ℕ → List ℕ
+onesAt [] = []
+onesAt (i ∷ is) = 0 ∷ 0 ∷ 0x80 ∷ 0x3f ∷ onesAt is
+
+abbrev pub indexBytesAt : List ℕ → List ℕ
+indexBytesAt [] = []
+indexBytesAt (i ∷ is) = i ∷ 0 ∷ 0 ∷ 0 ∷ indexBytesAt is
+
 -- a sparse blob of dims 4 with the value 1.0 at each of these indices
-abbrev pub values : List ℕ → List ℕ
-values [] = []
-values (i ∷ is) = 0 ∷ 0 ∷ 0x80 ∷ 0x3f ∷ values is
-
-abbrev pub indices : List ℕ → List ℕ
-indices [] = []
-indices (i ∷ is) = i ∷ 0 ∷ 0 ∷ 0 ∷ indices is
-
 abbrev pub sparseAt : List ℕ → List ℕ
-sparseAt is = values is ++ indices is ++ (4 ∷ 0 ∷ 0 ∷ 0 ∷ 9 ∷ [])
+sparseAt is = onesAt is ++ indexBytesAt is ++ (4 ∷ 0 ∷ 0 ∷ 0 ∷ 9 ∷ [])
 
 abbrev pub bothShow : List ℕ → Example
 bothShow is = bothAnswer (sparseAt is) (acceptedAs Float32Sparse 4 (8 * length is))
@@ -86,9 +87,9 @@ table =
     ∷ bothRefuse (0x07 ∷ []) 3
     ∷ bothRefuse (0x09 ∷ []) 7
     ∷ bothRefuse (1 ∷ 0 ∷ 1 ∷ 0 ∷ 9 ∷ []) 9
-    -- 8 before 9 before 10: the dims are 65,537, and an index is as great; or two are equal
-    ∷ bothName (values (0 ∷ []) ++ (1 ∷ 0 ∷ 1 ∷ 0 ∷ 1 ∷ 0 ∷ 1 ∷ 0 ∷ 9 ∷ [])) 8 0
-    ∷ bothRefuse (values (0 ∷ 0 ∷ []) ++ indices (0 ∷ 0 ∷ []) ++ (1 ∷ 0 ∷ 1 ∷ 0 ∷ 9 ∷ [])) 9
+    -- 8 comes before 9 and 9 before 10: the dims are 65,537, and an index is as great, or two indices are equal
+    ∷ bothName (onesAt (0 ∷ []) ++ (1 ∷ 0 ∷ 1 ∷ 0 ∷ 1 ∷ 0 ∷ 1 ∷ 0 ∷ 9 ∷ [])) 8 0
+    ∷ bothRefuse (onesAt (0 ∷ 0 ∷ []) ++ indexBytesAt (0 ∷ 0 ∷ []) ++ (1 ∷ 0 ∷ 1 ∷ 0 ∷ 9 ∷ [])) 9
     ∷ []
 
 pub table-holds : map (λ (e : Example). e .defined) table ≡ map (λ (e : Example). e .expected) table

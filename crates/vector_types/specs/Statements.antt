@@ -17,7 +17,7 @@ pub record FirstOutside (s : List ℕ) (k d j : ℕ) : Type 0 where
   pub outside : d ≤ indexAt s k j
   pub before : (i : ℕ) → i < j → indexAt s k i < d
 
--- each of the first n numbers of f is above the one before it
+-- each of the first n numbers of f, but for the first, is above the one before it
 abbrev pub StrictlyIncreasing : (ℕ → ℕ) → ℕ → Type 0
 StrictlyIncreasing f n = (j : ℕ) → suc j < n → f j < f (suc j)
 
@@ -28,7 +28,7 @@ IndicesRise s k = StrictlyIncreasing (indexAt s k) k
 -- j is the first of the k entries of a sparse body whose index is not above that of the entry before it; entry 0 has none before it
 pub record FirstNotAbove (s : List ℕ) (k j : ℕ) : Type 0 where
   pub entry : j < k
-  pub notFirst : 0 < j
+  pub positive : 0 < j
   pub notAbove : indexAt s k j ≤ indexAt s k (j - 1)
   pub before : StrictlyIncreasing (indexAt s k) j
 

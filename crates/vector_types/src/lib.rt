@@ -106,8 +106,8 @@ impl Refusal {
     }
 }
 
-// How a blob is read. Plain: as the Rust reads it. Strict: each index has to be above the one before it
-// besides, and unused bits zero.
+// How a blob is read. Plain: as the Rust reads it. Strict: besides, each sparse index has to be above the
+// one before it, and unused bits have to be zero.
 pub enum Mode {
     Plain,
     Strict,

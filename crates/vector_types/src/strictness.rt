@@ -19,17 +19,14 @@ fn first_not_above_previous(s: &[u8], count: usize) -> usize
     requires { ⌜ 8 * count ≤ length (now s) ⌝ }
     ensures { λ r. ⌜ r ≡ firstIndex (isNotAbovePrevious (now (s .entry)) count) count ⌝ }
 {
-    if count == 0 {
-        return count;
-    }
-    let mut last = little_endian::u32_at(s, 4 * count);
     let mut j = 1;
     while j < count {
+        let previous = j - 1;
+        let before = little_endian::u32_at(s, 4 * count + 4 * previous);
         let index = little_endian::u32_at(s, 4 * count + 4 * j);
-        if index <= last {
+        if index <= before {
             return j;
         }
-        last = index;
         j += 1;
     }
     count

@@ -120,8 +120,8 @@ impl Random {
         body
     }
 
-    /// Repeats the index of the first entry, of the last but one or of any other in the next; a third of the
-    /// time a later index is no greater.
+    /// Gives an entry the index of the one before it: entry 1, the last or any. A third of the time, where
+    /// entries follow, one of them gets an index that is no greater.
     fn put_twice(&mut self, indices: &mut [u32]) {
         let last = indices.len() - 1;
         let at = match self.below(3) {
@@ -253,5 +253,42 @@ impl Random {
     /// A limit, the number past it, or one of the three before it.
     pub fn near(&mut self, limit: usize) -> usize {
         self.between(limit - 3..=limit + 1)
+    }
+}
+
+#[cfg(test)]
+mod tests {
+    use super::*;
+    use crate::rules;
+
+    /// Indices rise, fall first, or repeat first: at entry 1, between or at the last, with a fall after that
+    /// or none.
+    #[test]
+    fn indices_go_every_way() {
+        let mut random = Random::new(1);
+        let (mut rising, mut falling, mut repeating) = (0, 0, [[0; 2]; 3]);
+        for _ in 0..10_000 {
+            let body = random.entries(50, 6);
+            let pairs: Vec<_> = rules::neighbours(&body).collect();
+            let Some(at) = pairs.iter().position(|(before, index)| index <= before) else {
+                rising += 1;
+                continue;
+            };
+            let falls = |(before, index): &(u32, u32)| index < before;
+            if falls(&pairs[at]) {
+                falling += 1;
+                continue;
+            }
+            let place = match at {
+                0 => 0,
+                at if at + 1 < pairs.len() => 1,
+                _ => 2,
+            };
+            repeating[place][usize::from(pairs[at..].iter().any(falls))] += 1;
+        }
+        assert!(rising > 1_000 && falling > 1_000);
+        let [first, between, [last, nothing_after]] = repeating;
+        assert!(first.iter().chain(&between).all(|&count| count > 50) && last > 50);
+        assert_eq!(nothing_after, 0);
     }
 }
