@@ -130,12 +130,8 @@ mod tests {
     /// Row 'equal neighbours in the strict mode' of docs/DIFFERENCES.md: the Rust's test passes them.
     #[test]
     fn equal_neighbours_are_sorted_and_do_not_rise() {
-        let body = |indices: &[u32]| {
-            let words = [&vec![0; indices.len()], indices].concat();
-            words.into_iter().flat_map(u32::to_le_bytes).collect()
-        };
         let rises = |indices: &[u32]| {
-            let body: Vec<u8> = body(indices);
+            let body = rules::sparse_body(indices);
             let blob = rules::blob(Kind::Float32Sparse, 9, &body);
             let sorted = original::indices_are_sorted(&blob).expect("is read");
             (sorted, rises(sorted, &body))

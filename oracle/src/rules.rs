@@ -279,6 +279,14 @@ pub fn nearer(first: f64, second: f64) -> Result<u8, Refusal> {
     }
 }
 
+/// A sparse body with these indices, for tests.
+#[cfg(test)]
+pub fn sparse_body(indices: &[u32]) -> Vec<u8> {
+    let values = vec![0; 4 * indices.len()];
+    let indices = indices.iter().flat_map(|index| index.to_le_bytes());
+    values.into_iter().chain(indices).collect()
+}
+
 #[cfg(test)]
 mod tests {
     use super::*;
@@ -315,13 +323,6 @@ mod tests {
         let entries = |count: usize| write(Kind::Float32Sparse, 1, &vec![0; 8 * count]);
         assert_eq!(entries(65_536).map(|blob| blob.len()), Ok(524_293));
         assert_eq!(entries(65_537), Err(1.into()));
-    }
-
-    /// A sparse body with these indices.
-    fn sparse_body(indices: &[u32]) -> Vec<u8> {
-        let values = vec![0; 4 * indices.len()];
-        let indices = indices.iter().flat_map(|index| index.to_le_bytes());
-        values.into_iter().chain(indices).collect()
     }
 
     #[test]

@@ -100,10 +100,14 @@ static uint32_t answer_fields(const struct request *r) {
     return at_end(r) ? 1u << FOUND : 1u << FOUND | 1u << DIMS | 1u << START | 1u << NEXT;
 }
 
+int names_an_entry(uint32_t refusal) {
+    return refusal == FULANDEWU_INDEX_NOT_BELOW_DIMS || refusal == FULANDEWU_SPARSE_ORDER;
+}
+
 /* The fields that a refusal writes, as a set. */
 static uint32_t refusal_fields(enum export export, uint32_t refusal) {
     uint32_t which = export >= DISTANCE_COS && export <= NEARER_JACCARD ? 1u << WHICH : 0;
-    if (refusal == FULANDEWU_INDEX_NOT_BELOW_DIMS || refusal == FULANDEWU_SPARSE_ORDER) return which | 1u << ENTRY;
+    if (names_an_entry(refusal)) return which | 1u << ENTRY;
     if (refusal == FULANDEWU_OUTPUT_TOO_SHORT || refusal == FULANDEWU_SCRATCH_TOO_SHORT) return 1u << NEEDED;
     return refusal == FULANDEWU_FILE_ENDS_INSIDE ? 1u << PLACE : which;
 }

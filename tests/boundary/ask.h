@@ -49,6 +49,9 @@ struct answer ask(struct request request);
 /* The same; fails unless the result is this one. */
 struct answer expect(struct request request, uint32_t refusal);
 
+/* Whether a refusal names an entry of a sparse vector. */
+int names_an_entry(uint32_t refusal);
+
 /* Fails unless a field has this value. */
 void expect_field(const struct answer *a, enum field field, uint64_t value);
 

@@ -33,10 +33,10 @@ static const struct bytes REFUSED[10] = {
     {REFUSED_5, 3},    {REFUSED_6, 3},    {REFUSED_7, 3}, {REFUSED_8, 21}, {REFUSED_9, 5},
 };
 
-/* A refusal, of which 8 and 10 name entry 1. */
+/* A refusal; one that names an entry names entry 1. */
 static struct answer expect_refused(struct request request, uint32_t refusal) {
     struct answer a = expect(request, refusal);
-    if (refusal == FULANDEWU_INDEX_NOT_BELOW_DIMS || refusal == FULANDEWU_SPARSE_ORDER) expect_field(&a, ENTRY, 1);
+    if (names_an_entry(refusal)) expect_field(&a, ENTRY, 1);
     return a;
 }
 

@@ -103,8 +103,7 @@ static void answer_refusal(const struct answer *a, const char *which) {
     snprintf(text, sizeof text, which ? "R\t%u\t%c" : "R\t%u", (unsigned)a->refusal,
              which ? which[a->field[WHICH]] : 0);
     answer_text(text);
-    if (a->refusal == FULANDEWU_INDEX_NOT_BELOW_DIMS || a->refusal == FULANDEWU_SPARSE_ORDER)
-        answer_further(a->field[ENTRY]);
+    if (names_an_entry(a->refusal)) answer_further(a->field[ENTRY]);
     if (a->refusal == FULANDEWU_OUTPUT_TOO_SHORT) answer_further(a->field[NEEDED]);
     if (a->refusal == FULANDEWU_FILE_ENDS_INSIDE) answer_further(a->field[PLACE]);
 }

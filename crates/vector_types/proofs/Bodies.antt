@@ -75,7 +75,7 @@ module _ (s : List ℕ) (v : View) (e : readOf Plain s ≡ Accepted v) where
       let (_, inside) = and-eq-true-iff (eqb (lengthBeforeType s) (4 + 8 * entryCount s)) (not outside) .0 (rw h at (facts .accepts)) in
       none-outside s (entryCount s) (v .dims .0) .0 (rw (facts .sized, h) (not-true outside inside))
 
-  entries-within : v .kind ≡ Float32Sparse → (v .length ≡ 8 * entryCount s) × (8 * entryCount s ≤ length s)
+  pub entries-within : v .kind ≡ Float32Sparse → (v .length ≡ 8 * entryCount s) × (8 * entryCount s ≤ length s)
   unfolding layoutRow
   entries-within h =
       let long : v .length ≡ 8 * entryCount s = facts .long ∙ rw h in

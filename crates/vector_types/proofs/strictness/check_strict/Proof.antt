@@ -9,12 +9,13 @@ use lib.ListN.{length}
 use borrow.Author.Tests.{lt-ltb, le-ltb, eqb-true}
 use Rattle.vector_types.specs.Answers.{refused, refusal, naming}
 use Rattle.vector_types.specs.Search.{firstIndex, anyIndex}
-use Rattle.vector_types.specs.Layout.{ceil, hasByte, entryCount, lengthOf, bodyFits, layoutRow}
+use Rattle.vector_types.specs.Layout.{ceil, hasByte, entryCount, bodyFits}
 use Rattle.vector_types.specs.Read.{readOf, isNotAbovePrevious, unusedSet}
 use Rattle.vector_types.specs.declared.View.{View}
 use Rattle.vector_types.specs.declared.VectorType.the-variants.{Float32Sparse, Float1Bit}
 use Rattle.vector_types.specs.declared.ReadAnswer.the-variants.{Accepted}
 use Rattle.vector_types.specs.declared.Mode.the-variants.{Plain, Strict}
+use Rattle.vector_types.proofs.Bodies.{entries-within}
 use Rattle.vector_types.proofs.Views.{view-facts}
 use Rattle.vector_types.proofs.Strict.{strict-sparse, strict-bits, strict-other}
 use borrow.Author.Needs.{needs}
@@ -24,8 +25,7 @@ use Rattle.vector_types.proofs.strictness.check_strict.Tie as tie
 -- what the code takes from the view is what the definitions take from the blob
 module _ (s : List ℕ) (v : View) (e : readOf Plain s ≡ Accepted v) where
   count-by-length : v .kind ≡ Float32Sparse → entryCount s ≡ v .length / 8
-  unfolding layoutRow
-  count-by-length h = let long : v .length ≡ lengthOf Float32Sparse s = view-facts s v e .long ∙ rw h in omega arith
+  count-by-length h = omega (arith, entries-within s v e h .0)
 
   length-by-dims : v .kind ≡ Float1Bit → v .length ≡ ceil (v .dims .0) 8
   unfolding bodyFits
