@@ -25,7 +25,7 @@ use Rattle.vector_types.specs.declared.VectorType.the-variants.{Float32Dense, F
 use Rattle.vector_types.specs.declared.ReadAnswer.the-variants.{Accepted, Refused}
 use Rattle.vector_types.specs.declared.Mode.the-variants.{Plain}
 use Rattle.vector_types.proofs.Bodies.{length-body, body-facts}
-use Rattle.vector_types.proofs.Views.{view-facts}
+use Rattle.vector_types.proofs.Views.{view-facts, view-made}
 use Rattle.vector_types.proofs.Bools.{and-three}
 use Rattle.vector_types.proofs.Ends.{named-typed, before-within}
 use Rattle.blob_writer.proofs.Tails.{length-filler}
@@ -100,7 +100,8 @@ module _ (s : List ℕ) (v : View) (e : readOf Plain s ≡ Accepted v) where
       })
 
   pub blob-same : (readOf Plain (blobFor v s) ≡ Accepted v) × (bodyOf (blobFor v s) ≡ bodyOf s)
-  blob-same = let (view, body) = reads-back (v .kind) (v .dims .0) (bodyOf s) rewritable in (rw (length-body s v e) at view, body)
+  blob-same = let (view, body) = reads-back (v .kind) (v .dims .0) (bodyOf s) rewritable in
+      ((rw (length-body s v e) at view) ∙ ap Accepted (view-made s v e), body)
 
   blob-once : rewritten (blobFor v s) ≡ blobFor v s
   blob-once = rewritten-as (blobFor v s) (Accepted v) (blob-same .0) ∙ rw (blob-same .1)

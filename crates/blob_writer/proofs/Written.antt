@@ -1,5 +1,5 @@
--- What is written reads back as the same kind, dims and body: a kind at a time, then as the writer's caller has it.
-use mathlib.Core.Path.{_≡_, refl, ap, _∙_}
+-- What is written reads back as the same kind, dims and body, with that body's readings: a kind at a time, then as the writer's caller has it.
+use mathlib.Core.Path.{_≡_, refl, sym, ap, _∙_}
 use mathlib.Core.Bool.{Bool, true, false, cond, _&&_}
 use mathlib.Core.List.{List, [], _∷_, _++_, append-nil, append-assoc}
 use Prim.Native.Nat.{ℕ, suc, _+_, _-_, _*_, _/_, _%_, _<_, _≤_}
@@ -10,7 +10,7 @@ use lib.Seq.{take-append-seam, take-at}
 use borrow.Author.Tests.{lt-ltb, le-ltb, ltb-false, eqb-true, eqb-false, not-false}
 use Rattle.little_endian.specs.Bytes.{bytesOf, u32At}
 use Rattle.little_endian.proofs.Numbers.{numberAt-left, numberAt-right, numberAt-bytesOf}
-use Rattle.vector_types.specs.Answers.{Given, none, given, firstGiven, unless, acceptedAs, needing}
+use Rattle.vector_types.specs.Answers.{Given, none, given, firstGiven, unless, readingsOf, viewOf, acceptedAs, needing}
 use Rattle.vector_types.specs.Layout.{maxBlobLength, maxDims, ceil, hasTrailingCount, bodyFits, byByte, hasIndexOutside}
 use Rattle.vector_types.specs.Read.{readOf}
 use Rattle.vector_types.specs.Parts.{bodyOf}
@@ -19,11 +19,15 @@ use Rattle.blob_writer.specs.Write.{filler, trailingBits, trailingBytes,
 use Rattle.vector_types.specs.declared.Refusal.{Refusal}
 use Rattle.vector_types.specs.declared.VectorType.{VectorType}
 use Rattle.vector_types.specs.declared.VectorType.the-variants.{Float32Dense, Float64Dense, Float32Sparse, Float1Bit, Float8}
+use Rattle.vector_types.specs.declared.View.{View}
+use Rattle.vector_types.specs.declared.ReadAnswer.the-variants.{Accepted}
+use Rattle.vector_types.specs.declared.Mode.{Mode}
 use Rattle.vector_types.specs.declared.Mode.the-variants.{Plain}
 use Rattle.blob_writer.specs.declared.WriteAnswer.{WriteAnswer}
 use Rattle.blob_writer.specs.declared.WriteAnswer.the-variants.{Written, Refused as WriteRefused}
 use Rattle.vector_types.proofs.Bodies.{body-is}
-use Rattle.vector_types.proofs.Given.{none-passed, first-append}
+use Rattle.vector_types.proofs.Given.{none-passed, first-append, accepted-same-view}
+use Rattle.vector_types.proofs.Modes.{shown-plainly}
 use Rattle.vector_types.proofs.Ends.{even-untyped}
 use Rattle.blob_writer.proofs.Tails.{length-filler}
 use Rattle.blob_writer.proofs.Appended.{named-by-tail, count-appended, outside-appended}
@@ -172,6 +176,13 @@ written-blob k d body out n e =
 pub written-reads-back : (k : VectorType) (d : ℕ) (body out : List ℕ) (n : ℕ) → writeOf k d body (length out) ≡ written n
     → (readOf Plain (take n (writeOutcome k d body out .out)) ≡ acceptedAs k d (length body)) × (bodyOf (take n (writeOutcome k d body out .out)) ≡ body)
 written-reads-back k d body out n e = let (clear, _, left) = written-blob k d body out n e in rw left (reads-back k d body clear)
+
+-- in any mode it holds the readings of its body
+pub written-readings : (mode : Mode) (k : VectorType) (d : ℕ) (body out : List ℕ) (n : ℕ) → writeOf k d body (length out) ≡ written n
+    → (v : View) → readOf mode (take n (writeOutcome k d body out .out)) ≡ Accepted v → v .readings .0 ≡ readingsOf k d (length body)
+written-readings mode k d body out n e v shows =
+    let plain = shown-plainly mode (take n (writeOutcome k d body out .out)) v shows in
+    ap (λ (w : View). w .readings .0) (accepted-same-view v (viewOf k d (length body)) (sym plain ∙ written-reads-back k d body out n e .0))
 
 -- an outcome, part by part
 pub write-outcome-parts : (k : VectorType) (d : ℕ) (body out : List ℕ) (r : WriteAnswer) (o : List ℕ) → writeLeaving r o ≡ writeOutcome k d body out

@@ -1,5 +1,5 @@
 -- What a conversion of a body answers and leaves, outcome by outcome; and, for callers, what a conversion that is not refused puts.
-use mathlib.Core.Path.{_≡_, refl, ap}
+use mathlib.Core.Path.{_≡_, refl, ap, _∙_}
 use mathlib.Core.Bool.{Bool, true, false, cond}
 use mathlib.Core.List.{List}
 use Prim.Native.Nat.{ℕ, suc, _<_, _≤_}
@@ -8,7 +8,7 @@ use lib.Dec.{ltb}
 use lib.ListN.{length}
 use borrow.Author.Tests.{lt-ltb, le-ltb, ltb-false}
 use Rattle.promises.specs.Onto.{onto}
-use Rattle.vector_types.specs.Answers.{needing, given, none, unless}
+use Rattle.vector_types.specs.Answers.{viewOf, needing, given, none, unless}
 use Rattle.vector_types.specs.Read.{readOf}
 use Rattle.vector_types.specs.Parts.{bodyOf}
 use Rattle.vector_types.specs.declared.Refusal.{Refusal}
@@ -63,31 +63,41 @@ pub convert-outcome-parts : (s : List ℕ) (t : VectorType) (scratch out : List 
 unfolding convertOutcome
 convert-outcome-parts s t scratch out r left o e = (ap (λ (x : ConvertOutcome). x .answer) e, ap (λ (x : ConvertOutcome). x .out) e)
 
--- ---- where a body was made, it has the length that is told, and there was room for it
+-- ---- where a body was made, the view is that of the new body, and there was room for it
 abbrev reach : ConvertAnswer → ℕ
 reach (Converted v) = suc (v .length)
 reach (Refused r) = 0
 
-pub conversion-fits : (s : List ℕ) (t : VectorType) (scratch room : ℕ) (v : View) → conversionOf s t scratch room .answer ≡ Converted v
-    → (length (conversionOf s t scratch room .out) ≡ v .length) × (v .length ≤ room)
-unfolding conversionOf
-conversion-fits s t scratch room v = by (readOf Plain s)
-  where
-    Fits : Conversion → Type 0
-    Fits c = c .answer ≡ Converted v → (length (c .out) ≡ v .length) × (v .length ≤ room)
+abbrev viewIn : View → ConvertAnswer → View
+viewIn other (Converted v) = v
+viewIn other (Refused r) = other
 
-    tests : (short over : Bool) (a b : Refusal) (d : ℕ) (dense new : List ℕ) → ltb room (length new) ≡ over
-        → Fits (unless (cond short (given a) (cond over (given b) none)) refusing (conversion (convertedTo t d (length new)) dense new))
-    tests true over a b d dense new h e = let z = ap reach e in absurd (omega arith)
-    tests false true a b d dense new h e = let z = ap reach e in absurd (omega arith)
-    tests false false a b d dense new h e =
-        let z = ap reach e in
-        let size : length new ≡ v .length = omega arith in
-        (size, omega (arith, ltb-false room (length new) h))
+module _ (s : List ℕ) (t : VectorType) (scratch room : ℕ) (w : View) where
+  -- of d elements, with this new body
+  abbrev Made : ℕ → List ℕ → Conversion → Type 0
+  Made d new c = c .answer ≡ Converted w → (c .out ≡ new) × (viewOf t d (length new) ≡ w) × (length new ≤ room)
 
-    by : (w : ReadAnswer) → Fits (readConversion w (bodyOf s) t scratch room)
-    by (Accepted w) =
-        let dense = scratchBody (w .kind) t (w .dims .0) (bodyOf s) in
-        let new = resultOf (w .kind) t (w .dims .0) (bodyOf s) in
-        tests (ltb scratch (length dense)) (ltb room (length new)) (needing 17 (length dense)) (needing 15 (length new)) (w .dims .0) dense new refl
-    by (Unread r) = λ e. let z = ap reach e in absurd (omega arith)
+  made-by-tests : (short over : Bool) (a b : Refusal) (d : ℕ) (dense new : List ℕ) → ltb room (length new) ≡ over
+      → Made d new (unless (cond short (given a) (cond over (given b) none)) refusing (conversion (convertedTo t d (length new)) dense new))
+  made-by-tests true over a b d dense new h e = let z = ap reach e in absurd (omega arith)
+  made-by-tests false true a b d dense new h e = let z = ap reach e in absurd (omega arith)
+  made-by-tests false false a b d dense new h e = (refl, ap (viewIn w) e, ltb-false room (length new) h)
+
+  pub converted-view : (v : View) → readOf Plain s ≡ Accepted v → Made (v .dims .0) (resultOf (v .kind) t (v .dims .0) (bodyOf s)) (conversionOf s t scratch room)
+  unfolding conversionOf
+  converted-view v e =
+      let dense = scratchBody (v .kind) t (v .dims .0) (bodyOf s) in
+      let new = resultOf (v .kind) t (v .dims .0) (bodyOf s) in
+      rw e
+      (made-by-tests (ltb scratch (length dense)) (ltb room (length new)) (needing 17 (length dense)) (needing 15 (length new)) (v .dims .0) dense new refl)
+
+  pub conversion-fits : conversionOf s t scratch room .answer ≡ Converted w → (length (conversionOf s t scratch room .out) ≡ w .length) × (w .length ≤ room)
+  unfolding conversionOf
+  conversion-fits answer = by (readOf Plain s) refl
+    where
+      by : (r : ReadAnswer) → readOf Plain s ≡ r → (length (conversionOf s t scratch room .out) ≡ w .length) × (w .length ≤ room)
+      by (Accepted v) e =
+          let (out, view, fits) = converted-view v e answer in
+          let size = ap (λ (w : View). w .length) view in
+          (ap length out ∙ size, omega arith)
+      by (Unread r) e = let z = ap reach (rw e at answer) in absurd (omega arith)

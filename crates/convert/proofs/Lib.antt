@@ -1,4 +1,5 @@
 -- Laws for callers
 pub mod Answered
+pub mod Counted
 pub mod Shown
 pub mod Determined

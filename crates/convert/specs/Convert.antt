@@ -1,9 +1,9 @@
--- What a conversion answers and leaves: the reader's refusal, then 17, then 15, each with the need; else the new kind, dims and body.
+-- What a conversion answers and leaves: the reader's refusal, then 17, then 15, each with the need; else the new kind, dims and body, and the new vector's readings.
 use Prim.Native.Nat.{ℕ}
 use mathlib.Core.List.{List, [], _∷_}
 use lib.ListN.{length}
 use Rattle.promises.specs.Onto.{onto}
-use Rattle.vector_types.specs.Answers.{dims, testRoom, firstGiven, unless}
+use Rattle.vector_types.specs.Answers.{viewOf, testRoom, firstGiven, unless}
 use Rattle.vector_types.specs.Read.{readOf}
 use Rattle.vector_types.specs.Parts.{bodyOf}
 use Rattle.vector_types.specs.declared.VectorType.{VectorType}
@@ -22,7 +22,7 @@ convertNumber (Refused r) = r .number
 
 -- a new body of m bytes
 abbrev pub convertedTo : VectorType → ℕ → ℕ → ConvertAnswer
-convertedTo k d m = Converted (record { kind = k; dims = dims d; length = m })
+convertedTo k d m = Converted (viewOf k d m)
 
 -- a conversion: its answer, and what it puts at the start of scratch and of the output
 pub record Conversion : Type 0 where

@@ -30,11 +30,7 @@ pub enum ConvertAnswer {
 fn converted(target: VectorType, dims: usize, length: usize) -> ConvertAnswer
     ensures { λ r. ⌜ r ≡ convertedTo target dims length ⌝ }
 {
-    ConvertAnswer::Converted(View {
-        kind: target,
-        dims: Dims(dims),
-        length,
-    })
+    ConvertAnswer::Converted(View::of(target, Dims(dims), length))
 }
 
 // A buffer is too short: 17 for scratch, 15 for the output.

@@ -8,6 +8,7 @@ use Rattle.promises.specs.Determined.{Determined}
 use Rattle.vector_types.proofs.kinds.type_byte.Reads as type-byte
 use Rattle.vector_types.proofs.kinds.is_same_kind.Reads as is-same-kind
 use Rattle.vector_types.proofs.kinds.kind_of_byte.Reads as kind-of-byte
+use Rattle.vector_types.proofs.View.of.Reads as view-of
 use Rattle.vector_types.proofs.Refusal.by_number.Reads as by-number
 use Rattle.vector_types.proofs.Refusal.needing.Reads as needing
 use Rattle.vector_types.proofs.Refusal.starting.Reads as starting
@@ -31,6 +32,9 @@ is-same-kind-determined κs a r r′ x x′ p q = p ∙ sym q
 
 pub kind-of-byte-determined : (κs : _) (a : _) → Determined (kind-of-byte.Post κs a) (λ r x. r)
 kind-of-byte-determined κs a r r′ x x′ p q = p ∙ sym q
+
+pub view-determined : (κs : _) (a : _) → Determined (view-of.Post κs a) (λ r x. r)
+view-determined κs a r r′ x x′ p q = p ∙ sym q
 
 pub by-number-determined : (κs : _) (a : _) → Determined (by-number.Post κs a) (λ r x. r)
 by-number-determined κs a r r′ x x′ p q = p ∙ sym q

@@ -3,6 +3,7 @@ pub mod Accepted
 pub mod Bodies
 pub mod Bools
 pub mod ByKind
+pub mod Counted
 pub mod Details
 pub mod Determined
 pub mod Ends

@@ -1,5 +1,5 @@
 -- What a view tells of its blob: the law of reading that callers cite.
-use mathlib.Core.Path.{_≡_, refl, subst}
+use mathlib.Core.Path.{_≡_, refl, sym, ap, subst}
 use mathlib.Core.Bool.{true}
 use mathlib.Core.List.{List}
 use Prim.Native.Nat.{ℕ, _*_, _≤_}
@@ -15,15 +15,16 @@ use Rattle.vector_types.specs.declared.VectorType.the-variants.{Float32D
 use Rattle.vector_types.specs.declared.View.{View}
 use Rattle.vector_types.specs.declared.ReadAnswer.the-variants.{Accepted}
 use Rattle.vector_types.specs.declared.Mode.the-variants.{Plain}
-use Rattle.vector_types.specs.Answers.{firstGiven, dims, refusal}
+use Rattle.vector_types.specs.Answers.{firstGiven, readings, readingsOf, viewOf, refusal}
 use Rattle.vector_types.proofs.Given.{Passed, none-passed, unless-accepted, accepted-same-view, refused-not-accepted}
 use Rattle.vector_types.proofs.Rows.{passed-accepted, passed-fit, passed-few, passed-short, length-within}
 
--- its kind is the one named; dims and length are those of the row, which accepts the blob, and fit each other; the limits are kept
+-- its kind is the one named; dims and length are those of the row, which accepts the blob, and fit each other; readings follow; the limits are kept
 pub record ViewFacts (s : List ℕ) (v : View) : Type 0 where
   pub names : namedKind s ≡ Kind (v .kind)
   pub sized : v .dims .0 ≡ dimsOf (v .kind) s
   pub long : v .length ≡ lengthOf (v .kind) s
+  pub counted : v .readings .0 ≡ readingsOf (v .kind) (v .dims .0) (v .length)
   pub accepts : rowAccepts (v .kind) s ≡ true
   pub fit : bodyFits (v .kind) (v .dims .0) (v .length) ≡ true
   pub few : v .dims .0 ≤ maxDims
@@ -31,14 +32,15 @@ pub record ViewFacts (s : List ℕ) (v : View) : Type 0 where
   pub within : v .length ≤ length s
 
 -- the view of a blob by its kind's row
-abbrev viewOf : VectorType → List ℕ → View
-viewOf k s = record { kind = k; dims = dims (dimsOf k s); length = lengthOf k s }
+abbrev rowView : VectorType → List ℕ → View
+rowView k s = viewOf k (dimsOf k s) (lengthOf k s)
 
-row-facts : (s : List ℕ) (k : VectorType) → namedKind s ≡ Kind k → Passed (refusals Plain (Kind k) s) → ViewFacts s (viewOf k s)
+row-facts : (s : List ℕ) (k : VectorType) → namedKind s ≡ Kind k → Passed (refusals Plain (Kind k) s) → ViewFacts s (rowView k s)
 row-facts s k e p = record {
   names = e;
   sized = refl;
   long = refl;
+  counted = refl;
   accepts = passed-accepted s k e p;
   fit = passed-fit s k p;
   few = passed-few s k p;
@@ -53,9 +55,14 @@ view-facts s v e =
     by-name (namedKind s) refl (none-passed (refusals Plain (namedKind s) s) none) shows
   where
     by-name : (n : Named) → namedKind s ≡ n → Passed (refusals Plain n s) → shown n s ≡ Accepted v → ViewFacts s v
-    by-name (Kind k) h p shows = subst (ViewFacts s) (accepted-same-view (viewOf k s) v shows) (row-facts s k h p)
+    by-name (Kind k) h p shows = subst (ViewFacts s) (accepted-same-view (rowView k s) v shows) (row-facts s k h p)
     by-name Unsupported h p shows = absurd (refused-not-accepted (refusal 2) v shows)
     by-name Unknown h p shows = absurd (refused-not-accepted (refusal 3) v shows)
+
+-- a view is made of its kind, dims and length
+pub view-made : (s : List ℕ) (v : View) → readOf Plain s ≡ Accepted v → viewOf (v .kind) (v .dims .0) (v .length) ≡ v
+view-made s v e =
+    ap (λ n. record { kind = v .kind; dims = v .dims; length = v .length; readings = readings n }) (sym (view-facts s v e .counted))
 
 -- the two halves of a sparse body lie within the blob; another body has none
 two-halves : (k : VectorType) (m : ℕ) → 2 * halfOf k m ≤ m

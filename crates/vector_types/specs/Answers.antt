@@ -1,11 +1,14 @@
--- Refusals, the reader's answers, and the first of several refusals that is given.
-use Prim.Native.Nat.{ℕ}
+-- Views, refusals, the reader's answers, and the first of several refusals that is given.
+use Prim.Native.Nat.{ℕ, _/_}
 use mathlib.Core.Bool.{Bool, true, false, cond, _&&_}
 use mathlib.Core.List.{List, [], _∷_}
 use lib.Dec.{ltb}
 use Rattle.vector_types.specs.Search.{firstIndex, anyIndex}
 use Rattle.vector_types.specs.declared.VectorType.{VectorType}
+use Rattle.vector_types.specs.declared.VectorType.the-variants.{Float32Dense, Float64Dense, Float32Sparse, Float1Bit, Float8}
 use Rattle.vector_types.specs.declared.Dims.{Dims}
+use Rattle.vector_types.specs.declared.Readings.{Readings}
+use Rattle.vector_types.specs.declared.View.{View}
 use Rattle.vector_types.specs.declared.Detail.the-variants.{Nothing, Needs, Starts, Entry}
 use Rattle.vector_types.specs.declared.Refusal.{Refusal}
 use Rattle.vector_types.specs.declared.ReadAnswer.{ReadAnswer}
@@ -13,6 +16,21 @@ use Rattle.vector_types.specs.declared.ReadAnswer.the-variants.{Accepted
 
 abbrev pub dims : ℕ → Dims
 dims d = record { 0 = d }
+
+abbrev pub readings : ℕ → Readings
+readings n = record { 0 = n }
+
+-- how many readings a vector of d elements holds whose body has m bytes: of a sparse one the entries, repeats and stored zeros too; else the elements
+abbrev pub readingsOf : VectorType → ℕ → ℕ → ℕ
+readingsOf Float32Dense d m = d
+readingsOf Float64Dense d m = d
+readingsOf Float32Sparse d m = m / 8
+readingsOf Float1Bit d m = d
+readingsOf Float8 d m = d
+
+-- a view of kind, dims and body length, which tell the rest
+abbrev pub viewOf : VectorType → ℕ → ℕ → View
+viewOf k d m = record { kind = k; dims = dims d; length = m; readings = readings (readingsOf k d m) }
 
 -- a refusal by its number, and one that tells how long a buffer would have to be, where a vector starts in its file, or which entry is wrong
 abbrev pub refusal : ℕ → Refusal
@@ -27,9 +45,9 @@ starting n place = record { number = n; detail = Starts place }
 abbrev pub naming : ℕ → ℕ → Refusal
 naming n entry = record { number = n; detail = Entry entry }
 
--- the reader's answers: a view of kind, dims and body length, and a refusal
+-- the reader's answers: a view, and a refusal
 abbrev pub acceptedAs : VectorType → ℕ → ℕ → ReadAnswer
-acceptedAs k d m = Accepted (record { kind = k; dims = dims d; length = m })
+acceptedAs k d m = Accepted (viewOf k d m)
 
 abbrev pub refused : Refusal → ReadAnswer
 refused r = Refused r

@@ -5,7 +5,7 @@ mod reading;
 mod strictness;
 
 ghost use mathlib.Core.Path.{_≡_};
-ghost use Rattle.vector_types.specs.Answers.{refusal, needing, starting, naming, refused};
+ghost use Rattle.vector_types.specs.Answers.{readings, readingsOf, viewOf, refusal, needing, starting, naming, refused};
 pub use kinds::is_same_kind;
 pub use kinds::kind_of_byte;
 pub use kinds::type_byte;
@@ -41,11 +41,43 @@ pub struct TrailingBits(pub usize);
 // How many bytes of a Float8 body stand between its elements and alpha.
 pub struct TrailingBytes(pub usize);
 
+// How many readings a vector holds. They are not its dims: of a sparse vector only stored entries count.
+pub struct Readings(pub usize);
+
 // What an accepted blob shows: its body is its first `length` bytes.
 pub struct View {
     pub kind: VectorType,
     pub dims: Dims,
     pub length: usize,
+    pub readings: Readings,
+}
+
+// The readings of a vector whose body has `length` bytes: the entries of a sparse one, else its elements.
+fn readings_of(kind: VectorType, dims: Dims, length: usize) -> Readings
+    ensures { λ r. ⌜ r ≡ readings (readingsOf kind (dims .0) length) ⌝ }
+{
+    match kind {
+        VectorType::Float32Sparse => Readings(length / 8),
+        VectorType::Float32Dense => Readings(dims.0),
+        VectorType::Float64Dense => Readings(dims.0),
+        VectorType::Float1Bit => Readings(dims.0),
+        VectorType::Float8 => Readings(dims.0),
+    }
+}
+
+impl View {
+    // Kind, dims and body length tell the rest.
+    pub fn of(kind: VectorType, dims: Dims, length: usize) -> Self
+        ensures { λ r. ⌜ r ≡ viewOf kind (dims .0) length ⌝ }
+    {
+        let readings = readings_of(kind, dims, length);
+        View {
+            kind,
+            dims,
+            length,
+            readings,
+        }
+    }
 }
 
 // Why something is refused: the number of the rules, and what they have it carry.

@@ -34,7 +34,7 @@ fn show(kind: VectorType, dims: Dims, length: usize) -> ReadAnswer
     if MAX_DIMS < dims.0 {
         return refuse(9);
     }
-    ReadAnswer::Accepted(View { kind, dims, length })
+    ReadAnswer::Accepted(View::of(kind, dims, length))
 }
 
 // A dense blob of n bytes, of which each element has `width`.
