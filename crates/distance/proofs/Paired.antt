@@ -18,7 +18,7 @@ use Rattle.vector_types.specs.declared.Mode.the-variants.{Plain}
 use Rattle.vector_types.proofs.SameKind.{same-kind}
 use Rattle.vector_types.proofs.Views.{view-facts}
 use Rattle.distance.specs.Values.{Formula}
-use Rattle.distance.specs.Answer.{mismatches, pairingOf, distanceAnswer, answerOfViews}
+use Rattle.distance.specs.Answer.{mismatches, countsOf, pairingOf, distanceAnswer, answerOfViews}
 use Rattle.distance.specs.declared.Which.the-variants.{Neither}
 use Rattle.distance.specs.declared.Pairing.{Pairing}
 use Rattle.distance.specs.declared.Pairing.the-variants.{Alike, Mismatched}
@@ -70,9 +70,9 @@ abbrev refusedNeither : Refusal → DistanceAnswer
 refusedNeither r = Refused r Neither
 
 pub answer-by-pairing : (value : Formula) (v w : View) (a b : List ℕ)
-    → answerOfViews value v w a b ≡ unlessMismatched (pairingOf v w) refusedNeither (distanceAnswer (value (v .kind) (v .dims .0) a b))
+    → answerOfViews value v w a b ≡ unlessMismatched (pairingOf v w) refusedNeither (distanceAnswer (value (v .kind) (v .dims .0) a b) (countsOf v w))
 unfolding answerOfViews
-answer-by-pairing value v w a b = unless-by-pairing (firstGiven (mismatches v w)) refusedNeither (distanceAnswer (value (v .kind) (v .dims .0) a b))
+answer-by-pairing value v w a b = unless-by-pairing (firstGiven (mismatches v w)) refusedNeither (distanceAnswer (value (v .kind) (v .dims .0) a b) (countsOf v w))
 
 -- ---- the bodies
 module _ (s : List ℕ) (v : View) (e : readOf Plain s ≡ Accepted v) where

@@ -1,11 +1,11 @@
--- What a distance of two blobs answers: the reader's refusal of the first, then of the second, then 12, 13, 14; else the distance.
+-- What a distance of two blobs answers: the reader's refusal of the first, then of the second, then 12, 13, 14; else the distance and both counts of readings.
 use Prim.Native.Nat.{ℕ}
 use mathlib.Core.Bool.{not}
 use mathlib.Core.List.{List, [], _∷_}
 use mathlib.Core.Option.{Option, none, some}
 use lib.Dec.{eqb}
 use lib.Ieee.{Float}
-use Rattle.vector_types.specs.Answers.{refusal, Test, test, firstGiven, unless}
+use Rattle.vector_types.specs.Answers.{readings, refusal, Test, test, firstGiven, unless}
 use Rattle.vector_types.specs.Layout.{byteOf, hasByte}
 use Rattle.vector_types.specs.Read.{readOf}
 use Rattle.vector_types.specs.Parts.{bodyOf}
@@ -15,6 +15,7 @@ use Rattle.vector_types.specs.declared.ReadAnswer.the-variants.{Accepted, Refus
 use Rattle.vector_types.specs.declared.Mode.the-variants.{Plain}
 use Rattle.distance.specs.Values.{Formula, valueOf}
 use Rattle.distance.specs.declared.Distance.{Distance}
+use Rattle.distance.specs.declared.Counts.{Counts}
 use Rattle.distance.specs.declared.Which.the-variants.{First, Second, Neither}
 use Rattle.distance.specs.declared.Pairing.{Pairing}
 use Rattle.distance.specs.declared.Pairing.the-variants.{Alike, Mismatched}
@@ -23,17 +24,24 @@ use Rattle.distance.specs.declared.DistanceAnswer.the-variants.{Measured
 
 -- the number of an answer by the rules, 0 where nothing is refused
 abbrev pub distanceNumber : DistanceAnswer → ℕ
-distanceNumber (Measured x) = 0
+distanceNumber (Measured x c) = 0
 distanceNumber (Refused r w) = r .number
 
 -- a refusal of the pair, which names no blob
 abbrev pub pairRefused : ℕ → DistanceAnswer
 pairRefused n = Refused (refusal n) Neither
 
--- a distance that there is not
-abbrev pub distanceAnswer : Option Float → DistanceAnswer
-distanceAnswer none = pairRefused 14
-distanceAnswer (some x) = Measured x
+-- how many readings the two vectors hold, and those of two views
+abbrev pub counts : ℕ → ℕ → Counts
+counts m n = record { first = readings m; second = readings n }
+
+abbrev pub countsOf : View → View → Counts
+countsOf v w = record { first = v .readings; second = w .readings }
+
+-- a distance and the counts, or a distance that there is not
+abbrev pub distanceAnswer : Option Float → Counts → DistanceAnswer
+distanceAnswer none c = pairRefused 14
+distanceAnswer (some x) c = Measured x c
 
 -- what refuses a pair of views, whatever is to be measured
 abbrev pub mismatches : View → View → List Test
@@ -48,7 +56,7 @@ pairingOf v w = unless (firstGiven (mismatches v w)) Mismatched Alike
 
 -- by any formula: of two views and their bodies; by what reading the two blobs answers; of two blobs
 unfoldable pub answerOfViews : Formula → View → View → List ℕ → List ℕ → DistanceAnswer
-answerOfViews value v w a b = unless (firstGiven (mismatches v w)) (λ r. Refused r Neither) (distanceAnswer (value (v .kind) (v .dims .0) a b))
+answerOfViews value v w a b = unless (firstGiven (mismatches v w)) (λ r. Refused r Neither) (distanceAnswer (value (v .kind) (v .dims .0) a b) (countsOf v w))
 
 abbrev pub answerIn : Formula → ReadAnswer → ReadAnswer → List ℕ → List ℕ → DistanceAnswer
 answerIn value (Unread r) q a b = Refused r First

@@ -14,9 +14,11 @@ use Rattle.vector_types.specs.Parts.{bodyOf}
 use Rattle.vector_types.specs.declared.VectorType.the-variants.{Float32Dense, Float1Bit, Float8}
 use Rattle.vector_types.specs.declared.ReadAnswer.{ReadAnswer}
 use Rattle.vector_types.specs.declared.Mode.the-variants.{Plain}
+use Rattle.vector_types.specs.Examples.{ride, twiceAtZero}
 use Rattle.bodies.specs.Merged.{merged}
+use Rattle.distance_sums.specs.Dense.{squaresWith}
 use Rattle.distance_sums.specs.Examples.{zeroBytes as zero, oneBytes as one, nanPattern as nan}
-use Rattle.distance.specs.Answer.{distanceOf, pairRefused}
+use Rattle.distance.specs.Answer.{counts, distanceOf, pairRefused}
 use Rattle.distance.specs.declared.Distance.{Distance}
 use Rattle.distance.specs.declared.Distance.the-variants.{Cos, L2, Dot, Jaccard}
 use Rattle.distance.specs.declared.Which.the-variants.{First, Second}
@@ -44,9 +46,9 @@ refuses s n = shows s (refused (refusal n)) []
 abbrev pub answers : Distance → List ℕ → List ℕ → DistanceAnswer → Example
 answers m a b r = record { defined = measured (distanceOf m a b); expected = measured r }
 
--- a distance, by its pattern
-abbrev pub measures : Distance → List ℕ → List ℕ → ℕ → Example
-measures m a b bits = answers m a b (Measured (ofBits binary64 bits))
+-- two blobs, the readings that each holds, and their distance, by its pattern
+abbrev pub measures : Distance → List ℕ → List ℕ → ℕ → ℕ → Example
+measures m a b n bits = answers m a b (Measured (ofBits binary64 bits) (counts n n))
 
 -- a Float8 body of dims 1 (the byte 7, alpha 1.0, shift 0.0), and its blob of 15 bytes with the trailing count t
 abbrev pub seven : List ℕ
@@ -77,6 +79,13 @@ four = 0 ∷ 0 ∷ 0x80 ∷ 0x40 ∷ []
 abbrev pub noEntry : List ℕ
 noEntry = 2 ∷ 0 ∷ 0 ∷ 0 ∷ 9 ∷ []
 
+-- of dims 3 with no entry, and of dims 1 with 1.0 at index 0
+abbrev pub noReading : List ℕ
+noReading = 3 ∷ 0 ∷ 0 ∷ 0 ∷ 9 ∷ []
+
+abbrev pub onceAtZero : List ℕ
+onceAtZero = one ++ zero ++ (1 ∷ 0 ∷ 0 ∷ 0 ∷ 9 ∷ [])
+
 abbrev pub unscaled : List ℕ
 unscaled = (7 ∷ 0 ∷ 0 ∷ 0 ∷ []) ++ zero ++ zero ++ 0 ∷ 3 ∷ 4 ∷ []
 
@@ -106,27 +115,31 @@ documentTable =
     -- P: sparse, index 2, dims 2: 8; it names entry 0
     ∷ shows indexTwo (refused (naming 8 0)) []
     -- P: 1-bit `aa`, `ab` (dims 8): cosine 1.0, Jaccard 3fc9999999999998
-    ∷ measures Cos (bits 0xaa) (bits 0xab) 0x3ff0_0000_0000_0000
-    ∷ measures Jaccard (bits 0xaa) (bits 0xab) 0x3fc9_9999_9999_9998
+    ∷ measures Cos (bits 0xaa) (bits 0xab) 8 0x3ff0_0000_0000_0000
+    ∷ measures Jaccard (bits 0xaa) (bits 0xab) 8 0x3fc9_9999_9999_9998
     -- P: dense f32 (0,0), (3,4): L2 4014000000000000
-    ∷ measures L2 (zero ++ zero) (three ++ four) 0x4014_0000_0000_0000
+    ∷ measures L2 (zero ++ zero) (three ++ four) 2 0x4014_0000_0000_0000
     ∷ []
 
 -- examples that the paper does not mark
 abbrev pub furtherTable : List Example
 furtherTable =
     -- those that it runs only
-    measures Dot (one ++ zero) (zero ++ one) 0x8000_0000_0000_0000
-    ∷ measures Cos unscaled unscaled nan
+    measures Dot (one ++ zero) (zero ++ one) 2 0x8000_0000_0000_0000
+    ∷ measures Cos unscaled unscaled 1 nan
     -- those of the program's lines
-    ∷ measures Cos [] [] 0
-    ∷ measures Dot (bits 0xaa) (bits 0xab) 0xc018_0000_0000_0000
+    ∷ measures Cos [] [] 0 0
+    ∷ measures Dot (bits 0xaa) (bits 0xab) 8 0xc018_0000_0000_0000
     ∷ answers L2 (bits 0xaa) (bits 0xab) (pairRefused 14)
     ∷ answers Cos (0x07 ∷ []) (0x05 ∷ []) (Refused (refusal 3) First)
-    ∷ measures Cos noEntry noEntry nan
+    ∷ measures Cos noEntry noEntry 0 nan
     -- the empty dot, and L2 of empty vectors
-    ∷ measures Dot [] [] 0x8000_0000_0000_0000
-    ∷ measures L2 [] [] 0
+    ∷ measures Dot [] [] 0 0x8000_0000_0000_0000
+    ∷ measures L2 [] [] 0 0
+    -- each count is that of its own blob, whichever comes first; two readings in one place are two
+    ∷ answers L2 ride noReading (Measured (ofBits binary64 0x4059_0000_0000_0000) (counts 2 0))
+    ∷ answers L2 noReading ride (Measured (ofBits binary64 0x4059_0000_0000_0000) (counts 0 2))
+    ∷ answers L2 twiceAtZero onceAtZero (Measured (ofBits binary64 0x3ff0_0000_0000_0000) (counts 2 1))
     -- which entry is wrong, in the first blob and in the second
     ∷ answers Cos wrongEntry noEntry (Refused (naming 8 1) First)
     ∷ answers Cos noEntry wrongEntry (Refused (naming 8 1) Second)
@@ -144,5 +157,5 @@ unfolding distanceOf readOf bodyOf namedKind byByte lengthBeforeType bodyFits re
 document-table-holds = refl
 
 pub further-table-holds : Holds furtherTable
-unfolding distanceOf readOf bodyOf namedKind byByte lengthBeforeType bodyFits refusals shown firstFrom numberAt layoutRow running total root merged add sub mul div neg eq lt ofInt ofBits
+unfolding distanceOf readOf bodyOf namedKind byByte lengthBeforeType bodyFits refusals shown firstFrom numberAt layoutRow running total root merged squaresWith add sub mul div neg eq lt ofInt ofBits
 further-table-holds = refl

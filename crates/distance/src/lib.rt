@@ -13,7 +13,7 @@ ghost use Rattle.vector_types.specs.declared.ReadAnswer.the-variants.{Accepted}
 ghost use Rattle.vector_types.specs.declared.Mode.the-variants.{Plain};
 ghost use Rattle.distance.specs.Values.{valueOf};
 ghost use Rattle.distance.specs.inner.Table.{existsFor};
-ghost use Rattle.distance.specs.Answer.{pairingOf, distanceAnswer, answerOfViews, distanceOf};
+ghost use Rattle.distance.specs.Answer.{countsOf, pairingOf, distanceAnswer, answerOfViews, distanceOf};
 ghost use Rattle.distance.specs.declared.Pairing.the-variants.{Alike};
 ghost use Rattle.distance.specs.declared.Distance.the-variants.{Cos, L2, Dot, Jaccard};
 use distance_cos::measure_cos;
@@ -23,6 +23,7 @@ use jaccard::measure_jaccard;
 use table::exists;
 use vector_types::Mode;
 use vector_types::ReadAnswer;
+use vector_types::Readings;
 use vector_types::Refusal;
 use vector_types::VectorType;
 use vector_types::View;
@@ -41,9 +42,15 @@ pub enum Which {
     Neither,
 }
 
+// How many readings each of the two vectors holds.
+pub struct Counts {
+    pub first: Readings,
+    pub second: Readings,
+}
+
 // A distance, or why there is none. NaN is a distance: that of vectors which have no likeness to measure.
 pub enum DistanceAnswer {
-    Measured(f64),
+    Measured(f64, Counts),
     Refused(Refusal, Which),
 }
 
@@ -86,6 +93,15 @@ pub fn check_pair(v: View, w: View) -> Pairing
     Pairing::Alike
 }
 
+// How many readings two views hold.
+fn counts_of(v: View, w: View) -> Counts
+    ensures { λ r. ⌜ r ≡ countsOf v w ⌝ }
+{
+    let first = v.readings;
+    let second = w.readings;
+    Counts { first, second }
+}
+
 // The distance of two accepted blobs of the same dims and kind, if there is one for the kind: 14.
 pub fn measure_pair(
     distance: Distance,
@@ -97,7 +113,7 @@ pub fn measure_pair(
     requires { ⌜ readOf Plain (now first) ≡ Accepted v ⌝ }
     requires { ⌜ readOf Plain (now second) ≡ Accepted w ⌝ }
     requires { ⌜ pairingOf v w ≡ Alike ⌝ }
-    ensures { λ r. ⌜ r ≡ distanceAnswer (valueOf distance (v .kind) (v .dims .0) (bodyOf (now (first .entry))) (bodyOf (now (second .entry)))) ⌝ }
+    ensures { λ r. ⌜ r ≡ distanceAnswer (valueOf distance (v .kind) (v .dims .0) (bodyOf (now (first .entry))) (bodyOf (now (second .entry)))) (countsOf v w) ⌝ }
 {
     let kind = v.kind;
     if !exists(distance, kind) {
@@ -109,7 +125,7 @@ pub fn measure_pair(
     let a = &first[..m];
     let b = &second[..n];
     let x = measure(distance, kind, dims.0, a, b);
-    DistanceAnswer::Measured(x)
+    DistanceAnswer::Measured(x, counts_of(v, w))
 }
 
 // The distance of two accepted blobs, of which these are the views.

@@ -45,14 +45,15 @@ measure-requires c κs =
 
 returns-2 : tie.Need-returns-2
 returns-2 c =
-    let s = c .before .before .before .before .before .before .before .before in
+    let measured = c .before in
+    let s = measured .before .before .before .before .before .before .before .before in
     let first = body-is (s .args .first .now) (s .args .v) (s .pre .0) in
     let second = body-is (s .args .second .now) (s .args .w) (s .pre .1 .0) in
-    rw (first, second, ← c .measure .ensures)
+    rw (first, second, ← measured .measure .ensures, c .counts-of .ensures)
 
 pub measure-pair-spec : {M : Type 1} → statement M
 measure-pair-spec =
     tie.close
     (tie.spec
     (λ c κs. search needs) (λ c κs. search needs) returns
-    slice-aggregate-a slice-aggregate-b measure-requires returns-2)
+    slice-aggregate-a slice-aggregate-b measure-requires (λ c κs. search needs) returns-2)
