@@ -7,18 +7,22 @@ use Prim.Native.Nat.{ℕ}
 use lib.Ieee.{Float, le, eq, isNan}
 use Rattle.float_laws.proofs.Order.{nan-le, le-nan, eq-self, nan-self}
 use Rattle.vector_types.specs.Answers.{refusal, Given, none as passed, given, firstGiven, unless}
+use Rattle.vector_types.specs.declared.Readings.{Readings}
 use Rattle.vector_types.specs.declared.View.{View}
 use Rattle.vector_types.proofs.Given.{first-append}
 use Rattle.distance.specs.Values.{valueOf}
-use Rattle.distance.specs.Answer.{mismatches, pairingOf, distanceAnswer}
+use Rattle.distance.specs.Answer.{mismatches, countsOf, pairingOf, distanceAnswer}
 use Rattle.distance.proofs.Paired.{isAlike, unlessMismatched, unless-by-pairing}
 use Rattle.distance.specs.declared.Distance.{Distance}
+use Rattle.distance.specs.declared.Counts.{Counts}
 use Rattle.distance.specs.declared.Pairing.{Pairing}
 use Rattle.distance.specs.declared.Pairing.the-variants.{Alike, Mismatched}
 use Rattle.distance.specs.declared.DistanceAnswer.{DistanceAnswer}
 use Rattle.distance.specs.declared.DistanceAnswer.the-variants.{Measured, Refused as Unmeasured}
 use Rattle.nearer.specs.Nearer.{near, refusedNamingNone, nearerBy, decided, comparedOf}
+use Rattle.nearer.specs.declared.Near.{Near}
 use Rattle.nearer.specs.declared.NearerAnswer.{NearerAnswer}
+use Rattle.nearer.specs.declared.NearerAnswer.the-variants.{Nearer}
 use Rattle.nearer.specs.declared.Candidate.the-variants.{First, Second}
 
 -- ---- two pairs that are checked
@@ -43,36 +47,48 @@ pairings-alike v w u e = both-alike (pairingOf v w) (pairingOf v u) (sym (pairin
 
 -- ---- the two pairs measured
 abbrev pub unlessUnmeasured : DistanceAnswer → (Float → NearerAnswer) → NearerAnswer
-unlessUnmeasured (Measured x) next = next x
+unlessUnmeasured (Measured x c) next = next x
 unlessUnmeasured (Unmeasured r w) next = refusedNamingNone r
 
-decided-by : (o q : Option Float) → decided o q ≡ unlessUnmeasured (distanceAnswer o) (λ x. unlessUnmeasured (distanceAnswer q) (nearerBy x))
-decided-by none q = refl
-decided-by (some x) none = refl
-decided-by (some x) (some y) = refl
+-- of two candidates with these readings
+module _ (m n : Readings) where
+  abbrev pub nearerAt : Float → Float → NearerAnswer
+  nearerAt x y = nearerBy (near First x m) (near Second y n)
+
+  decided-by : (c d : Counts) (o q : Option Float) → decided m n o q ≡ unlessUnmeasured (distanceAnswer o c) (λ x. unlessUnmeasured (distanceAnswer q d) (nearerAt x))
+  decided-by c d none q = refl
+  decided-by c d (some x) none = refl
+  decided-by c d (some x) (some y) = refl
 
 pub compared-by : (m : Distance) (v w u : View) (p a b : List ℕ) → comparedOf m v w u p a b
     ≡ unlessMismatched (pairingsOf v w u) refusedNamingNone
-    (unlessUnmeasured (distanceAnswer (valueOf m (v .kind) (v .dims .0) p a))
-    (λ x. unlessUnmeasured (distanceAnswer (valueOf m (v .kind) (v .dims .0) p b)) (nearerBy x)))
+    (unlessUnmeasured (distanceAnswer (valueOf m (v .kind) (v .dims .0) p a) (countsOf v w))
+    (λ x. unlessUnmeasured (distanceAnswer (valueOf m (v .kind) (v .dims .0) p b) (countsOf v u)) (nearerAt (w .readings) (u .readings) x)))
 unfolding comparedOf
 compared-by m v w u p a b =
     let x = valueOf m (v .kind) (v .dims .0) p a in
     let y = valueOf m (v .kind) (v .dims .0) p b in
-    unless-by-pairing (firstGiven (mismatches v w ++ mismatches v u)) refusedNamingNone (decided x y)
-    ∙ ap (unlessMismatched (pairingsOf v w u) refusedNamingNone) (decided-by x y)
+    unless-by-pairing (firstGiven (mismatches v w ++ mismatches v u)) refusedNamingNone (decided (w .readings) (u .readings) x y)
+    ∙ ap (unlessMismatched (pairingsOf v w u) refusedNamingNone) (decided-by (w .readings) (u .readings) (countsOf v w) (countsOf v u) x y)
 
--- ---- two distances: by the comparisons
--- x <= y; y is a number; x is one
-abbrev byTests : Bool → Bool → Bool → Float → Float → NearerAnswer
-byTests a b c x y = cond a (near First x) (cond b (near Second y) (cond c (near First x) (refusedNamingNone (refusal 18))))
+-- ---- two candidates: by the comparisons of their distances
+module _ (first second : Near) where
+  abbrev x : Float
+  x = first .distance
 
-by-nan : (x y : Float) (a b : Bool) → isNan x ≡ a → isNan y ≡ b → nearerBy x y ≡ byTests (le x y) (eq y y) (eq x x) x y
-unfolding nearerBy
-by-nan x y true true p q = rw (p, q, nan-self x p, nan-self y q, nan-le x y p)
-by-nan x y true false p q = rw (p, q, eq-self y q, nan-le x y p)
-by-nan x y false true p q = rw (p, q, nan-self y q, eq-self x p, le-nan x y q)
-by-nan x y false false p q = rw (p, q, eq-self y q)
+  abbrev y : Float
+  y = second .distance
 
-pub nearer-by-tests : (x y : Float) {a b c : Bool} → le x y ≡ a → eq y y ≡ b → eq x x ≡ c → nearerBy x y ≡ byTests a b c x y
-nearer-by-tests x y p q r = rw (← p, ← q, ← r) (by-nan x y (isNan x) (isNan y) refl refl)
+  -- x <= y; y is a number; x is one
+  abbrev byTests : Bool → Bool → Bool → NearerAnswer
+  byTests a b c = cond a (Nearer first) (cond b (Nearer second) (cond c (Nearer first) (refusedNamingNone (refusal 18))))
+
+  by-nan : (a b : Bool) → isNan x ≡ a → isNan y ≡ b → nearerBy first second ≡ byTests (le x y) (eq y y) (eq x x)
+  unfolding nearerBy
+  by-nan true true p q = rw (p, q, nan-self x p, nan-self y q, nan-le x y p)
+  by-nan true false p q = rw (p, q, eq-self y q, nan-le x y p)
+  by-nan false true p q = rw (p, q, nan-self y q, eq-self x p, le-nan x y q)
+  by-nan false false p q = rw (p, q, eq-self y q)
+
+  pub nearer-by-tests : {a b c : Bool} → le x y ≡ a → eq y y ≡ b → eq x x ≡ c → nearerBy first second ≡ byTests a b c
+  nearer-by-tests p q r = rw (← p, ← q, ← r) (by-nan (isNan x) (isNan y) refl refl)

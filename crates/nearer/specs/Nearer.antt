@@ -7,6 +7,7 @@ use lib.Ieee.{Float, le, isNan}
 use Rattle.vector_types.specs.Answers.{refusal, firstGiven, unless}
 use Rattle.vector_types.specs.Read.{readOf}
 use Rattle.vector_types.specs.Parts.{bodyOf}
+use Rattle.vector_types.specs.declared.Readings.{Readings}
 use Rattle.vector_types.specs.declared.Refusal.{Refusal}
 use Rattle.vector_types.specs.declared.View.{View}
 use Rattle.vector_types.specs.declared.ReadAnswer.{ReadAnswer}
@@ -17,6 +18,7 @@ use Rattle.distance.specs.Answer.{mismatches}
 use Rattle.distance.specs.declared.Distance.{Distance}
 use Rattle.nearer.specs.declared.Candidate.{Candidate}
 use Rattle.nearer.specs.declared.Candidate.the-variants.{First, Second}
+use Rattle.nearer.specs.declared.Near.{Near}
 use Rattle.nearer.specs.declared.Among.the-variants.{Probe, First as TheFirst, Second as TheSecond, Neither}
 use Rattle.nearer.specs.declared.NearerAnswer.{NearerAnswer}
 use Rattle.nearer.specs.declared.NearerAnswer.the-variants.{Nearer, Refused}
@@ -26,32 +28,34 @@ abbrev pub nearerNumber : NearerAnswer → ℕ
 nearerNumber (Nearer n) = 0
 nearerNumber (Refused r w) = r .number
 
--- a candidate and its distance, and a refusal that names none of the three blobs
-abbrev pub near : Candidate → Float → NearerAnswer
-near c x = Nearer (record { candidate = c; distance = x })
+-- a candidate, its distance and the readings that it holds; and a refusal that names none of the three blobs
+abbrev pub near : Candidate → Float → Readings → Near
+near c x n = record { candidate = c; distance = x; readings = n }
 
 abbrev pub refusedNamingNone : Refusal → NearerAnswer
 refusedNamingNone r = Refused r Neither
 
 -- of the distances x and y: NaN loses to all else, a tie gives the first, and two NaNs give neither
-unfoldable pub nearerBy : Float → Float → NearerAnswer
-nearerBy x y =
+unfoldable pub nearerBy : Near → Near → NearerAnswer
+nearerBy first second =
+    let x = first .distance in
+    let y = second .distance in
     cond (isNan x && isNan y) (refusedNamingNone (refusal 18))
-    (cond (isNan y || le x y) (near First x)
-    (near Second y))
+    (cond (isNan y || le x y) (Nearer first)
+    (Nearer second))
 
--- of the distances of the two pairs; none is a distance that does not exist for the kind, which 14 refuses
-abbrev pub decided : Option Float → Option Float → NearerAnswer
-decided none q = refusedNamingNone (refusal 14)
-decided (some x) none = refusedNamingNone (refusal 14)
-decided (some x) (some y) = nearerBy x y
+-- of two candidates with these readings, by their distances from the probe; none is a distance that does not exist for the kind, which 14 refuses
+abbrev pub decided : Readings → Readings → Option Float → Option Float → NearerAnswer
+decided m n none q = refusedNamingNone (refusal 14)
+decided m n (some x) none = refusedNamingNone (refusal 14)
+decided m n (some x) (some y) = nearerBy (near First x m) (near Second y n)
 
 -- of the views and bodies of probe, first and second: 12 and 13 for the first, then for the second, then 14, then 18
 unfoldable pub comparedOf : Distance → View → View → View → List ℕ → List ℕ → List ℕ → NearerAnswer
 unfolding nearerBy valueOf
 comparedOf m v w u p a b =
     unless (firstGiven (mismatches v w ++ mismatches v u)) refusedNamingNone
-    (decided (valueOf m (v .kind) (v .dims .0) p a) (valueOf m (v .kind) (v .dims .0) p b))
+    (decided (w .readings) (u .readings) (valueOf m (v .kind) (v .dims .0) p a) (valueOf m (v .kind) (v .dims .0) p b))
 
 -- of what reading each answers
 abbrev pub nearerIn : Distance → ReadAnswer → ReadAnswer → ReadAnswer → List ℕ → List ℕ → List ℕ → NearerAnswer

@@ -14,6 +14,7 @@ use distance::DistanceAnswer;
 use distance::Pairing;
 use vector_types::Mode;
 use vector_types::ReadAnswer;
+use vector_types::Readings;
 use vector_types::Refusal;
 use vector_types::View;
 
@@ -22,10 +23,11 @@ pub enum Candidate {
     Second,
 }
 
-// The nearer candidate, and its distance from the probe.
+// A candidate, its distance from the probe, and how many readings it holds itself.
 pub struct Near {
     pub candidate: Candidate,
     pub distance: f64,
+    pub readings: Readings,
 }
 
 // Which of the three blobs a refusal is about.
@@ -41,27 +43,32 @@ pub enum NearerAnswer {
     Refused(Refusal, Among),
 }
 
-fn answer(candidate: Candidate, distance: f64) -> NearerAnswer
-    ensures { λ r. ⌜ r ≡ near candidate distance ⌝ }
+// A candidate at a distance, with the readings of its own view.
+fn candidate_at(candidate: Candidate, distance: f64, view: View) -> Near
+    ensures { λ r. ⌜ r ≡ near candidate distance (view .readings) ⌝ }
 {
-    NearerAnswer::Nearer(Near {
+    let readings = view.readings;
+    Near {
         candidate,
         distance,
-    })
+        readings,
+    }
 }
 
-// The lesser of two distances: a tie gives the first, and NaN loses to all else.
-fn choose(x: f64, y: f64) -> NearerAnswer
-    ensures { λ r. ⌜ r ≡ nearerBy x y ⌝ }
+// The one at the lesser distance: a tie gives the first, and NaN loses to all else.
+fn choose(first: Near, second: Near) -> NearerAnswer
+    ensures { λ r. ⌜ r ≡ nearerBy first second ⌝ }
 {
+    let x = first.distance;
+    let y = second.distance;
     if x <= y {
-        return answer(Candidate::First, x);
+        return NearerAnswer::Nearer(first);
     }
     if y == y {
-        return answer(Candidate::Second, y);
+        return NearerAnswer::Nearer(second);
     }
     if x == x {
-        return answer(Candidate::First, x);
+        return NearerAnswer::Nearer(first);
     }
     NearerAnswer::Refused(Refusal::by_number(18), Among::Neither)
 }
@@ -95,12 +102,15 @@ fn compare(
         Pairing::Mismatched(refusal) => NearerAnswer::Refused(refusal, Among::Neither),
         Pairing::Alike => match distance::measure_pair(distance, probe, v, first, w) {
             DistanceAnswer::Refused(refusal, _) => NearerAnswer::Refused(refusal, Among::Neither),
-            DistanceAnswer::Measured(x) => {
+            DistanceAnswer::Measured(x, _) => {
                 match distance::measure_pair(distance, probe, v, second, u) {
                     DistanceAnswer::Refused(refusal, _) => {
                         NearerAnswer::Refused(refusal, Among::Neither)
                     }
-                    DistanceAnswer::Measured(y) => choose(x, y),
+                    DistanceAnswer::Measured(y, _) => choose(
+                        candidate_at(Candidate::First, x, w),
+                        candidate_at(Candidate::Second, y, u),
+                    ),
                 }
             }
         },

@@ -1,8 +1,9 @@
 -- What the checks and the two measures answer decides as `comparedOf` says (`compared-by`).
-use mathlib.Core.Path.{_≡_, sym, _∙_}
+use mathlib.Core.Path.{_≡_, sym, ap₂, _∙_}
 use borrow.Author.Needs.{needs}
 use Rattle.distance.specs.Answer.{pairingOf}
 use Rattle.distance.specs.declared.Pairing.the-variants.{Alike}
+use Rattle.nearer.specs.Nearer.{nearerBy}
 use Rattle.nearer.proofs.Compared.{pairings-alike, compared-by}
 use Rattle.nearer.proofs.compare.Statement.{statement}
 use Rattle.nearer.proofs.compare.Tie as tie
@@ -54,7 +55,8 @@ returns-3 c =
 
 returns-4 : tie.Need-returns-4
 returns-4 c =
-    let y = c .before .before in
+    let candidates = c .before in
+    let y = candidates .before .before .before in
     let second = y .before .before in
     let x = second .before .before in
     let first = x .before .before in
@@ -62,7 +64,8 @@ returns-4 c =
     let checked = alike .before .before in
     let a = checked .before .before .before .before .args in
     rw (compared-by (a .distance) (a .v) (a .w) (a .u), ← checked .check-pairs .ensures, alike .enum-told .given .1)
-    (rw (← first .measure-pair .ensures, x .x .given .1, ← second .measure-pair2 .ensures, y .y .given .1) (c .choose .ensures))
+    (rw (← first .measure-pair .ensures, x .x .given .1, ← second .measure-pair2 .ensures, y .y .given .1)
+    (c .choose .ensures ∙ ap₂ nearerBy (candidates .before .candidate-at .ensures) (candidates .candidate-at2 .ensures)))
 
 pub compare-spec : {M : Type 1} → statement M
 compare-spec =
@@ -71,5 +74,5 @@ compare-spec =
     (λ c κs. search needs)
     (λ c. search needs) (λ c. search needs) measure-pair-requires
     (λ c. search needs) (λ c. search needs) measure-pair-requires-2
-    (λ c. search needs) (λ c. search needs) (λ c κs. search needs)
+    (λ c. search needs) (λ c. search needs) (λ c κs. search needs) (λ c κs. search needs) (λ c κs. search needs)
     returns returns-2 returns-3 returns-4)
