@@ -1,5 +1,6 @@
 -- Two sparse blobs with rising indices have the distances of their Float32Dense forms, to the bit: the dense blobs read back, their
 -- sums are those of the sparse ones, and where no sum is a zero the two rules of cosine are one. It is what the converter and the writer do.
+-- Only the distance is the same: the dense forms hold dims readings each.
 use mathlib.Core.Path.{_≡_, refl, sym, ap, subst, _∙_}
 use mathlib.Core.Bool.{false}
 use mathlib.Core.List.{List, append-nil}
@@ -10,7 +11,7 @@ use lib.ListN.{length, take, drop}
 use lib.Seq.{take-at}
 use lib.Ieee.{binary32}
 use borrow.Author.Tests.{eq-eqb, le-ltb}
-use Rattle.vector_types.specs.Answers.{none, firstGiven, acceptedAs}
+use Rattle.vector_types.specs.Answers.{none, firstGiven, viewOf, acceptedAs}
 use Rattle.vector_types.specs.Layout.{bodyFits, hasIndexOutside}
 use Rattle.vector_types.specs.Read.{readOf}
 use Rattle.vector_types.specs.Parts.{bodyOf}
@@ -37,8 +38,8 @@ use Rattle.distance.specs.Answer.{distanceOf}
 use Rattle.distance.specs.declared.Distance.{Distance}
 use Rattle.distance.specs.declared.Distance.the-variants.{Cos, L2, Dot, Jaccard}
 use Rattle.distance.proofs.Paired.{SameShape}
-use Rattle.vector_laws.specs.DenseForm.{denseForm, NoZero, Premises}
-use Rattle.vector_laws.proofs.Measured.{views-same}
+use Rattle.vector_laws.specs.DenseForm.{denseForm, NoZero, Premises, SameDistance}
+use Rattle.vector_laws.proofs.Measured.{views-related}
 use Rattle.vector_laws.proofs.DenseFormSums.{dense-form-same-squares, dense-form-same-shares, dense-form-same-dots, dense-form-same-products}
 
 -- ---- the values
@@ -66,7 +67,7 @@ denseFormBody s v = resultOf Float32Sparse Float32Dense (v .dims .0) (bodyOf s)
 
 -- and the view of the new blob
 abbrev denseFormView : List ℕ → View → View
-denseFormView s v = record { kind = Float32Dense; dims = v .dims; length = length (denseFormBody s v) }
+denseFormView s v = viewOf Float32Dense (v .dims .0) (length (denseFormBody s v))
 
 module _ (s : List ℕ) (v : View) (e : readOf Plain s ≡ Accepted v) (k : v .kind ≡ Float32Sparse) where
   abbrev d : ℕ
@@ -115,12 +116,12 @@ module _ (s : List ℕ) (v : View) (e : readOf Plain s ≡ Accepted v) (k : v .k
 -- ---- two blobs
 pub dense-form-same-distance : (m : Distance) (s t : List ℕ) (v w : View) → readOf Plain s ≡ Accepted v → readOf Plain t ≡ Accepted w → v .kind ≡ Float32Sparse → w .kind ≡ Float32Sparse
     → Rising (entriesOf (bodyOf s)) → Rising (entriesOf (bodyOf t)) → Premises m (bodyOf s) (bodyOf t)
-    → distanceOf m (denseForm s v) (denseForm t w) ≡ distanceOf m s t
+    → SameDistance (distanceOf m (denseForm s v) (denseForm t w)) (distanceOf m s t)
 unfolding distanceOf
 dense-form-same-distance m s t v w p q kv kw su tu asks =
     let (f, x) = dense-form-read s v p kv in
     let (g, y) = dense-form-read t w q kw in
-    rw (p, q, f, g, x, y) (views-same (valueOf m) (valueOf m) (denseFormView s v) (denseFormView t w) v w _ _ _ _ (rw (kv, kw)) values)
+    rw (p, q, f, g, x, y) (views-related SameDistance (λ r. (refl, refl)) (valueOf m) (valueOf m) (denseFormView s v) (denseFormView t w) v w _ _ _ _ (λ x. refl) (rw (kv, kw)) values)
   where
     values : SameShape (denseFormView s v) (denseFormView t w)
         → valueOf m Float32Dense (v .dims .0) (denseFormBody s v) (denseFormBody t w) ≡ valueOf m (v .kind) (v .dims .0) (bodyOf s) (bodyOf t)

@@ -1,6 +1,6 @@
 -- Cosine of 1-bit blobs, from answers: it is the count of bits that differ, 0 exactly for equal bodies, and by a detour never less. What is measured
--- against a 1-bit blob is one of the same dims, and counts up to 65,536 are exact as f64s.
-use mathlib.Core.Path.{_≡_, refl, sym, ap, subst, _∙_}
+-- against a 1-bit blob is one of the same dims, so both hold dims readings; counts of bits up to 65,536 are exact as f64s.
+use mathlib.Core.Path.{_≡_, refl, sym, ap, ap₂, subst, _∙_}
 use mathlib.Core.Logic.{⊎-elim}
 use mathlib.Core.Bool.{true, false, and-eq-true-iff}
 use mathlib.Core.List.{List, [], _∷_}
@@ -23,6 +23,7 @@ use lib.Ieee.Order.{le-of-values}
 use Rattle.float_laws.specs.Running.{total}
 use Rattle.float_laws.proofs.Whole.{of-whole, of-zero, add-int}
 use Rattle.little_endian.specs.Bytes.{AreBytes}
+use Rattle.vector_types.specs.Answers.{readings}
 use Rattle.vector_types.specs.Layout.{maxDims, ceil, bodyFits, bitAt}
 use Rattle.vector_types.specs.Read.{readOf}
 use Rattle.vector_types.specs.Parts.{bodyOf}
@@ -38,10 +39,11 @@ use Rattle.distance_sums.specs.OneBit.{wholeBits, differing, bitCosine}
 use Rattle.distance_sums.specs.Values.{cosineOf}
 use Rattle.distance_sums.proofs.Counts.{xor-digits, tally-le, byte-more}
 use Rattle.distance.specs.Values.{valueOf}
-use Rattle.distance.specs.Answer.{distanceOf}
+use Rattle.distance.specs.Answer.{countsOf, distanceOf}
+use Rattle.distance.specs.declared.Counts.{Counts}
 use Rattle.distance.specs.declared.Distance.the-variants.{Cos}
 use Rattle.distance.specs.declared.DistanceAnswer.the-variants.{Measured}
-use Rattle.vector_laws.specs.BitsApart.{bitsApart}
+use Rattle.vector_laws.specs.BitsApart.{bitsApart, dimsEach}
 use Rattle.vector_laws.proofs.Measured.{measured-alike, alike-measured}
 
 -- ---- two digits
@@ -105,17 +107,25 @@ abbrev orNan : Option Float → Float
 orNan none = nan
 orNan (some x) = x
 
+dims-readings : {d : ℕ} {s : List ℕ} (o : OneBit d s) → o .view .readings ≡ readings d
+dims-readings {d} {s} o = ap readings (view-facts s (o .view) (o .read) .counted ∙ rw (o .kind) (o .dims))
+
+dims-each : {d : ℕ} {s t : List ℕ} (o : OneBit d s) (other : OneBit d t) → countsOf (o .view) (other .view) ≡ dimsEach d
+dims-each o other = ap₂ (λ m n. record { first = m; second = n }) (dims-readings o) (dims-readings other)
+
 module _ {d : ℕ} {s : List ℕ} (o : OneBit d s) where
-  -- what is measured against it is one too, and the answer is the count
-  measured-one-bit : (t : List ℕ) (x : Float) → distanceOf Cos s t ≡ Measured x → OneBit d t × (bitCosine (bitsApart d s t) ≡ x)
+  -- what is measured against it is one too, the distance is the count of bits that differ, and both hold dims readings
+  measured-one-bit : (t : List ℕ) (x : Float) {c : Counts} → distanceOf Cos s t ≡ Measured x c → OneBit d t × (bitCosine (bitsApart d s t) ≡ x) × (c ≡ dimsEach d)
   unfolding valueOf cosineOf
-  measured-one-bit t x e =
-      let p = measured-alike Cos s t x e in
+  measured-one-bit t x {c} e =
+      let p = measured-alike Cos s t x c e in
       let same = accepted-same-view (p .first) (o .view) (sym (p .firstRead) ∙ o .read) in
       let kind : p .first .kind ≡ Float1Bit = ap (λ (v : View). v .kind) same ∙ o .kind in
-      let dims : p .first .dims .0 ≡ d = ap (λ (v : View). v .dims .0) same ∙ o .dims in (
-        record { view = p .second; read = p .secondRead; kind = sym (p .kind) ∙ kind; dims = sym (p .dims) ∙ dims },
+      let dims : p .first .dims .0 ≡ d = ap (λ (v : View). v .dims .0) same ∙ o .dims in
+      let other : OneBit d t = record { view = p .second; read = p .secondRead; kind = sym (p .kind) ∙ kind; dims = sym (p .dims) ∙ dims } in (
+        other,
         ap orNan (rw (kind, dims) at (p .value)),
+        sym (p .counted) ∙ ap (λ (v : View). countsOf v (p .second)) same ∙ dims-each o other,
       )
 
   body-bytes : AreBytes s → AreBytes (bodyOf s)
@@ -130,7 +140,7 @@ module _ {d : ℕ} {s : List ℕ} (o : OneBit d s) where
   unfolding differing
   few-apart t = omega (arith, o .dims, view-facts s (o .view) (o .read) .few, tally-le xor-digits (bodyOf s) (bodyOf t) (wholeBits d))
 
-  exact-count : (t : List ℕ) (x : Float) → distanceOf Cos s t ≡ Measured x → HasValue x false (bitsApart d s t) 1
+  exact-count : (t : List ℕ) (x : Float) {c : Counts} → distanceOf Cos s t ≡ Measured x c → HasValue x false (bitsApart d s t) 1
   unfolding bitCosine
   exact-count t x e =
       subst (λ (y : Float). HasValue y false (bitsApart d s t) 1) (measured-one-bit t x e .1) (of-whole binary64 (bitsApart d s t) (omega (arith, few-apart t)))
@@ -157,39 +167,45 @@ module _ (s : List ℕ) (v : View) (e : readOf Plain s ≡ Accepted v) (k : v .k
   one-bit : OneBit d s
   one-bit = record { view = v; read = e; kind = k; dims = refl }
 
+  -- whatever is measured against it, both hold dims readings
+  pub measured-dims-each : (t : List ℕ) (x : Float) (c : Counts) → distanceOf Cos s t ≡ Measured x c → c ≡ dimsEach (v .dims .0)
+  measured-dims-each t x c g = measured-one-bit one-bit t x g .2
+
   -- another of the same dims is measured against it, by the count
   pub cosine-counts : (t : List ℕ) (w : View) → readOf Plain t ≡ Accepted w → w .kind ≡ Float1Bit → v .dims .0 ≡ w .dims .0
-      → distanceOf Cos s t ≡ Measured (bitCosine (bitsApart (v .dims .0) s t))
-  unfolding valueOf cosineOf
+      → distanceOf Cos s t ≡ Measured (bitCosine (bitsApart (v .dims .0) s t)) (dimsEach (v .dims .0))
+  unfolding valueOf cosineOf one-bit
   cosine-counts t w g l same =
-      alike-measured Cos s t _ (record { first = v; second = w; firstRead = e; secondRead = g; kind = k ∙ sym l; dims = same; value = rw k })
+      let other : OneBit d t = record { view = w; read = g; kind = l; dims = sym same } in
+      alike-measured Cos s t _ _
+      (record { first = v; second = w; firstRead = e; secondRead = g; kind = k ∙ sym l; dims = same; value = rw k; counted = dims-each one-bit other })
 
   -- the f64 that is answered is the count
-  pub count-exact : (t : List ℕ) (x : Float) → distanceOf Cos s t ≡ Measured x → HasValue x false (bitsApart (v .dims .0) s t) 1
-  count-exact = exact-count one-bit
+  pub count-exact : (t : List ℕ) (x : Float) → distanceOf Cos s t ≡ Measured x (dimsEach (v .dims .0)) → HasValue x false (bitsApart (v .dims .0) s t) 1
+  count-exact t x e = exact-count one-bit t x e
 
-  pub cosine-zero : (t : List ℕ) (x : Float) → AreBytes s → AreBytes t → distanceOf Cos s t ≡ Measured x
+  pub cosine-zero : (t : List ℕ) (x : Float) → AreBytes s → AreBytes t → distanceOf Cos s t ≡ Measured x (dimsEach (v .dims .0))
       → (isZero x ≡ true → bodyOf s ≡ bodyOf t) × (bodyOf s ≡ bodyOf t → isZero x ≡ true)
   unfolding bitCosine eq
   cosine-zero t x B C g =
-      let (other, count) = measured-one-bit one-bit t x g in (
+      let (other, count, _) = measured-one-bit one-bit t x g in (
         λ z. differing-none (bodyOf s) (bodyOf t) (body-bytes one-bit B) (body-bytes other C) (ceil d 8) (body-long one-bit) (body-long other)
             (zero-whole x (bitsApart d s t) z (count-exact t x g)),
         λ z. rw (← count, z, differing-self (bodyOf t) (wholeBits d), of-zero binary64),
       )
 
   -- by way of t: the sum of two f64s is exact, and so no less than the third
-  pub detour-exact : (t u : List ℕ) (x y : Float) → distanceOf Cos s t ≡ Measured x → distanceOf Cos t u ≡ Measured y
+  pub detour-exact : (t u : List ℕ) (x y : Float) → distanceOf Cos s t ≡ Measured x (dimsEach (v .dims .0)) → distanceOf Cos t u ≡ Measured y (dimsEach (v .dims .0))
       → HasValue (add binary64 x y) false (bitsApart (v .dims .0) s t + bitsApart (v .dims .0) t u) 1
   unfolding bitCosine
   detour-exact t u x y p q =
-      let (other, first) = measured-one-bit one-bit t x p in
-      let (_, second) = measured-one-bit other u y q in
+      let (other, first, _) = measured-one-bit one-bit t x p in
+      let (_, second, _) = measured-one-bit other u y q in
       let a = few-apart one-bit t in
       let b = few-apart other u in
       rw (← first, ← second, add-int binary64 (pos (bitsApart d s t)) (pos (bitsApart d t u)) (omega arith) (omega arith)) (of-whole binary64 _ (omega arith))
 
-  pub cosine-triangle : (t u : List ℕ) (x y z : Float) → distanceOf Cos s t ≡ Measured x → distanceOf Cos t u ≡ Measured y → distanceOf Cos s u ≡ Measured z
+  pub cosine-triangle : (t u : List ℕ) (x y z : Float) → distanceOf Cos s t ≡ Measured x (dimsEach (v .dims .0)) → distanceOf Cos t u ≡ Measured y (dimsEach (v .dims .0)) → distanceOf Cos s u ≡ Measured z (dimsEach (v .dims .0))
       → T (le z (add binary64 x y))
   cosine-triangle t u x y z p q r =
       le-of-values z (add binary64 x y) (bitsApart d s u) 1 (bitsApart d s t + bitsApart d t u) 1 (zero-lt-suc 0) (zero-lt-suc 0)

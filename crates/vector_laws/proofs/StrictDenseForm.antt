@@ -15,7 +15,7 @@ use Rattle.bodies.specs.Entries.{Rising, entriesOf}
 use Rattle.distance.specs.Answer.{distanceOf}
 use Rattle.distance.specs.declared.Distance.{Distance}
 use Rattle.distance.specs.declared.Distance.the-variants.{L2, Jaccard}
-use Rattle.vector_laws.specs.DenseForm.{denseForm, Premises}
+use Rattle.vector_laws.specs.DenseForm.{denseForm, Premises, SameDistance}
 use Rattle.vector_laws.proofs.DenseForm.{dense-form-same-distance}
 
 pub strict-rises : (s : List ℕ) (v : View) → readOf Strict s ≡ Accepted v → v .kind ≡ Float32Sparse → Rising (entriesOf (bodyOf s))
@@ -24,13 +24,13 @@ strict-rises s v e k =
     body-indices-rise s v plain k (strict-indices-rise s v plain k .0 e)
 
 module _ (s t : List ℕ) (v w : View) (p : readOf Strict s ≡ Accepted v) (q : readOf Strict t ≡ Accepted w) (kv : v .kind ≡ Float32Sparse) (kw : w .kind ≡ Float32Sparse) where
-  pub strict-dense-form-same-distance : (m : Distance) → Premises m (bodyOf s) (bodyOf t) → distanceOf m (denseForm s v) (denseForm t w) ≡ distanceOf m s t
+  pub strict-dense-form-same-distance : (m : Distance) → Premises m (bodyOf s) (bodyOf t) → SameDistance (distanceOf m (denseForm s v) (denseForm t w)) (distanceOf m s t)
   strict-dense-form-same-distance m asks =
       dense-form-same-distance m s t v w (shown-plainly Strict s v p) (shown-plainly Strict t w q) kv kw (strict-rises s v p kv) (strict-rises t w q kw) asks
 
   -- L2 and Jaccard ask nothing more
-  pub strict-dense-form-same-l2 : distanceOf L2 (denseForm s v) (denseForm t w) ≡ distanceOf L2 s t
+  pub strict-dense-form-same-l2 : SameDistance (distanceOf L2 (denseForm s v) (denseForm t w)) (distanceOf L2 s t)
   strict-dense-form-same-l2 = strict-dense-form-same-distance L2 tt
 
-  pub strict-dense-form-same-jaccard : distanceOf Jaccard (denseForm s v) (denseForm t w) ≡ distanceOf Jaccard s t
+  pub strict-dense-form-same-jaccard : SameDistance (distanceOf Jaccard (denseForm s v) (denseForm t w)) (distanceOf Jaccard s t)
   strict-dense-form-same-jaccard = strict-dense-form-same-distance Jaccard tt

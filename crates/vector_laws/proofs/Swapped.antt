@@ -1,5 +1,5 @@
--- Exchanging the two vectors changes no bit of a distance, cosine and dot of Float8 apart (specs/SwapExamples.antt), and a pair refused is
--- refused either way: kind by kind, over the sums and counts with their arguments exchanged.
+-- Exchanging the two vectors changes no bit of a distance, cosine and dot of Float8 apart (specs/SwapExamples.antt), and exchanges the counts; a pair
+-- refused is refused either way: kind by kind, over the sums and bit counts with their arguments exchanged.
 use mathlib.Core.Path.{_≡_, refl, sym, ap, ap₂, _∙_}
 use mathlib.Core.Bool.{Bool, true, false, not, false≢true}
 use mathlib.Core.List.{List}
@@ -27,8 +27,8 @@ use Rattle.distance.specs.Values.{valueOf}
 use Rattle.distance.specs.Answer.{pairingOf, distanceOf}
 use Rattle.distance.specs.declared.Distance.{Distance}
 use Rattle.distance.specs.declared.Distance.the-variants.{Cos, L2, Dot, Jaccard}
-use Rattle.vector_laws.specs.Symmetric.{symmetric}
-use Rattle.vector_laws.proofs.Measured.{views-same}
+use Rattle.vector_laws.specs.Symmetric.{symmetric, exchanged}
+use Rattle.vector_laws.proofs.Measured.{views-related}
 use Rattle.vector_laws.proofs.SwappedSums.{products-swap, dense-crossed, sparse-crossed, squares-swap, dots-swap, shares-swap}
 use Rattle.vector_laws.proofs.SwappedMerge.{sparse-products-swap, sparse-squares-swap, sparse-dots-swap, sparse-shares-swap}
 use Rattle.vector_laws.proofs.SwappedBits.{differing-swap, overlap-swap}
@@ -93,11 +93,11 @@ pairing-swap v w = rw (eqb-swap (v .dims .0) (w .dims .0), eqb-swap (byteOf (v .
 
 -- ---- two blobs
 pub distance-swap : (m : Distance) (s t : List ℕ) (v w : View) → readOf Plain s ≡ Accepted v → readOf Plain t ≡ Accepted w → symmetric m (v .kind) ≡ true
-    → distanceOf m s t ≡ distanceOf m t s
+    → distanceOf m s t ≡ exchanged (distanceOf m t s)
 unfolding distanceOf
 distance-swap m s t v w e g o =
     let a = bodyOf s in
     let b = bodyOf t in
     rw (e, g)
-    (views-same (valueOf m) (valueOf m) v w w v a b b a (pairing-swap v w)
+    (views-related (λ x y. x ≡ exchanged y) (λ r. refl) (valueOf m) (valueOf m) v w w v a b b a (λ x. refl) (pairing-swap v w)
     (λ same. value-swap m (v .kind) (v .dims .0) a b o ∙ ap₂ (λ l d. valueOf m l d b a) (same .kind) (same .dims)))

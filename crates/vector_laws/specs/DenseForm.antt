@@ -1,4 +1,4 @@
--- A sparse blob as a Float32Dense one, and what each distance asks of two sparse bodies so that it stays the same.
+-- A sparse blob as a Float32Dense one, what each distance asks of two sparse bodies so that it stays the same, and what staying the same means.
 use Prim.Native.Nat.{ℕ, _*_, _<_}
 use mathlib.Core.Path.{_≡_}
 use mathlib.Core.Bool.{false}
@@ -16,6 +16,8 @@ use Rattle.distance_sums.specs.Dense.{Products, isZero}
 use Rattle.distance_sums.specs.Sparse.{sparseProducts}
 use Rattle.distance.specs.declared.Distance.{Distance}
 use Rattle.distance.specs.declared.Distance.the-variants.{Cos, L2, Dot, Jaccard}
+use Rattle.distance.specs.declared.DistanceAnswer.{DistanceAnswer}
+use Rattle.distance.specs.declared.DistanceAnswer.the-variants.{Measured, Refused}
 
 -- the blob that the writer makes of what the blob s, with the view v, is converted to
 abbrev pub denseForm : List ℕ → View → List ℕ
@@ -37,3 +39,10 @@ Premises Cos a b = AllFinite a × AllFinite b × NoZero (sparseProducts a b)
 Premises L2 a b = Unit
 Premises Dot a b = AllFinite a × AllFinite b
 Premises Jaccard a b = Unit
+
+-- both answers are the same distance, whatever the counts, or both are the same refusal about the same blob
+abbrev pub SameDistance : DistanceAnswer → DistanceAnswer → Type 0
+SameDistance (Measured x c) (Measured y d) = x ≡ y
+SameDistance (Measured x c) (Refused r w) = ⊥
+SameDistance (Refused r w) (Measured y d) = ⊥
+SameDistance (Refused r w) (Refused q u) = (r ≡ q) × (w ≡ u)

@@ -24,27 +24,33 @@ use Rattle.convert_parts.specs.Result.{resultOf}
 use Rattle.distance_sums.specs.Extremes.{lesser, greater}
 use Rattle.distance_sums.specs.Dense.{productsWith, squaresWith, dotsWith, sharesWith}
 use Rattle.bodies.specs.Merged.{merged}
-use Rattle.distance.specs.Answer.{distanceOf}
+use Rattle.distance.specs.Answer.{counts, distanceOf}
 use Rattle.distance_sums.specs.Examples.{oneBytes, twoBytes, nanPattern}
+use Rattle.distance.specs.declared.Counts.{Counts}
 use Rattle.distance.specs.declared.Distance.{Distance}
 use Rattle.distance.specs.declared.Distance.the-variants.{Cos, L2, Dot, Jaccard}
 use Rattle.distance.specs.declared.DistanceAnswer.{DistanceAnswer}
 use Rattle.distance.specs.declared.DistanceAnswer.the-variants.{Measured}
 use Rattle.vector_laws.specs.DenseForm.{denseForm}
 
--- two sparse blobs, and the patterns of their distance and of that of their dense forms
+-- two sparse blobs, the readings that they hold, and the patterns of their distance and of that of their dense forms
 pub record Example : Type 0 where
   pub measure : Distance
   pub firstBlob : List ℕ
   pub secondBlob : List ℕ
+  pub held : Counts
   pub sparse : ℕ
   pub dense : ℕ
 
+-- a blob and its readings
+abbrev pub Held : Type 0
+Held = List ℕ × ℕ
+
 -- both ways round
-abbrev pub changes : Distance → List ℕ → List ℕ → ℕ → ℕ → List Example
-changes m s t x y =
-    record { measure = m; firstBlob = s; secondBlob = t; sparse = x; dense = y }
-    ∷ record { measure = m; firstBlob = t; secondBlob = s; sparse = x; dense = y }
+abbrev pub changes : Distance → Held → Held → ℕ → ℕ → List Example
+changes measure (s, m) (t, n) x y =
+    record { measure = measure; firstBlob = s; secondBlob = t; held = counts m n; sparse = x; dense = y }
+    ∷ record { measure = measure; firstBlob = t; secondBlob = s; held = counts n m; sparse = x; dense = y }
     ∷ []
 
 -- the dense form of a blob that is read
@@ -88,31 +94,31 @@ small i = sparseBlob (0 ∷ 0 ∷ 0x80 ∷ 0x2b ∷ []) (indexBytes i)
 abbrev pub table : List Example
 table =
     -- indices that repeat: the merge takes every entry, the dense form has the last of an index
-    changes Cos repeating oneAtZero 0x3fe1_b06d_2000_0000 0
-    ++ changes L2 repeating oneAtZero 0x4000_0000_0000_0000 0x3ff0_0000_0000_0000
-    ++ changes Dot repeating oneAtZero 0xbff0_0000_0000_0000 0xc000_0000_0000_0000
-    ++ changes Jaccard repeating oneAtZero 0x3fe5_5555_5000_0000 0x3fe0_0000_0000_0000
+    changes Cos (repeating, 2) (oneAtZero, 1) 0x3fe1_b06d_2000_0000 0
+    ++ changes L2 (repeating, 2) (oneAtZero, 1) 0x4000_0000_0000_0000 0x3ff0_0000_0000_0000
+    ++ changes Dot (repeating, 2) (oneAtZero, 1) 0xbff0_0000_0000_0000 0xc000_0000_0000_0000
+    ++ changes Jaccard (repeating, 2) (oneAtZero, 1) 0x3fe5_5555_5000_0000 0x3fe0_0000_0000_0000
     -- indices that fall: the merge has passed by what both have
-    ++ changes L2 falling oneAtZero 0x4003_988e_1409_212e 0x3ff6_a09e_667f_3bcd
+    ++ changes L2 (falling, 2) (oneAtZero, 1) 0x4003_988e_1409_212e 0x3ff6_a09e_667f_3bcd
     -- an infinity where the other has no entry: times +0.0 it is NaN
-    ++ changes Dot infinite oneAtOne 0xbff0_0000_0000_0000 nanPattern
-    ++ changes Cos infinite oneAtOne 0x3ff0_0000_0000_0000 nanPattern
+    ++ changes Dot (infinite, 2) (oneAtOne, 1) 0xbff0_0000_0000_0000 nanPattern
+    ++ changes Cos (infinite, 2) (oneAtOne, 1) 0x3ff0_0000_0000_0000 nanPattern
     -- one norm is 0, and no other sum is
-    ++ changes Cos tiny oneAtZero nanPattern 0xfff0_0000_0000_0000
+    ++ changes Cos (tiny, 1) (oneAtZero, 1) nanPattern 0xfff0_0000_0000_0000
     -- the sum of products is 0, and no norm is
-    ++ changes Cos (small 0) (small 1) nanPattern 0x3ff0_0000_0000_0000
+    ++ changes Cos (small 0, 1) (small 1, 1) nanPattern 0x3ff0_0000_0000_0000
 
-abbrev pub answer : ℕ → DistanceAnswer
-answer bits = Measured (ofBits binary64 bits)
+abbrev pub answer : ℕ → Counts → DistanceAnswer
+answer bits c = Measured (ofBits binary64 bits) c
 
--- as they are, and as dense ones
+-- as they are, and as dense ones, which hold dims readings each: two
 abbrev pub defined : Example → DistanceAnswer × DistanceAnswer
 defined e =
     let s = e .firstBlob in
     let t = e .secondBlob in
     (distanceOf (e .measure) s t, distanceOf (e .measure) (denseFormIn (readOf Plain s) s) (denseFormIn (readOf Plain t) t))
 
-pub table-holds : map defined table ≡ map (λ (e : Example). (answer (e .sparse), answer (e .dense))) table
+pub table-holds : map defined table ≡ map (λ (e : Example). (answer (e .sparse) (e .held), answer (e .dense) (counts 2 2))) table
 unfolding distanceOf readOf bodyOf namedKind byByte lengthBeforeType bodyFits refusals shown firstFrom numberAt bytesOf put layoutRow tailOf blobOf resultOf spread running root merged productsWith squaresWith dotsWith sharesWith lesser greater add sub mul div neg eq lt ofBits
 table-holds = refl
 

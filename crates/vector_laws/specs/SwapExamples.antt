@@ -9,7 +9,7 @@ use Rattle.rounding.specs.Root.{root}
 use Rattle.vector_types.specs.Layout.{namedKind, byByte, lengthBeforeType, bodyFits, layoutRow}
 use Rattle.vector_types.specs.Read.{readOf, refusals, shown}
 use Rattle.vector_types.specs.Parts.{bodyOf}
-use Rattle.distance.specs.Answer.{distanceOf}
+use Rattle.distance.specs.Answer.{counts, distanceOf}
 use Rattle.distance.specs.declared.Distance.{Distance}
 use Rattle.distance.specs.declared.Distance.the-variants.{Cos, Dot}
 use Rattle.distance.specs.declared.DistanceAnswer.{DistanceAnswer}
@@ -29,8 +29,9 @@ highAlpha = float8Blob (0 ∷ 0 ∷ 0 ∷ 0x4d ∷ [])
 abbrev pub bothWays : Distance → List DistanceAnswer
 bothWays m = distanceOf m lowAlpha highAlpha ∷ distanceOf m highAlpha lowAlpha ∷ []
 
+-- each of the two holds one reading
 abbrev pub patterns : List ℕ → List DistanceAnswer
-patterns = map (λ n. Measured (ofBits binary64 n))
+patterns = map (λ n. Measured (ofBits binary64 n) (counts 1 1))
 
 -- the terms are 2 ^ 53, 1, 2 and 2 ^ -52, or 2 ^ 53, 2, 1 and 2 ^ -52: the sum is 2 ^ 53 + 2, or 2 ^ 53 + 4
 pub dot-both-ways : bothWays Dot ≡ patterns (0xc340_0000_0000_0001 ∷ 0xc340_0000_0000_0002 ∷ [])
