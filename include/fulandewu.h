@@ -37,7 +37,8 @@
  * - Distance zero is not likeness: cosine is 0.0 for two vectors of zeros, and for vectors that only
  *   point the same way. NaN is an answer too, always the pattern 7ff8000000000000, and says that there
  *   is no likeness to measure: test `x != x` before comparing, since every comparison with it is false.
- * - A blob's length is not its dims: ask fulandewu_read.
+ * - A blob's length is not its dims: ask fulandewu_read. Nor are dims readings: a sparse vector of dims 360
+ *   may hold four. `readings` counts them; made dense it is 360, and nothing tells which four were read.
  */
 #ifndef FULANDEWU_H
 #define FULANDEWU_H
@@ -101,7 +102,7 @@ enum fulandewu_which {
     FULANDEWU_PROBE = 3
 };
 
-/* The longest blob, and the most dims. */
+/* The longest blob, and the most dims, which are also the most readings. */
 #define FULANDEWU_LONGEST 524293
 #define FULANDEWU_MOST_DIMS 65536
 
@@ -117,8 +118,9 @@ struct fulandewu_answer {
     uint64_t nearer; /* FULANDEWU_FIRST or FULANDEWU_SECOND: the nearer candidate */
     uint64_t entry;  /* of a sparse vector, counted from 0: the first whose index is not below dims (refusal 8)
                         or not above the one before it (refusal 10) */
-    uint64_t readings;
-    uint64_t other_readings;
+    uint64_t readings;       /* how many there are: the stored entries of a sparse vector, repeats and zeros
+                                among them, so there may be more than dims; dims of every other kind */
+    uint64_t other_readings; /* of a distance: those of the second blob */
     uint64_t start; /* of a vector in a file: where its elements start */
     uint64_t next;  /* of a vector in a file: where its elements end and the next vector starts */
     uint64_t place; /* where the vector starts inside which a file ends */
@@ -136,7 +138,8 @@ typedef char fulandewu_lengths_have_8_bytes[sizeof(size_t) == 8 ? 1 : -1];
  * first `length` bytes of the caller's own blob. A sparse body is its values (f32) in the first half and
  * its indices (u32) in the second; numbers are little-endian. Both modes show the same of a blob that
  * both accept.
- * An answer writes `kind`, `dims` and `length`, refusals 8 and 10 `entry`, another refusal nothing.
+ * An answer writes `kind`, `dims`, `length` and `readings`, refusals 8 and 10 `entry`, another refusal
+ * nothing.
  * Refusals: plain 1 to 9, strict 1 to 11, in that order. */
 uint32_t fulandewu_read(uint8_t mode, const uint8_t *blob, size_t blob_length, struct fulandewu_answer *answer);
 
@@ -152,8 +155,9 @@ uint32_t fulandewu_write(uint8_t kind, size_t dims, const uint8_t *body, size_t 
  * it) goes to the first `length` bytes of `out`, and no byte past them changes. `scratch` is used only
  * from sparse to 1-bit or Float8: 4 * dims bytes, where the dense body is left; else it may have
  * length 0.
- * An answer writes `dims` and `length`, refusal 8 `entry`, refusals 17 (of `scratch`) and 15 (of `out`)
- * write `needed`, another refusal nothing.
+ * An answer writes `dims`, `length` and `readings`, which are the new vector's: a zero that is dropped on the
+ * way to sparse lowers the count, sparse made another kind has dims of them, and the same kind keeps its count.
+ * Refusal 8 writes `entry`, refusals 17 (of `scratch`) and 15 (of `out`) `needed`, another refusal nothing.
  * Refusals: 2 or 3 where `kind` names no kind, then the reader's 1 to 9, then 17, 15. */
 uint32_t fulandewu_convert(const uint8_t *blob, size_t blob_length, uint8_t kind,
                            uint8_t *scratch, size_t scratch_length, uint8_t *out, size_t out_length,
@@ -161,8 +165,9 @@ uint32_t fulandewu_convert(const uint8_t *blob, size_t blob_length, uint8_t kind
 
 /* The distance of two blobs. Dot is the negated dot product; cosine of 1-bit vectors is the count of
  * differing bits.
- * An answer writes `distance`, which may be NaN; a refusal writes `which`: FULANDEWU_FIRST or
- * FULANDEWU_SECOND, from 12 on FULANDEWU_NEITHER; refusal 8 writes `entry` too.
+ * An answer writes `distance`, which may be NaN, `readings` of the first blob and `other_readings` of the
+ * second; a refusal writes `which`: FULANDEWU_FIRST or FULANDEWU_SECOND, from 12 on FULANDEWU_NEITHER;
+ * refusal 8 writes `entry` too.
  * Refusals: the reader's 1 to 9 of the first blob, then of the second; 12, 13; L2 of 1-bit vectors:
  * 14. */
 uint32_t fulandewu_distance_cos(const uint8_t *first, size_t first_length,
@@ -180,9 +185,9 @@ uint32_t fulandewu_distance_jaccard(const uint8_t *first, size_t first_length,
 
 /* The nearer of two candidates to a probe, which is the first vector of each pair. A tie (0.0 against
  * -0.0 too) gives the first, and NaN loses to all else.
- * An answer writes `nearer` and `distance`, which is never NaN; a refusal writes `which`:
- * FULANDEWU_PROBE, FULANDEWU_FIRST or FULANDEWU_SECOND, from 12 on FULANDEWU_NEITHER; refusal 8 writes
- * `entry` too.
+ * An answer writes `nearer`, `distance`, which is never NaN, and `readings` of the nearer candidate, not of
+ * the probe; a refusal writes `which`: FULANDEWU_PROBE, FULANDEWU_FIRST or FULANDEWU_SECOND, from 12 on
+ * FULANDEWU_NEITHER; refusal 8 writes `entry` too.
  * Refusals: the reader's 1 to 9 of the probe, the first and the second; 12, 13 of the first pair, then
  * of the second; 14; 18. */
 uint32_t fulandewu_nearer_cos(const uint8_t *probe, size_t probe_length,

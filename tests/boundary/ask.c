@@ -91,11 +91,11 @@ static int at_end(const struct request *r) { return r->place >= r->bytes[0].leng
 
 /* The fields that an answer writes, as a set. */
 static uint32_t answer_fields(const struct request *r) {
-    if (r->export == READ) return 1u << KIND | 1u << DIMS | 1u << LENGTH;
+    if (r->export == READ) return 1u << KIND | 1u << DIMS | 1u << LENGTH | 1u << READINGS;
     if (r->export == WRITE) return 1u << LENGTH;
-    if (r->export == CONVERT) return 1u << DIMS | 1u << LENGTH;
-    if (r->export <= DISTANCE_JACCARD) return 1u << DISTANCE;
-    if (r->export <= NEARER_JACCARD) return 1u << NEARER | 1u << DISTANCE;
+    if (r->export == CONVERT) return 1u << DIMS | 1u << LENGTH | 1u << READINGS;
+    if (r->export <= DISTANCE_JACCARD) return 1u << DISTANCE | 1u << READINGS | 1u << OTHER_READINGS;
+    if (r->export <= NEARER_JACCARD) return 1u << NEARER | 1u << DISTANCE | 1u << READINGS;
     if (r->export == FVECS_APPEND) return 1u << FILL;
     return at_end(r) ? 1u << FOUND : 1u << FOUND | 1u << DIMS | 1u << START | 1u << NEXT;
 }
@@ -211,4 +211,8 @@ void expect_field(const struct answer *a, enum field field, uint64_t value) {
     if (a->field[field] != value)
         fail("%s is %llx and not %llx", FIELD_NAMES[field], (unsigned long long)a->field[field],
              (unsigned long long)value);
+}
+
+void expect_output(const struct answer *a, const uint8_t *bytes, size_t length) {
+    if (!equal(a->out, (struct bytes){bytes, length})) fail("other bytes are written");
 }

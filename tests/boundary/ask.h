@@ -18,7 +18,7 @@ extern const char *const EXPORT_NAMES[EXPORTS];
 /* The fields of `struct fulandewu_answer` by their places; the others are never written. */
 enum field {
     DISTANCE, KIND, DIMS, LENGTH, NEEDED, WHICH, NEARER, ENTRY,
-    START = 10, NEXT, PLACE, FOUND, FILL,
+    READINGS, OTHER_READINGS, START, NEXT, PLACE, FOUND, FILL,
     FIELDS = 32
 };
 
@@ -54,6 +54,9 @@ int names_an_entry(uint32_t refusal);
 
 /* Fails unless a field has this value. */
 void expect_field(const struct answer *a, enum field field, uint64_t value);
+
+/* Fails unless these bytes, and no others, are written to out. */
+void expect_output(const struct answer *a, const uint8_t *bytes, size_t length);
 
 enum { REFUSALS = 20 };
 

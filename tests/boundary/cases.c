@@ -21,6 +21,18 @@ static const uint8_t ONE_BIT[] = {0x03, 0x0e, FULANDEWU_FLOAT1BIT};
 static const uint8_t SPARSE[] = {2, 0, 0, 0, FULANDEWU_FLOAT32_SPARSE};
 static const uint8_t LONGER[] = {0, 0, 0x70, 0x42, 0, 0, 0xa0, 0x42, 0, 0, 0xa0, 0x42};
 
+/* Sparse vectors of three dims: HOLDING[n] holds n readings. These are 160; 60 and 80; 60, a stored 0 and 80. */
+static const uint8_t HOLDING_0[] = {3, 0, 0, 0, 9};
+static const uint8_t HOLDING_1[] = {0, 0, 0x20, 0x43, 1, 0, 0, 0, 3, 0, 0, 0, 9};
+static const uint8_t HOLDING_2[] = {0, 0, 0x70, 0x42, 0, 0, 0xa0, 0x42, 0, 0, 0, 0, 2, 0, 0, 0, 3, 0, 0, 0, 9};
+static const uint8_t HOLDING_3[] = {0, 0, 0x70, 0x42, 0, 0, 0, 0, 0, 0, 0xa0, 0x42, 0, 0, 0, 0, 1, 0, 0, 0,
+                                    2, 0, 0, 0, 3, 0, 0, 0, 9};
+static const struct bytes HOLDING[4] = {{HOLDING_0, 5}, {HOLDING_1, 13}, {HOLDING_2, 21}, {HOLDING_3, 29}};
+
+/* Of one dim: no reading, and two, which are more than dims. */
+static const uint8_t NONE_OF_1[] = {1, 0, 0, 0, 9};
+static const uint8_t TWICE[] = {0, 0, 0x80, 0x3f, 0, 0, 0x80, 0x3f, 0, 0, 0, 0, 0, 0, 0, 0, 1, 0, 0, 0, 9};
+
 #define BYTES(array) ((struct bytes){array, sizeof array})
 
 /* A blob refused by each of the reader's numbers but 1; in that of 8, entry 1 is wrong. */
@@ -37,6 +49,14 @@ static const struct bytes REFUSED[10] = {
 static struct answer expect_refused(struct request request, uint32_t refusal) {
     struct answer a = expect(request, refusal);
     if (names_an_entry(refusal)) expect_field(&a, ENTRY, 1);
+    return a;
+}
+
+/* An answer with these counts; one that it does not have is 0. */
+static struct answer expect_readings(struct request request, uint64_t readings, uint64_t other_readings) {
+    struct answer a = expect(request, FULANDEWU_ANSWERED);
+    expect_field(&a, READINGS, readings);
+    expect_field(&a, OTHER_READINGS, other_readings);
     return a;
 }
 
@@ -81,14 +101,13 @@ static void reader_refusals(void) {
 /* All 256 bytes as a mode: 0 is the plain one, and every other byte reads strictly. */
 static void mode_bytes(void) {
     static const uint8_t falling[] = {0, 0, 0x80, 0x3f, 0, 0, 0x80, 0x3f, 1, 0, 0, 0, 0, 0, 0, 0, 2, 0, 0, 0, 9};
-    static const uint8_t repeating[] = {0, 0, 0x80, 0x3f, 0, 0, 0x80, 0x3f, 0, 0, 0, 0, 0, 0, 0, 0, 1, 0, 0, 0, 9};
     static const uint8_t in_place_0[] = {0, 0, 0x80, 0x3f, 0, 0, 0, 0, 1, 0, 0, 0, 9};
     static const uint8_t unused_set[] = {0xff, 0x09, FULANDEWU_FLOAT1BIT};
     now_from = "the bytes that name modes";
     for (unsigned byte = 0; byte < 256; byte++) {
         int strict = byte != FULANDEWU_PLAIN;
         expect_refused(reading(byte, BYTES(falling)), strict ? FULANDEWU_SPARSE_ORDER : FULANDEWU_ANSWERED);
-        expect_refused(reading(byte, BYTES(repeating)), strict ? FULANDEWU_SPARSE_ORDER : FULANDEWU_ANSWERED);
+        expect_refused(reading(byte, BYTES(TWICE)), strict ? FULANDEWU_SPARSE_ORDER : FULANDEWU_ANSWERED);
         expect(reading(byte, BYTES(in_place_0)), FULANDEWU_ANSWERED);
         expect(reading(byte, BYTES(unused_set)), strict ? FULANDEWU_UNUSED_BIT_SET : FULANDEWU_ANSWERED);
         struct answer a = expect(reading(byte, BYTES(ONE_BIT)), FULANDEWU_ANSWERED);
@@ -154,6 +173,14 @@ static void writer_refusals(void) {
     expect_field(&a, NEEDED, 9);
 }
 
+/* The body of a sparse blob makes the blob again. */
+static void writes_back(struct bytes sparse, size_t dims) {
+    struct request write = {.export = WRITE, .kind = FULANDEWU_FLOAT32_SPARSE, .dims = dims,
+                            .bytes = {{sparse.at, sparse.length - 5}}, .out = sparse.length};
+    struct answer a = expect_readings(write, 0, 0);
+    expect_output(&a, sparse.at, sparse.length);
+}
+
 /* How long the body of a vector of so many elements, all in entries, is in each kind. */
 static uint64_t body_length(unsigned kind, uint64_t dims) {
     return kind == FULANDEWU_FLOAT32_DENSE ? 4 * dims
@@ -162,13 +189,9 @@ static uint64_t body_length(unsigned kind, uint64_t dims) {
                                            : 8 * dims;
 }
 
-/* The longest blob, 65,536 entries of 1.0, and the most dims: read, written, converted and measured. */
-static void at_the_limits(void) {
-    /* cosine, L2, dot and Jaccard of the blob and itself: 0.0, 0.0, -65,536.0 and 0.0 */
-    static const uint64_t distances[] = {0, 0, 0xc0f0000000000000u, 0};
-    static uint8_t longest[ROOM];
-    const struct bytes sparse = {longest, FULANDEWU_LONGEST};
-    now_from = "blobs at the limits";
+/* The longest blob: 65,536 entries of 1.0, and as many dims. */
+static struct bytes longest_blob(void) {
+    static uint8_t longest[FULANDEWU_LONGEST];
     for (uint32_t i = 0; i < FULANDEWU_MOST_DIMS; i++) {
         uint8_t *value = longest + 4 * i, *index = longest + 4 * (FULANDEWU_MOST_DIMS + i);
         value[2] = 0x80, value[3] = 0x3f;
@@ -176,26 +199,33 @@ static void at_the_limits(void) {
     }
     longest[FULANDEWU_LONGEST - 3] = 1;
     longest[FULANDEWU_LONGEST - 1] = FULANDEWU_FLOAT32_SPARSE;
-    struct answer a = expect(reading(FULANDEWU_STRICT, sparse), 0);
+    return BYTES(longest);
+}
+
+/* The longest blob read, written, converted and measured. */
+static void at_the_limits(void) {
+    /* cosine, L2, dot and Jaccard of the blob and itself: 0.0, 0.0, -65,536.0 and 0.0 */
+    static const uint64_t distances[] = {0, 0, 0xc0f0000000000000u, 0};
+    const struct bytes sparse = longest_blob();
+    now_from = "blobs at the limits";
+    struct answer a = expect_readings(reading(FULANDEWU_STRICT, sparse), FULANDEWU_MOST_DIMS, 0);
     expect_field(&a, KIND, FULANDEWU_FLOAT32_SPARSE);
     expect_field(&a, DIMS, FULANDEWU_MOST_DIMS);
     expect_field(&a, LENGTH, FULANDEWU_LONGEST - 5);
-    struct request write = {.export = WRITE, .kind = FULANDEWU_FLOAT32_SPARSE, .dims = FULANDEWU_MOST_DIMS,
-                            .bytes = {{longest, FULANDEWU_LONGEST - 5}}, .out = FULANDEWU_LONGEST};
-    a = expect(write, 0);
-    if (a.out.length != FULANDEWU_LONGEST || memcmp(a.out.at, longest, a.out.length) != 0) fail("another blob");
+    writes_back(sparse, FULANDEWU_MOST_DIMS);
     for (unsigned kind = 1; kind <= 9; kind++) {
         struct request convert = {.export = CONVERT, .bytes = {sparse}, .kind = (uint8_t)kind,
                                   .scratch = 4 * FULANDEWU_MOST_DIMS, .out = FULANDEWU_LONGEST};
         if (!names_a_kind(kind)) continue;
-        a = expect(convert, 0);
+        a = expect_readings(convert, FULANDEWU_MOST_DIMS, 0);
         expect_field(&a, DIMS, FULANDEWU_MOST_DIMS);
         expect_field(&a, LENGTH, body_length(kind, FULANDEWU_MOST_DIMS));
     }
     for (int d = 0; d < 4; d++) {
-        a = expect(on((enum export)(DISTANCE_COS + d), sparse, sparse, REFUSED[0]), 0);
+        struct request distance = on((enum export)(DISTANCE_COS + d), sparse, sparse, REFUSED[0]);
+        a = expect_readings(distance, FULANDEWU_MOST_DIMS, FULANDEWU_MOST_DIMS);
         expect_field(&a, DISTANCE, distances[d]);
-        a = expect(on((enum export)(NEARER_COS + d), sparse, sparse, sparse), 0);
+        a = expect_readings(on((enum export)(NEARER_COS + d), sparse, sparse, sparse), FULANDEWU_MOST_DIMS, 0);
         expect_field(&a, DISTANCE, distances[d]);
         expect_field(&a, NEARER, FULANDEWU_FIRST);
     }
@@ -209,18 +239,100 @@ static void the_same_blob_twice(void) {
     now_from = "one blob lent twice";
     now_calling = EXPORT_NAMES[NEARER_L2];
     if (fulandewu_nearer_l2(DENSE, sizeof DENSE, DENSE, sizeof DENSE, DENSE, sizeof DENSE, &answer) != 0
-        || answer.nearer != FULANDEWU_FIRST || answer.distance != 0)
-        fail("a tie does not give the first at 0.0");
+        || answer.nearer != FULANDEWU_FIRST || answer.distance != 0 || answer.readings != 2)
+        fail("a tie does not give the first, of 2 readings, at 0.0");
+    if (answer.other_readings != UINT64_MAX) fail("a field of a distance is written");
     now_calling = EXPORT_NAMES[DISTANCE_DOT];
     if (fulandewu_distance_dot(DENSE, sizeof DENSE, DENSE, sizeof DENSE, &answer) != 0 || answer.distance != -10000)
         fail("dot of 60, 80 and itself is not -10,000.0");
     now_calling = EXPORT_NAMES[DISTANCE_COS];
     if (fulandewu_distance_cos(SPARSE, sizeof SPARSE, SPARSE, sizeof SPARSE, &answer) != 0)
         fail("no reading is refused");
+    if (answer.readings != 0 || answer.other_readings != 0) fail("a reading is counted where there is none");
     memcpy(&pattern, &answer.distance, sizeof pattern);
     if (pattern != 0x7ff8000000000000u) fail("NaN has the pattern %016llx", (unsigned long long)pattern);
     if (answer.which != UINT64_MAX || answer.nearer != FULANDEWU_FIRST) fail("a field of another answer is written");
     calls += 3;
+}
+
+/* The readings of one blob, read and converted to each kind. To sparse zeros are dropped, but the least f64
+ * stays, as a stored 0. */
+static void readings_of_one(void) {
+    static const uint8_t gappy[] = {0, 0, 0x70, 0x42, 0, 0, 0, 0, 0, 0, 0xa0, 0x42};
+    static const uint8_t doubles[] = {0, 0, 0, 0, 0, 0, 0, 0x80, 1, 0, 0, 0, 0, 0, 0, 0, FULANDEWU_FLOAT64_DENSE};
+    static const uint8_t float8[] = {0, 2, 0, 0, 0, 0, 0x80, 0x3f, 0, 0, 0, 0, 0, 2, FULANDEWU_FLOAT8};
+    const struct {
+        struct bytes blob;
+        uint64_t dims, readings, made_sparse;
+    } counted[] = {
+        {HOLDING[0], 3, 0, 0},     {HOLDING[1], 3, 1, 1},     {HOLDING[2], 3, 2, 2},    {HOLDING[3], 3, 3, 3},
+        {BYTES(TWICE), 1, 2, 2},   {BYTES(gappy), 3, 3, 2},   {BYTES(doubles), 2, 2, 1}, {BYTES(float8), 2, 2, 1},
+        {BYTES(ONE_BIT), 2, 2, 2}, {{NULL, 0}, 0, 0, 0},
+    };
+    now_from = "the readings of one blob";
+    for (size_t c = 0; c < sizeof counted / sizeof *counted; c++) {
+        struct answer a = expect_readings(reading(FULANDEWU_PLAIN, counted[c].blob), counted[c].readings, 0);
+        expect_field(&a, DIMS, counted[c].dims);
+        for (unsigned kind = 1; kind <= 9; kind++) {
+            struct request convert = {.export = CONVERT, .bytes = {counted[c].blob}, .kind = (uint8_t)kind,
+                                      .scratch = 12, .out = 24};
+            int sparse = kind == FULANDEWU_FLOAT32_SPARSE;
+            if (names_a_kind(kind)) expect_readings(convert, sparse ? counted[c].made_sparse : counted[c].dims, 0);
+        }
+    }
+}
+
+/* The readings of pairs, both ways round: the counts are exchanged, and the distance keeps its bits. */
+static void readings_of_pairs(void) {
+    now_from = "the readings of pairs";
+    for (enum export e = DISTANCE_COS; e <= DISTANCE_JACCARD; e++) {
+        for (unsigned n = 0; n < 4; n++)
+            for (unsigned m = 0; m <= n; m++) {
+                struct answer a = expect_readings(on(e, HOLDING[n], HOLDING[m], REFUSED[0]), n, m);
+                struct answer b = expect_readings(on(e, HOLDING[m], HOLDING[n], REFUSED[0]), m, n);
+                expect_field(&b, DISTANCE, a.field[DISTANCE]);
+            }
+        expect_readings(on(e, BYTES(TWICE), BYTES(NONE_OF_1), REFUSED[0]), 2, 0);
+        expect_readings(on(e, BYTES(NONE_OF_1), BYTES(TWICE), REFUSED[0]), 0, 2);
+    }
+}
+
+/* The nearer candidate has these readings, as the first and as the second. */
+static void expect_nearer(enum export e, struct bytes probe, struct bytes near, struct bytes far,
+                          uint64_t readings) {
+    struct answer a = expect_readings(on(e, probe, near, far), readings, 0);
+    expect_field(&a, NEARER, FULANDEWU_FIRST);
+    a = expect_readings(on(e, probe, far, near), readings, 0);
+    expect_field(&a, NEARER, FULANDEWU_SECOND);
+}
+
+static void readings_of_the_nearer(void) {
+    now_from = "the readings of the nearer";
+    for (enum export e = NEARER_COS; e <= NEARER_JACCARD; e++) {
+        expect_nearer(e, HOLDING[2], HOLDING[3], HOLDING[1], 3);
+        expect_nearer(e, HOLDING[3], HOLDING[2], HOLDING[1], 2);
+        expect_nearer(e, BYTES(TWICE), BYTES(TWICE), BYTES(NONE_OF_1), 2);
+    }
+    expect_nearer(NEARER_L2, HOLDING[1], HOLDING[0], HOLDING[2], 0);
+    expect_nearer(NEARER_L2, HOLDING[0], HOLDING[2], HOLDING[1], 2);
+}
+
+/* The same blobs where no count is written: by the writer, on append, and on a refusal. */
+static void readings_not_told(void) {
+    now_from = "readings that are not told";
+    for (int n = 0; n < 4; n++) {
+        struct request append = {.export = FVECS_APPEND, .bytes = {HOLDING[n]}, .out = 64};
+        struct request convert = {.export = CONVERT, .bytes = {HOLDING[n]}, .kind = FULANDEWU_FLOAT1BIT};
+        writes_back(HOLDING[n], 3);
+        expect(append, FULANDEWU_KINDS_DIFFER);
+        expect(convert, FULANDEWU_SCRATCH_TOO_SHORT);
+        convert.scratch = 12;
+        expect(convert, FULANDEWU_OUTPUT_TOO_SHORT);
+        expect(on(DISTANCE_COS, HOLDING[n], BYTES(TWICE), REFUSED[0]), FULANDEWU_DIMS_DIFFER);
+        expect(on(NEARER_L2, HOLDING[n], HOLDING[n], BYTES(TWICE)), FULANDEWU_DIMS_DIFFER);
+    }
+    writes_back(BYTES(TWICE), 1);
+    expect(reading(FULANDEWU_STRICT, BYTES(TWICE)), FULANDEWU_SPARSE_ORDER);
 }
 
 void try_cases(void) {
@@ -232,6 +344,10 @@ void try_cases(void) {
     writer_refusals();
     at_the_limits();
     the_same_blob_twice();
+    readings_of_one();
+    readings_of_pairs();
+    readings_of_the_nearer();
+    readings_not_told();
 }
 
 /* The refusals' numbers that an export can give, as a set, 0 among them. */

@@ -47,10 +47,6 @@ static void expect_needed(struct request r, size_t needed) {
     expect_field(&a, NEEDED, needed);
 }
 
-static void expect_output(const struct answer *a, const uint8_t *bytes, size_t length) {
-    if (a->out.length != length || memcmp(a->out.at, bytes, length) != 0) fail("other bytes are written");
-}
-
 /* A file from vector to vector, and cut at every length: what stands before a cut vector is still shown. */
 static void walks(enum export export, const uint8_t *file, const size_t *places) {
     now_from = "a file of four vectors, whole and cut";

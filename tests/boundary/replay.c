@@ -83,17 +83,20 @@ static void answer_hex(struct bytes bytes) {
     }
 }
 
-static void answer_view(char letter, uint64_t kind, uint64_t dims, struct bytes body) {
-    char text[64];
-    snprintf(text, sizeof text, "%c\t%llu\t%llu\t", letter, (unsigned long long)kind, (unsigned long long)dims);
-    answer_text(text);
-    answer_hex(body);
-}
-
 static void answer_further(uint64_t number) {
     char text[32];
     snprintf(text, sizeof text, "\t%llu", (unsigned long long)number);
     answer_text(text);
+}
+
+/* A vector of a kind and a body, with its dims and its readings. */
+static void answer_view(char letter, uint64_t kind, const struct answer *a, struct bytes body) {
+    char text[64];
+    snprintf(text, sizeof text, "%c\t%llu\t%llu\t", letter, (unsigned long long)kind,
+             (unsigned long long)a->field[DIMS]);
+    answer_text(text);
+    answer_hex(body);
+    answer_further(a->field[READINGS]);
 }
 
 /* A refusal, the blob that it is about where there are several, and what it carries. */
@@ -117,7 +120,7 @@ static void replay_read(enum fulandewu_mode mode, struct text *part) {
         return;
     }
     if (a.field[LENGTH] > r.bytes[0].length) fail("a body longer than its blob");
-    answer_view('V', a.field[KIND], a.field[DIMS], (struct bytes){blob, a.field[LENGTH]});
+    answer_view('V', a.field[KIND], &a, (struct bytes){blob, a.field[LENGTH]});
 }
 
 /* Asks with empty buffers, then with each as long as was said to be needed: one byte less than that is
@@ -173,7 +176,7 @@ static void replay_convert(struct text *part) {
         answer_refusal(&a, NULL);
         return;
     }
-    answer_view('C', r.kind, a.field[DIMS], a.out);
+    answer_view('C', r.kind, &a, a.out);
     if (a.scratch.length) check_scratch(r, a.scratch);
 }
 
@@ -190,6 +193,18 @@ static void answer_distance(const struct answer *a) {
     answer_text(text);
 }
 
+/* The counts of a distance, which no reply has, are those that the reader gives of its blobs. */
+static void check_readings(const struct request *r, const struct answer *a) {
+    uint64_t readings[2];
+    for (int i = 0; i < 2; i++) {
+        struct request read = {.export = READ, .mode = FULANDEWU_PLAIN, .bytes = {r->bytes[i]}};
+        readings[i] = expect(read, FULANDEWU_ANSWERED).field[READINGS];
+    }
+    now_calling = EXPORT_NAMES[r->export];
+    expect_field(a, READINGS, readings[0]);
+    expect_field(a, OTHER_READINGS, readings[1]);
+}
+
 static void replay_distance(struct text *part) {
     static uint8_t blobs[2][600000];
     struct request r = {.export = (enum export)(DISTANCE_COS + distance_of(part[0]))};
@@ -201,6 +216,7 @@ static void replay_distance(struct text *part) {
     }
     answer_text("D\t");
     answer_distance(&a);
+    check_readings(&r, &a);
 }
 
 static void replay_nearer(struct text *part) {
@@ -217,6 +233,7 @@ static void replay_nearer(struct text *part) {
     if (a.field[NEARER] != FULANDEWU_FIRST && a.field[NEARER] != FULANDEWU_SECOND) fail("nearer is no candidate");
     answer_text(a.field[NEARER] == FULANDEWU_FIRST ? "N\t1\t" : "N\t2\t");
     answer_distance(&a);
+    answer_further(a.field[READINGS]);
 }
 
 static void replay_vector(enum export export, struct text *part) {

@@ -16,6 +16,19 @@ static void change_nan(double *distance) {
     if (*distance != *distance) memcpy(distance, &pattern, sizeof pattern);
 }
 
+static void exchange(uint64_t *a, uint64_t *b) {
+    const uint64_t kept = *a;
+    *a = *b, *b = kept;
+}
+
+/* How many of the first values of a sparse body are stored zeros. */
+static uint64_t zeros_in(const uint8_t *values, uint64_t count) {
+    const uint8_t zero[4] = {0, 0, 0, 0};
+    uint64_t zeros = 0;
+    for (uint64_t i = 0; i < count; i++) zeros += memcmp(values + 4 * i, zero, 4) == 0;
+    return zeros;
+}
+
 #define READ_ARGUMENTS uint8_t mode, const uint8_t *blob, size_t n, struct fulandewu_answer *answer
 uint32_t __real_fulandewu_read(READ_ARGUMENTS);
 uint32_t __wrap_fulandewu_read(READ_ARGUMENTS);
@@ -38,11 +51,26 @@ uint32_t __wrap_fulandewu_read(READ_ARGUMENTS) {
     if (wrong("a_byte_offset_as_entry") && refusal == 8) answer->entry *= 4;
     if (wrong("the_entry_before") && refusal == 10) answer->entry -= 1;
     if (wrong("entry_of_10_not_written") && refusal == 10) memset(&answer->entry, 0xa5, 8);
-    if (wrong("the_first_reserved_field")) answer->readings = 0;
+    if (wrong("dims_for_readings") && refusal == 0) answer->readings = answer->dims;
+    if (wrong("readings_held_to_dims") && refusal == 0 && answer->readings > answer->dims)
+        answer->readings = answer->dims;
+    if (wrong("stored_zeros_not_counted") && refusal == 0 && answer->kind == FULANDEWU_FLOAT32_SPARSE)
+        answer->readings -= zeros_in(blob, answer->readings);
+    if (wrong("readings_not_written") && refusal == 0) memset(&answer->readings, 0xa5, 8);
+    if (wrong("readings_on_a_refusal") && refusal) answer->readings = 0;
+    if (wrong("other_readings_of_one_blob") && refusal == 0) answer->other_readings = 0;
+    if (wrong("the_first_reserved_field")) answer->reserved[0] = 0;
     if (wrong("the_last_reserved_field")) answer->reserved[16] = 0;
     if (wrong("a_33rd_field")) ((volatile uint64_t *)answer)[32] = 0;
     if (wrong("a_field_before")) ((volatile uint64_t *)answer)[-1] = 0;
     return wrong("another_number") && refusal == 7 ? 6 : refusal;
+}
+
+/* The readings of a blob that is accepted. */
+static uint64_t readings_of(const uint8_t *blob, size_t n) {
+    struct fulandewu_answer answer;
+    __real_fulandewu_read(FULANDEWU_PLAIN, blob, n, &answer);
+    return answer.readings;
 }
 
 #define WRITE_ARGUMENTS \
@@ -59,6 +87,7 @@ uint32_t __wrap_fulandewu_write(WRITE_ARGUMENTS) {
     if (wrong("needs_one_more") && refusal == 15) answer->needed += 1;
     if (wrong("needed_on_an_answer") && refusal == 0) answer->needed = 0;
     if (wrong("needed_as_length") && refusal == 15) answer->length = answer->needed;
+    if (wrong("the_writer_counts_readings") && refusal == 0) answer->readings = dims;
     return refusal;
 }
 
@@ -72,6 +101,10 @@ uint32_t __wrap_fulandewu_convert(CONVERT_ARGUMENTS) {
     if (wrong("scratch_for_all") && refusal == 0 && scratch_room > 0) scratch[0] = 0;
     if (wrong("writes_nothing") && refusal == 0 && answer->length > 0) memset(out, 0xa5, answer->length);
     if (wrong("kind_of_a_conversion") && refusal == 0) answer->kind = kind;
+    if (wrong("readings_of_the_source") && refusal == 0) answer->readings = readings_of(blob, n);
+    if (wrong("dims_for_the_new_readings") && refusal == 0) answer->readings = answer->dims;
+    if (wrong("new_readings_not_written") && refusal == 0) memset(&answer->readings, 0xa5, 8);
+    if (wrong("readings_with_a_need") && (refusal == 15 || refusal == 17)) answer->readings = readings_of(blob, n);
     return refusal;
 }
 
@@ -88,6 +121,11 @@ uint32_t __wrap_fulandewu_distance_cos(DISTANCE_ARGUMENTS) {
     if (wrong("another_nan") && refusal == 0) change_nan(&answer->distance);
     if (wrong("another_nan_on_a_refusal") && refusal) change_nan(&answer->distance);
     if (wrong("zero_for_nan") && refusal == 0 && answer->distance != answer->distance) answer->distance = 0;
+    if (wrong("readings_exchanged") && refusal == 0) exchange(&answer->readings, &answer->other_readings);
+    if (wrong("the_same_readings_twice") && refusal == 0) answer->other_readings = answer->readings;
+    if (wrong("other_readings_not_written") && refusal == 0) memset(&answer->other_readings, 0xa5, 8);
+    if (wrong("readings_of_a_refused_pair") && refusal >= 12) answer->readings = readings_of(first, n);
+    if (wrong("other_readings_on_a_refusal") && refusal) answer->other_readings = 0;
     return refusal;
 }
 
@@ -101,6 +139,12 @@ uint32_t __wrap_fulandewu_nearer_l2(NEARER_ARGUMENTS) {
     if (wrong("nearer_as_which") && refusal == 0) answer->which = answer->nearer;
     if (wrong("the_other_candidate") && refusal == 0) answer->nearer = 3 - answer->nearer;
     if (wrong("nearer_on_a_refusal") && refusal) answer->nearer = 0;
+    if (wrong("readings_of_the_probe") && refusal == 0) answer->readings = readings_of(probe, n);
+    if (wrong("readings_of_the_first") && refusal == 0) answer->readings = readings_of(first, m);
+    if (wrong("readings_of_the_second") && refusal == 0) answer->readings = readings_of(second, k);
+    if (wrong("readings_of_no_nearer") && refusal == 18) answer->readings = 0;
+    if (wrong("other_readings_of_a_nearer") && refusal == 0) answer->other_readings = readings_of(probe, n);
+    if (wrong("readings_of_a_nearer_not_written") && refusal == 0) memset(&answer->readings, 0xa5, 8);
     return refusal;
 }
 
@@ -118,6 +162,7 @@ uint32_t __wrap_fulandewu_fvecs_read(FVECS_READ_ARGUMENTS) {
     if (wrong("bytes_as_dims") && vector) answer->dims = answer->next - answer->start;
     if (wrong("next_at_the_end") && end) answer->next = place;
     if (wrong("dims_at_the_end") && end) answer->dims = 0;
+    if (wrong("readings_in_a_file") && vector) answer->readings = answer->dims;
     if (wrong("found_not_written") && end) memset(&answer->found, 0xa5, 8);
     if (wrong("found_on_a_refusal") && refusal) answer->found = 0;
     if (wrong("place_0") && refusal == 19) answer->place = 0;
@@ -159,5 +204,6 @@ uint32_t __wrap_fulandewu_fvecs_append(APPEND_ARGUMENTS) {
     if (wrong("fill_on_a_refusal") && refusal) answer->fill = fill;
     if (wrong("fill_not_written") && refusal == 0) memset(&answer->fill, 0xa5, 8);
     if (wrong("length_for_fill") && refusal == 0) answer->length = answer->fill - fill;
+    if (wrong("readings_of_what_is_appended") && refusal == 0) answer->readings = readings_of(blob, n);
     return refusal;
 }

@@ -12,16 +12,14 @@ pub struct Answer {
     pub which: u64,
     pub nearer: u64,
     pub entry: u64,
-    /// For later exports, as `reserved` below.
-    #[allow(dead_code)]
-    readings: u64,
-    #[allow(dead_code)]
-    other_readings: u64,
+    pub readings: u64,
+    pub other_readings: u64,
     pub start: u64,
     pub next: u64,
     pub place: u64,
     pub found: u64,
     pub fill: u64,
+    /// For later exports.
     #[allow(dead_code)]
     reserved: [u64; 17],
 }
@@ -144,4 +142,44 @@ extern "C" {
         fill: usize,
         answer: *mut Answer,
     ) -> u32;
+}
+
+#[cfg(test)]
+mod tests {
+    use super::*;
+    use std::ptr::null_mut;
+
+    /// Calls with an answer whose counts hold other numbers, and fails unless they still do after this
+    /// refusal.
+    fn expect_no_count(refusal: u32, call: impl FnOnce(*mut Answer) -> u32) {
+        let mut answer = Answer {
+            readings: 77,
+            other_readings: 88,
+            ..Answer::default()
+        };
+        assert_eq!(call(&mut answer), refusal);
+        assert_eq!((answer.readings, answer.other_readings), (77, 88));
+    }
+
+    #[test]
+    fn a_refusal_writes_no_count() {
+        // a sparse ride of two readings in one place, and one of none in two
+        let two = [
+            0, 0, 0x80, 0x3f, 0, 0, 0x80, 0x3f, 0, 0, 0, 0, 0, 0, 0, 0, 1, 0, 0, 0, 9,
+        ];
+        let none = [2, 0, 0, 0, 9];
+        let ((t, n), (m, k)) = ((two.as_ptr(), two.len()), (none.as_ptr(), none.len()));
+        // SAFETY: each pair is that of a slice or empty, and the answer is a local of its own.
+        unsafe {
+            expect_no_count(10, |a| fulandewu_read(1, t, n, a));
+            expect_no_count(15, |a| {
+                fulandewu_convert(t, n, 1, null_mut(), 0, null_mut(), 0, a)
+            });
+            expect_no_count(17, |a| {
+                fulandewu_convert(t, n, 3, null_mut(), 0, null_mut(), 0, a)
+            });
+            expect_no_count(12, |a| fulandewu_distance_cos(t, n, m, k, a));
+            expect_no_count(18, |a| fulandewu_nearer_cos(m, k, m, k, m, k, a));
+        }
+    }
 }

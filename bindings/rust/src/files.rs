@@ -77,13 +77,14 @@ pub fn bvecs_at<'a>(
     Ok(found(&answer, &out[..4 * answer.dims as usize]))
 }
 
-/// What an answer found, with these elements.
+/// What an answer found, with these elements, each of which is a reading.
 fn found<'a>(answer: &Answer, elements: &'a [u8]) -> Option<Found<'a>> {
     if answer.found == 0 {
         return None;
     }
+    let dims = answer.dims as usize;
     Some(Found {
-        view: View::new(VectorType::Float32Dense, answer.dims as usize, elements),
+        view: View::new(VectorType::Float32Dense, dims, dims, elements),
         next: answer.next as usize,
     })
 }

@@ -10,9 +10,9 @@
 //! let new = [0, 0, 0xf0, 0x42, 0, 0, 0x20, 0x43];
 //! let view = read(Mode::Plain, &old)?;
 //! assert_eq!((view.kind(), view.dims()), (VectorType::Float32Dense, 2));
-//! assert_eq!(distance(Distance::L2, &old, &new)?, 100.0);
+//! assert_eq!(distance(Distance::L2, &old, &new)?.distance, 100.0);
 //! // both point the same way, and are not alike
-//! assert_eq!(distance(Distance::Cos, &old, &new)?, 0.0);
+//! assert_eq!(distance(Distance::Cos, &old, &new)?.distance, 0.0);
 //!
 //! let refusal = distance(Distance::L2, &old, &new[..4]).unwrap_err();
 //! assert_eq!((refusal.reason(), refusal.number()), (Reason::DimsDiffer, 12));
@@ -26,14 +26,17 @@
 //! - Distance zero is not likeness. Cosine is 0.0 for two vectors of zeros, and for vectors that only
 //!   point the same way. NaN is an answer too, always of the pattern 7ff8000000000000: there is no
 //!   likeness to measure. It is not far and not near, so test [`f64::is_nan`] before comparing.
-//! - A blob's length is not its dims: ask [`read`].
+//! - A blob's length is not its dims: ask [`read`]. Nor are dims readings: a sparse vector of dims 360 may
+//!   hold four. [`View::readings`] counts them; made dense it is 360, and nothing tells which four were read.
 //!
 //! ```
 //! use fulandewu::{distance, Distance};
 //!
 //! // two sparse rides of two places with no reading in them
 //! let none = [2, 0, 0, 0, 9];
-//! assert_eq!(distance(Distance::Cos, &none, &none)?.to_bits(), 0x7ff8_0000_0000_0000);
+//! let measured = distance(Distance::Cos, &none, &none)?;
+//! assert_eq!(measured.distance.to_bits(), 0x7ff8_0000_0000_0000);
+//! assert_eq!((measured.readings, measured.other_readings), (0, 0));
 //! # Ok::<(), fulandewu::Refusal>(())
 //! ```
 
@@ -52,7 +55,7 @@ pub use view::{VectorType, View};
 /// The longest blob, in bytes.
 pub const LONGEST: usize = 524_293;
 
-/// The most elements of a vector.
+/// The most elements of a vector, which are also the most readings.
 pub const MOST_DIMS: usize = 65_536;
 
 /// How a blob is read. Conversions, distances, [`nearer()`] and [`append_fvecs()`] read plainly.
@@ -88,6 +91,12 @@ fn answered(number: u32, answer: &Answer) -> Result<(), Refusal> {
     }
 }
 
+/// The vector of an answer, whose body is in the first of these bytes.
+fn shown<'a>(kind: VectorType, answer: &Answer, bytes: &'a [u8]) -> View<'a> {
+    let body = &bytes[..answer.length as usize];
+    View::new(kind, answer.dims as usize, answer.readings as usize, body)
+}
+
 /// Reads a blob in a mode. Refusals: 1 to 9, and of [`Mode::Strict`] 10 and 11, in that order; 8 and 10 name
 /// an entry ([`Refusal::entry`]), 8 also where a blob is read to be converted, measured or appended. Both
 /// modes show the same of a blob that both accept.
@@ -101,7 +110,7 @@ fn answered(number: u32, answer: &Answer) -> Result<(), Refusal> {
 /// // the reading 60 at place 1 of 3
 /// let sparse = [0, 0, 0x70, 0x42, 1, 0, 0, 0, 3, 0, 0, 0, 9];
 /// let view = read(Mode::Plain, &sparse)?;
-/// assert_eq!(view.dims(), 3);
+/// assert_eq!((view.dims(), view.readings()), (3, 1));
 /// assert_eq!(view.values(), Some(&sparse[..4]));
 /// assert_eq!(view.indices(), Some(&sparse[4..8]));
 ///
@@ -112,7 +121,7 @@ fn answered(number: u32, answer: &Answer) -> Result<(), Refusal> {
 ///
 /// // both entries are at place 0
 /// let twice = [0, 0, 0x70, 0x42, 0, 0, 0x70, 0x42, 0, 0, 0, 0, 0, 0, 0, 0, 3, 0, 0, 0, 9];
-/// assert!(read(Mode::Plain, &twice).is_ok());
+/// assert_eq!(read(Mode::Plain, &twice)?.readings(), 2);
 /// let refusal = read(Mode::Strict, &twice).unwrap_err();
 /// assert_eq!((refusal.reason(), refusal.entry()), (Reason::SparseOrder, Some(1)));
 ///
@@ -129,11 +138,7 @@ pub fn read(mode: Mode, blob: &[u8]) -> Result<View<'_>, Refusal> {
         unsafe { exports::fulandewu_read(mode as u8, blob.as_ptr(), blob.len(), &mut answer) };
     answered(number, &answer)?;
     let kind = VectorType::named(answer.kind as u8).expect("an accepted blob has a kind");
-    Ok(View::new(
-        kind,
-        answer.dims as usize,
-        &blob[..answer.length as usize],
-    ))
+    Ok(shown(kind, &answer, blob))
 }
 
 /// Writes the blob of a kind, dims and body (a sparse body: values, then indices, without dims) to the
@@ -172,16 +177,18 @@ pub fn write(kind: VectorType, dims: usize, body: &[u8], out: &mut [u8]) -> Resu
 /// Converts a blob to another kind, or the same: the new body goes to the first bytes of `out`, no byte
 /// past them changes, and the view shows it. It is a body and no blob: [`write()`] makes one of it.
 /// `scratch` is used only from sparse to 1-bit or Float8: 4 * dims bytes, where the dense body is left.
-/// Refusals: 1 to 9, then 17, 15, which carry the need.
+/// The readings are the new vector's: a zero that is dropped on the way to sparse lowers the count, sparse
+/// made another kind has dims of them, and the same kind keeps its count. Refusals: 1 to 9, then 17, 15,
+/// which carry the need.
 ///
 /// ```
 /// use fulandewu::{convert, VectorType};
 ///
-/// // the reading 60 at place 1 of 3, made dense: the gaps become zeros
+/// // the reading 60 at place 1 of 3, made dense: the gaps become zeros, and count
 /// let sparse = [0, 0, 0x70, 0x42, 1, 0, 0, 0, 3, 0, 0, 0, 9];
 /// let mut out = [0; 12];
 /// let view = convert(&sparse, VectorType::Float32Dense, &mut [], &mut out)?;
-/// assert_eq!(view.dims(), 3);
+/// assert_eq!((view.dims(), view.readings()), (3, 3));
 /// assert_eq!(view.body(), [0, 0, 0, 0, 0, 0, 0x70, 0x42, 0, 0, 0, 0]);
 ///
 /// let refusal = convert(&sparse, VectorType::Float1Bit, &mut [], &mut out).unwrap_err();
@@ -210,26 +217,38 @@ pub fn convert<'a>(
         )
     };
     answered(number, &answer)?;
-    Ok(View::new(
-        kind,
-        answer.dims as usize,
-        &out[..answer.length as usize],
-    ))
+    Ok(shown(kind, &answer, out))
 }
 
-/// The distance of two blobs, which may be NaN. Refusals: 1 to 9 of the first blob, then of the second,
-/// which name it ([`Refusal::which`]); 12, 13; L2 of 1-bit vectors: 14.
+/// A distance, and how many readings its two blobs have, as [`View::readings`] counts them.
+#[derive(Clone, Copy, Debug, PartialEq)]
+pub struct Measured {
+    /// How far, which may be NaN.
+    pub distance: f64,
+    /// How many the first blob has.
+    pub readings: usize,
+    /// How many the second blob has.
+    pub other_readings: usize,
+}
+
+/// The distance of two blobs. Refusals: 1 to 9 of the first blob, then of the second, which name it
+/// ([`Refusal::which`]); 12, 13; L2 of 1-bit vectors: 14.
 ///
 /// ```
-/// use fulandewu::{distance, Distance, Which};
+/// use fulandewu::{distance, Distance, Measured, Which};
 ///
 /// let (one, other) = ([0xaa, 0x08, 3], [0xab, 0x08, 3]);
-/// assert_eq!(distance(Distance::Cos, &one, &other)?, 1.0);
+/// assert_eq!(distance(Distance::Cos, &one, &other)?.distance, 1.0);
 /// assert_eq!(distance(Distance::L2, &one, &other).unwrap_err().number(), 14);
 /// assert_eq!(distance(Distance::Cos, &one, &[7]).unwrap_err().which(), Some(Which::Second));
+///
+/// // the readings 60 and 80 in three places, and none
+/// let two = [0, 0, 0x70, 0x42, 0, 0, 0xa0, 0x42, 0, 0, 0, 0, 2, 0, 0, 0, 3, 0, 0, 0, 9];
+/// let measured = distance(Distance::L2, &two, &[3, 0, 0, 0, 9])?;
+/// assert_eq!(measured, Measured { distance: 100.0, readings: 2, other_readings: 0 });
 /// # Ok::<(), fulandewu::Refusal>(())
 /// ```
-pub fn distance(asked: Distance, first: &[u8], second: &[u8]) -> Result<f64, Refusal> {
+pub fn distance(asked: Distance, first: &[u8], second: &[u8]) -> Result<Measured, Refusal> {
     let measure: exports::Measure = match asked {
         Distance::Cos => exports::fulandewu_distance_cos,
         Distance::L2 => exports::fulandewu_distance_l2,
@@ -248,7 +267,11 @@ pub fn distance(asked: Distance, first: &[u8], second: &[u8]) -> Result<f64, Ref
         )
     };
     answered(number, &answer).map_err(|refusal| refusal.about(answer.which))?;
-    Ok(answer.distance)
+    Ok(Measured {
+        distance: answer.distance,
+        readings: answer.readings as usize,
+        other_readings: answer.other_readings as usize,
+    })
 }
 
 /// The nearer of two candidates.
@@ -260,13 +283,15 @@ pub enum Candidate {
     Second,
 }
 
-/// The nearer candidate, and its distance from the probe, which is never NaN.
+/// The nearer candidate, its distance from the probe, which is never NaN, and how many readings it has.
 #[derive(Clone, Copy, Debug, PartialEq)]
 pub struct Nearer {
     /// Which.
     pub candidate: Candidate,
     /// How far.
     pub distance: f64,
+    /// How many readings the candidate has; those of the probe are not counted here.
+    pub readings: usize,
 }
 
 /// The nearer of two candidates to a probe, which is the first vector of each pair. A tie (0.0 against
@@ -280,6 +305,7 @@ pub struct Nearer {
 /// let (far, near) = ([0, 0, 0x20, 0x43], [0, 0, 0xa0, 0x42]);
 /// let found = nearer(Distance::L2, &probe, &far, &near)?;
 /// assert_eq!((found.candidate, found.distance), (Candidate::Second, 20.0));
+/// assert_eq!(found.readings, 1);
 ///
 /// // no reading in any of them: nothing is near
 /// let none = [2, 0, 0, 0, 9];
@@ -320,5 +346,6 @@ pub fn nearer(
     Ok(Nearer {
         candidate,
         distance: answer.distance,
+        readings: answer.readings as usize,
     })
 }

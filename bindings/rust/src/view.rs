@@ -35,18 +35,24 @@ impl VectorType {
     }
 }
 
-/// A vector's kind, its dims and its body. The body is a part of the caller's own bytes: nothing is
-/// copied.
+/// A vector's kind, its dims, how many readings it has, and its body. The body is a part of the caller's
+/// own bytes: nothing is copied.
 #[derive(Clone, Copy, Debug, PartialEq, Eq)]
 pub struct View<'a> {
     kind: VectorType,
     dims: usize,
+    readings: usize,
     body: &'a [u8],
 }
 
 impl<'a> View<'a> {
-    pub(crate) fn new(kind: VectorType, dims: usize, body: &'a [u8]) -> View<'a> {
-        View { kind, dims, body }
+    pub(crate) fn new(kind: VectorType, dims: usize, readings: usize, body: &'a [u8]) -> View<'a> {
+        View {
+            kind,
+            dims,
+            readings,
+            body,
+        }
     }
 
     /// The kind.
@@ -57,6 +63,12 @@ impl<'a> View<'a> {
     /// How many elements the vector has, which a blob's length does not tell.
     pub fn dims(&self) -> usize {
         self.dims
+    }
+
+    /// How many readings the vector has: the stored entries of a sparse one, repeats and zeros among them,
+    /// so there may be more than dims; dims of every other kind.
+    pub fn readings(&self) -> usize {
+        self.readings
     }
 
     /// The body, without trailing count, dims and type byte.

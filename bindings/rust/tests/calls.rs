@@ -1,23 +1,12 @@
 //! Every function on good and on refused input; what a refusal carries; what it leaves.
 
-use fulandewu::{
-    append_fvecs, convert, distance, nearer, read, write, Candidate, Distance, Mode, Reason,
-    Refusal, VectorType, Which, LONGEST, MOST_DIMS,
-};
+mod common;
 
-const DISTANCES: [Distance; 4] = [
-    Distance::Cos,
-    Distance::L2,
-    Distance::Dot,
-    Distance::Jaccard,
-];
-const KINDS: [VectorType; 5] = [
-    VectorType::Float32Dense,
-    VectorType::Float64Dense,
-    VectorType::Float1Bit,
-    VectorType::Float8,
-    VectorType::Float32Sparse,
-];
+use common::{DISTANCES, KINDS};
+use fulandewu::{
+    append_fvecs, convert, distance, nearer, read, write, Candidate, Distance, Measured, Mode,
+    Reason, Refusal, VectorType, Which, LONGEST, MOST_DIMS,
+};
 
 /// Of each kind a blob of two dims; the dense ones are 60, 80.
 const BLOBS: [&[u8]; 5] = [
@@ -56,7 +45,7 @@ fn told(refusal: Refusal) -> (u32, Option<usize>, Option<Which>) {
 fn each_kind_is_read_in_both_modes() {
     for (kind, blob) in KINDS.iter().zip(BLOBS) {
         let view = read(Mode::Plain, blob).unwrap();
-        assert_eq!((view.kind(), view.dims()), (*kind, 2));
+        assert_eq!((view.kind(), view.dims(), view.readings()), (*kind, 2, 2));
         assert_eq!(view.body(), &blob[..view.body().len()]);
         assert_eq!(view.body().as_ptr(), blob.as_ptr());
         assert_eq!(read(Mode::Strict, blob), Ok(view));
@@ -178,7 +167,7 @@ fn all_pairs_are_converted() {
         for target in KINDS {
             let (mut scratch, mut out) = ([0x5a; 8], [0x5a; 40]);
             let view = convert(blob, target, &mut scratch, &mut out).unwrap();
-            assert_eq!((view.kind(), view.dims()), (target, 2));
+            assert_eq!((view.kind(), view.dims(), view.readings()), (target, 2, 2));
             let length = view.body().len();
             assert!(out[length..].iter().all(|byte| *byte == 0x5a));
             let packed = matches!(target, VectorType::Float1Bit | VectorType::Float8);
@@ -211,16 +200,21 @@ fn distances_and_their_refusals() {
     }
     let kinds = distance(Distance::Dot, BLOBS[0], BLOBS[1]).unwrap_err();
     assert_eq!(told(kinds), (13, None, None));
+    let (right, up) = (
+        [0, 0, 0x40, 0x40, 0, 0, 0, 0],
+        [0, 0, 0, 0, 0, 0, 0x80, 0x40],
+    );
+    let apart = distance(Distance::L2, &right, &up).unwrap();
     assert_eq!(
-        distance(Distance::L2, &[0; 8], &[0, 0, 0x40, 0x40, 0, 0, 0x80, 0x40]),
-        Ok(5.0)
+        apart,
+        Measured {
+            distance: 5.0,
+            readings: 2,
+            other_readings: 2
+        }
     );
-    let orthogonal = distance(
-        Distance::Dot,
-        &[0, 0, 0x80, 0x3f, 0, 0, 0, 0],
-        &[0, 0, 0, 0, 0, 0, 0x80, 0x3f],
-    );
-    assert_eq!(orthogonal.map(f64::to_bits), Ok((-0.0f64).to_bits()));
+    let orthogonal = distance(Distance::Dot, &right, &up).unwrap();
+    assert_eq!(orthogonal.distance.to_bits(), (-0.0f64).to_bits());
 }
 
 #[test]
@@ -230,15 +224,10 @@ fn the_nearer_of_two() {
         [1, 0, 0, 0, 0, 0, 0, 0, 2, 0, 0, 0, 9],
         [2, 0, 0, 0, 9],
     );
-    for d in [
-        Distance::Cos,
-        Distance::L2,
-        Distance::Dot,
-        Distance::Jaccard,
-    ] {
+    for d in DISTANCES {
         let found = nearer(d, probe, &far, probe).unwrap();
         assert_eq!(found.candidate, Candidate::Second);
-        assert_eq!(Ok(found.distance), distance(d, probe, probe));
+        assert_eq!(found.distance, distance(d, probe, probe).unwrap().distance);
         assert_eq!(
             nearer(d, probe, probe, probe).unwrap().candidate,
             Candidate::First
@@ -269,7 +258,8 @@ fn nothing_asks_for_alignment() {
     for start in 0..8 {
         let (blob, at) = (BLOBS[1], start..start + BLOBS[1].len());
         room[at.clone()].copy_from_slice(blob);
-        assert_eq!(distance(Distance::L2, &room[at], blob), Ok(0.0));
+        let measured = distance(Distance::L2, &room[at], blob).unwrap();
+        assert_eq!(measured.distance, 0.0);
     }
 }
 

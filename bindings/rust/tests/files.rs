@@ -32,8 +32,8 @@ fn a_file_is_walked() {
     assert_eq!(rides.len(), 4);
     for (v, ride) in rides.iter().enumerate() {
         assert_eq!(
-            (ride.kind(), ride.dims()),
-            (VectorType::Float32Dense, DIMS[v])
+            (ride.kind(), ride.dims(), ride.readings()),
+            (VectorType::Float32Dense, DIMS[v], DIMS[v])
         );
         assert_eq!(ride.body(), elements(v));
         assert_eq!(
@@ -45,7 +45,8 @@ fn a_file_is_walked() {
     let (mut rides, mut out, mut v) = (bvecs(&BVECS), [0x5a; 9], 0);
     while let Some(ride) = rides.next_into(&mut out) {
         let ride = ride.unwrap();
-        assert_eq!((ride.dims(), ride.body()), (DIMS[v], elements(v)));
+        assert_eq!((ride.dims(), ride.readings()), (DIMS[v], DIMS[v]));
+        assert_eq!(ride.body(), elements(v));
         assert_eq!(out[8], 0x5a);
         v += 1;
     }

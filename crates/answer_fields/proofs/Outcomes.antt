@@ -15,6 +15,7 @@ use Rattle.blob_writer.specs.declared.WriteAnswer.{WriteAnswer}
 use Rattle.blob_writer.specs.declared.WriteAnswer.the-variants.{Written, Refused as WriteRefused}
 use Rattle.convert.specs.declared.ConvertAnswer.{ConvertAnswer}
 use Rattle.convert.specs.declared.ConvertAnswer.the-variants.{Converted, Refused as ConvertRefused}
+use Rattle.distance.specs.declared.Counts.{Counts}
 use Rattle.distance.specs.declared.DistanceAnswer.{DistanceAnswer}
 use Rattle.distance.specs.declared.DistanceAnswer.the-variants.{Measured, Refused as DistanceRefused}
 use Rattle.nearer.specs.declared.NearerAnswer.{NearerAnswer}
@@ -23,7 +24,7 @@ use Rattle.vecs.specs.declared.VecsAnswer.{VecsAnswer}
 use Rattle.vecs.specs.declared.VecsAnswer.the-variants.{Vector, End, Refused as VecsRefused}
 use Rattle.vecs.specs.declared.AppendAnswer.{AppendAnswer}
 use Rattle.vecs.specs.declared.AppendAnswer.the-variants.{Filled, Refused as AppendRefused}
-use Rattle.answer_fields.specs.Fields.{distanceField, inUse, setFields, Unwritten, unreserved, ExportOutcome, exportOutcome}
+use Rattle.answer_fields.specs.Fields.{distanceField, readingsField, otherReadingsField, inUse, setFields, Unwritten, unreserved, ExportOutcome, exportOutcome}
 use Rattle.answer_fields.specs.Exported.{detailFields, readFields, writeFields, convertFields, distanceFields, nearerFields, vecsFields, appendFields}
 
 -- equal outcomes of a function that is lent no buffer are equal beside buffers
@@ -62,7 +63,7 @@ convert-unreserved (Converted v) = refl
 convert-unreserved (ConvertRefused r) = detail-unreserved (r .detail)
 
 pub distance-unreserved : (a : DistanceAnswer) → unreserved (distanceFields a) ≡ true
-distance-unreserved (Measured x) = refl
+distance-unreserved (Measured x c) = refl
 distance-unreserved (DistanceRefused r w) = detail-unreserved (r .detail)
 
 pub nearer-unreserved : (a : NearerAnswer) → unreserved (nearerFields a) ≡ true
@@ -78,6 +79,7 @@ pub append-unreserved : (a : AppendAnswer) → unreserved (appendFields a) ≡ t
 append-unreserved (Filled n) = refl
 append-unreserved (AppendRefused r) = detail-unreserved (r .detail)
 
-pub nan-pattern : distanceFields (Measured nan) ≡ (distanceField, 0x7ff8_0000_0000_0000) ∷ []
+pub nan-pattern : (c : Counts)
+    → distanceFields (Measured nan c) ≡ (distanceField, 0x7ff8_0000_0000_0000) ∷ (readingsField, c .first .0) ∷ (otherReadingsField, c .second .0) ∷ []
 unfolding toBits
-nan-pattern = refl
+nan-pattern c = refl

@@ -34,7 +34,7 @@ use Rattle.vecs.specs.declared.VecsAnswer.{VecsAnswer}
 use Rattle.vecs.specs.declared.VecsAnswer.the-variants.{Vector, End, Refused as VecsRefused}
 use Rattle.vecs.specs.declared.AppendAnswer.{AppendAnswer}
 use Rattle.vecs.specs.declared.AppendAnswer.the-variants.{Filled, Refused as AppendRefused}
-use Rattle.answer_fields.specs.Fields.{ExportOutcome, leaves, distanceField, kindField, dimsField, lengthField, neededField, whichField, nearerField, entryField, startField, nextField, placeField, foundField, fillField}
+use Rattle.answer_fields.specs.Fields.{ExportOutcome, leaves, distanceField, kindField, dimsField, lengthField, neededField, whichField, nearerField, entryField, readingsField, otherReadingsField, startField, nextField, placeField, foundField, fillField}
 
 -- of a refusal: how long a buffer that is too short would have to be, where the vector starts inside which a file ends, or which entry is wrong
 abbrev pub detailFields : Detail → List (ℕ × ℕ)
@@ -43,9 +43,9 @@ detailFields (Needs need) = (neededField, need) ∷ []
 detailFields (Starts place) = (placeField, place) ∷ []
 detailFields (Entry entry) = (entryField, entry) ∷ []
 
--- of reading: the type byte, dims and body length of a view
+-- of reading: the type byte, dims, body length and readings of a view
 abbrev pub readFields : ReadAnswer → List (ℕ × ℕ)
-readFields (Accepted v) = (kindField, byteOf (v .kind)) ∷ (dimsField, v .dims .0) ∷ (lengthField, v .length) ∷ []
+readFields (Accepted v) = (kindField, byteOf (v .kind)) ∷ (dimsField, v .dims .0) ∷ (lengthField, v .length) ∷ (readingsField, v .readings .0) ∷ []
 readFields (ReadRefused r) = detailFields (r .detail)
 
 abbrev pub readExport : ReadAnswer → List ℕ → ExportOutcome
@@ -59,28 +59,28 @@ writeFields (WriteRefused r) = detailFields (r .detail)
 abbrev pub writeExport : WriteOutcome → List ℕ → ExportOutcome
 writeExport o before = leaves (writeNumber (o .answer)) (writeFields (o .answer)) before (o .out ∷ [])
 
--- of converting: the dims and the length of a new body
+-- of converting: the dims and the length of a new body, and the readings of the new vector
 abbrev pub convertFields : ConvertAnswer → List (ℕ × ℕ)
-convertFields (Converted v) = (dimsField, v .dims .0) ∷ (lengthField, v .length) ∷ []
+convertFields (Converted v) = (dimsField, v .dims .0) ∷ (lengthField, v .length) ∷ (readingsField, v .readings .0) ∷ []
 convertFields (ConvertRefused r) = detailFields (r .detail)
 
 abbrev pub convertExport : ConvertOutcome → List ℕ → ExportOutcome
 convertExport o before = leaves (convertNumber (o .answer)) (convertFields (o .answer)) before (o .scratch ∷ o .out ∷ [])
 
--- of a distance: the distance, or the blob that a refusal is about
+-- of a distance: the distance, and the readings of the first blob and of the second; or the blob that a refusal is about
 abbrev pub whichCode : Which → ℕ
 whichCode First = 1
 whichCode Second = 2
 whichCode Neither = 0
 
 abbrev pub distanceFields : DistanceAnswer → List (ℕ × ℕ)
-distanceFields (Measured x) = (distanceField, toBits binary64 x) ∷ []
+distanceFields (Measured x c) = (distanceField, toBits binary64 x) ∷ (readingsField, c .first .0) ∷ (otherReadingsField, c .second .0) ∷ []
 distanceFields (DistanceRefused r w) = (whichField, whichCode w) ∷ detailFields (r .detail)
 
 abbrev pub distanceExport : DistanceAnswer → List ℕ → ExportOutcome
 distanceExport r before = leaves (distanceNumber r) (distanceFields r) before []
 
--- of the nearer of two: the candidate and its distance, or the blob that a refusal is about
+-- of the nearer of two: the candidate, its distance and its readings, or the blob that a refusal is about
 abbrev pub candidateCode : Candidate → ℕ
 candidateCode FirstIs = 1
 candidateCode SecondIs = 2
@@ -92,7 +92,7 @@ amongCode TheSecond = 2
 amongCode NoneOfThem = 0
 
 abbrev pub nearerFields : NearerAnswer → List (ℕ × ℕ)
-nearerFields (Nearer n) = (distanceField, toBits binary64 (n .distance)) ∷ (nearerField, candidateCode (n .candidate)) ∷ []
+nearerFields (Nearer n) = (distanceField, toBits binary64 (n .distance)) ∷ (nearerField, candidateCode (n .candidate)) ∷ (readingsField, n .readings .0) ∷ []
 nearerFields (NearerRefused r w) = (whichField, amongCode w) ∷ detailFields (r .detail)
 
 abbrev pub nearerExport : NearerAnswer → List ℕ → ExportOutcome

@@ -31,6 +31,12 @@ nearerField = 6
 abbrev pub entryField : ℕ
 entryField = 7
 
+abbrev pub readingsField : ℕ
+readingsField = 8
+
+abbrev pub otherReadingsField : ℕ
+otherReadingsField = 9
+
 abbrev pub startField : ℕ
 startField = 10
 
@@ -46,11 +52,11 @@ foundField = 13
 abbrev pub fillField : ℕ
 fillField = 14
 
--- these are in use; all other places, 8, 9 and from 15 on, are reserved for later exports
+-- these are in use; all other places, from 15 on, are reserved for later exports
 abbrev pub fieldsInUse : List ℕ
 fieldsInUse =
     distanceField ∷ kindField ∷ dimsField ∷ lengthField ∷ neededField ∷ whichField ∷ nearerField
-    ∷ entryField ∷ startField ∷ nextField ∷ placeField ∷ foundField ∷ fillField ∷ []
+    ∷ entryField ∷ readingsField ∷ otherReadingsField ∷ startField ∷ nextField ∷ placeField ∷ foundField ∷ fillField ∷ []
 
 abbrev pub isAmong : List ℕ → ℕ → Bool
 isAmong [] i = false

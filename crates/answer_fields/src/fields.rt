@@ -18,6 +18,10 @@ pub(crate) const NEARER: usize = 6;
 
 pub(crate) const ENTRY: usize = 7;
 
+pub(crate) const READINGS: usize = 8;
+
+pub(crate) const OTHER_READINGS: usize = 9;
+
 pub(crate) const START: usize = 10;
 
 pub(crate) const NEXT: usize = 11;

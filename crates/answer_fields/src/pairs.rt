@@ -6,6 +6,8 @@ ghost use Rattle.answer_fields.specs.Exported.{whichCode, distanceExport
 use crate::fields::Answer;
 use crate::fields::DISTANCE;
 use crate::fields::NEARER;
+use crate::fields::OTHER_READINGS;
+use crate::fields::READINGS;
 use crate::fields::WHICH;
 use crate::refusing::report_refusal;
 use distance::DistanceAnswer;
@@ -26,13 +28,16 @@ fn which_code(which: Which) -> u64
     }
 }
 
-// The number of an answer; the distance, or the blob that a refusal is about, is written.
+// The number of an answer; the distance and the readings of both blobs, or the blob that a refusal is
+// about, are written.
 pub fn report_distance(found: DistanceAnswer, answer: &mut Answer) -> u32
     ensures { λ r. ⌜ exportOutcome r (now (answer .exit)) [] ≡ distanceExport found (now (answer .entry)) ⌝ }
 {
     match found {
-        DistanceAnswer::Measured(x) => {
+        DistanceAnswer::Measured(x, counts) => {
             answer[DISTANCE] = bits64(x);
+            answer[READINGS] = counts.first.0 as u64;
+            answer[OTHER_READINGS] = counts.second.0 as u64;
             0
         }
         DistanceAnswer::Refused(refusal, blob) => {
@@ -64,8 +69,8 @@ fn among_code(among: Among) -> u64
     }
 }
 
-// The number of an answer; the nearer candidate and its distance, or the blob that a refusal is
-// about, are written.
+// The number of an answer; the nearer candidate, its distance and its readings, or the blob that a
+// refusal is about, are written.
 pub fn report_nearer(found: NearerAnswer, answer: &mut Answer) -> u32
     ensures { λ r. ⌜ exportOutcome r (now (answer .exit)) [] ≡ nearerExport found (now (answer .entry)) ⌝ }
 {
@@ -74,6 +79,7 @@ pub fn report_nearer(found: NearerAnswer, answer: &mut Answer) -> u32
             let candidate = one.candidate;
             answer[DISTANCE] = bits64(one.distance);
             answer[NEARER] = candidate_code(candidate);
+            answer[READINGS] = one.readings.0 as u64;
             0
         }
         NearerAnswer::Refused(refusal, blob) => {
