@@ -1,8 +1,8 @@
 -- The replies to lines that show a vector. With | for a tab the lines are
 --     read|H    strict|H    conv|K|H
 -- where H is a blob in lower-case hexadecimal and K a type byte 1, 2, 3, 4 or 9. The replies are
---     V|K|N|H    C|K|N|H    R|number
--- where K is the kind, N the dims and H the body; or X where a field is none of these.
+--     V|K|N|H|n    C|K|N|H|n    R|number
+-- where K is the kind, N the dims, H the body and n the count of readings; or X where a field is none of these.
 use Prim.Native.Nat.{ℕ}
 use mathlib.Core.List.{List}
 use lib.ListN.{take}
@@ -23,12 +23,12 @@ use Rattle.vector_types.specs.declared.ReadAnswer.the-variants.{Accepted, Refus
 use Rattle.convert.specs.Convert.{conversionOf}
 use Rattle.convert.specs.declared.ConvertAnswer.{ConvertAnswer}
 use Rattle.convert.specs.declared.ConvertAnswer.the-variants.{Converted, Refused as Unconverted}
-use Rattle.reply_texts.specs.Texts.{refusalText, shownText}
+use Rattle.reply_texts.specs.Texts.{refusalText, countedText}
 use Rattle.probe_blobs.specs.Limits.{scratchRoom}
 
--- a vector after a mark: its kind, dims and body
+-- a vector after a mark: its kind, dims and body, and its readings
 abbrev pub vectorText : List ℕ → View → List ℕ → List ℕ
-vectorText mark v body = shownText mark (byteOf (v .kind)) (v .dims .0) body
+vectorText mark v body = countedText mark (byteOf (v .kind)) (v .dims .0) body (v .readings .0)
 
 -- ---- read and strict, which name the mode: the answer about the blob s
 unfoldable pub readText : ReadAnswer → List ℕ → List ℕ

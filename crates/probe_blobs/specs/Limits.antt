@@ -2,9 +2,9 @@
 use Prim.Native.Nat.{ℕ, _+_, _*_}
 use Rattle.vector_types.specs.Layout.{maxBlobLength, maxDims}
 
--- no reply has more bytes: a mark, a kind and dims, and the longest blob in hexadecimal
+-- no reply has more bytes: a mark, a kind and dims, the longest blob in hexadecimal, and a further field
 abbrev pub replyRoom : ℕ
-replyRoom = 44 + 2 * maxBlobLength
+replyRoom = 65 + 2 * maxBlobLength
 
 -- room for the elements that a conversion goes through, and for the longest blob
 abbrev pub scratchRoom : ℕ

@@ -11,8 +11,8 @@ ghost use Rattle.probe_blobs.specs.Blobs.{vectorText, readBlobText, read
 use convert::ConvertAnswer;
 use lines::hex::Parsed;
 use lines::text::put_malformed;
+use reply_texts::put_counted;
 use reply_texts::put_refusal;
-use reply_texts::put_shown;
 use vector_types::Mode;
 use vector_types::Named;
 use vector_types::ReadAnswer;
@@ -20,7 +20,8 @@ use vector_types::VectorType;
 use vector_types::View;
 use vector_types::type_byte;
 
-// Puts a vector at the start of out: a mark, its kind and dims, and its body, the first of these bytes.
+// Puts a vector at the start of out: a mark, its kind and dims, its body, the first of these bytes, and
+// its readings.
 fn put_vector(mark: &[u8], view: View, bytes: &[u8], out: &mut [u8]) -> usize
     requires { ⌜ length (now mark) ≡ 2 ⌝ }
     requires { ⌜ view .length ≤ length (now bytes) ⌝ }
@@ -32,7 +33,8 @@ fn put_vector(mark: &[u8], view: View, bytes: &[u8], out: &mut [u8]) -> usize
     let dims = view.dims;
     let length = view.length;
     let byte = type_byte(kind) as u64;
-    put_shown(mark, byte, dims.0 as u64, &bytes[..length], out)
+    let count = view.readings.0 as u64;
+    put_counted(mark, byte, dims.0 as u64, &bytes[..length], count, out)
 }
 
 // Puts what a blob shows in a mode at the start of out.

@@ -11,8 +11,10 @@ use Rattle.vector_types.specs.Read.{readOf}
 use Rattle.blob_writer.specs.Write.{writeOf}
 use Rattle.vector_types.specs.Parts.{bodyOf}
 use Rattle.little_endian.specs.Bytes.{bytesOf, numberAt, put}
+use Rattle.convert_parts.specs.Spread.{spread}
 use Rattle.convert.specs.Convert.{conversionOf}
 use Rattle.bodies.specs.Merged.{merged}
+use Rattle.distance_sums.specs.Dense.{squaresWith}
 use Rattle.nearer.specs.Nearer.{nearerOf}
 use Rattle.vecs.specs.Vecs.{vectorAt, elementsAt}
 use Rattle.vecs.specs.Append.{appendOutcome}
@@ -44,17 +46,21 @@ floats =
 -- the customer's examples of reading, and lines of the strict mode and of the writer
 abbrev pub blobs : List Example
 blobs =
-    example "read\t" "V\t1\t0\t"
-    ∷ example "read\t01" "V\t1\t0\t"
+    example "read\t" "V\t1\t0\t\t0"
+    ∷ example "read\t01" "V\t1\t0\t\t0"
     ∷ example "read\t05" "R\t2"
     ∷ example "read\t03" "R\t4"
-    ∷ example "read\taa0803" "V\t3\t8\taa"
+    ∷ example "read\taa0803" "V\t3\t8\taa\t8"
     ∷ example "read\taa0703" "R\t6"
     ∷ example "read\taa1003" "R\t7"
     ∷ example "read\taa1103" "R\t5"
     ∷ example "strict\tab0903" "R\t11"
     ∷ example "strict\t0000803f0000803f00000000000000000100000009" "R\t10\t1"
-    ∷ example "strict\t0000803f000000000100000009" "V\t9\t1\t0000803f00000000"
+    ∷ example "strict\t0000803f000000000100000009" "V\t9\t1\t0000803f00000000\t1"
+    -- two readings of three, none of three, and two in one place
+    ∷ example "read\t000070420000a04200000000020000000300000009" "V\t9\t3\t000070420000a0420000000002000000\t2"
+    ∷ example "read\t0300000009" "V\t9\t3\t\t0"
+    ∷ example "read\t0000803f0000803f00000000000000000100000009" "V\t9\t1\t0000803f0000803f0000000000000000\t2"
     ∷ example "read\t0000803f0000803f01000000050000000200000009" "R\t8\t1"
     ∷ example "strict\t0000803f0000803f01000000050000000200000009" "R\t8\t1"
     ∷ example "write\t9\t2\t0000803f0000803f0100000005000000" "R\t8\t1"
@@ -70,11 +76,13 @@ blobs =
 -- to sparse, where -0.0 is dropped; to 1-bit, where NaN is no 1; from sparse to 1-bit; from 1-bit; to Float8
 abbrev pub conversions : List Example
 conversions =
-    example "conv\t9\t0000803f00000080" "C\t9\t2\t0000803f00000000"
-    ∷ example "conv\t3\t0000003f00000000000080bf0000c07f" "C\t3\t4\t01"
-    ∷ example "conv\t3\t0000803f010000000300000009" "C\t3\t3\t02"
-    ∷ example "conv\t2\taa0e03" "C\t2\t2\t000000000000f0bf000000000000f03f"
-    ∷ example "conv\t4\t0000803f0000004000004040" "C\t4\t3\t007fff008180003c0000803f"
+    example "conv\t9\t0000803f00000080" "C\t9\t2\t0000803f00000000\t1"
+    ∷ example "conv\t3\t0000003f00000000000080bf0000c07f" "C\t3\t4\t01\t4"
+    ∷ example "conv\t3\t0000803f010000000300000009" "C\t3\t3\t02\t3"
+    ∷ example "conv\t2\taa0e03" "C\t2\t2\t000000000000f0bf000000000000f03f\t2"
+    ∷ example "conv\t4\t0000803f0000004000004040" "C\t4\t3\t007fff008180003c0000803f\t3"
+    -- a ride with two readings of three, made dense: the count is lost
+    ∷ example "conv\t1\t000070420000a04200000000020000000300000009" "C\t1\t3\t00007042000000000000a042\t3"
     ∷ example "conv\t2\t05" "R\t2"
     ∷ example "conv\t1\t0000803f0000803f01000000050000000200000009" "R\t8\t1"
     ∷ example "conv\t5\t" "X"
@@ -84,9 +92,11 @@ conversions =
 -- the second is nearer, the first is, a tie, no likeness at all; refusals, and lines of too few and too many fields
 abbrev pub nearest : List Example
 nearest =
-    example "near\tdot\t0000803f\t00000000\t0000803f" "N\t2\tbff0000000000000"
-    ∷ example "near\tdot\t0000803f\t0000803f\t00000000" "N\t1\tbff0000000000000"
-    ∷ example "near\tcos\t\t\t" "N\t1\t0000000000000000"
+    example "near\tdot\t0000803f\t00000000\t0000803f" "N\t2\tbff0000000000000\t1"
+    ∷ example "near\tdot\t0000803f\t0000803f\t00000000" "N\t1\tbff0000000000000\t1"
+    ∷ example "near\tcos\t\t\t" "N\t1\t0000000000000000\t0"
+    -- the winner's readings, one, and not the probe's, two
+    ∷ example "near\tl2\t000070420000a04200000000020000000300000009\t0300000009\t00007042000000000300000009" "N\t2\t4054000000000000\t1"
     ∷ example "near\tcos\t0200000009\t0200000009\t0200000009" "R\t18\t-"
     ∷ example "near\tcos\t07\t05\t" "R\t3\tp"
     ∷ example "near\tcos\t\t05\t07" "R\t2\ta"
@@ -136,5 +146,5 @@ pub examples-hold :
     × RepliesAs vecprobeReply files × RepliesAs vecprobeReply appended
 unfolding partsOf same vecprobeReply detailText decimalOf numeralOf patternOf numberFrom digitOf hexPair hexBytes hexOf
     root narrowed truncated toBits readOf writeOf firstFrom bodyOf
-    conversionOf bytesOf numberAt put nearerOf vectorAt elementsAt appendOutcome running total merged ofBits ofInt add sub mul div neg eq lt le isNan
+    conversionOf bytesOf numberAt put nearerOf vectorAt elementsAt appendOutcome spread running total merged squaresWith ofBits ofInt add sub mul div neg eq lt le isNan
 examples-hold = (refl, refl, refl, refl, refl, refl)

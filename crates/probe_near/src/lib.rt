@@ -1,23 +1,37 @@
 // The lines about a probe and two candidates: near.
+ghost use mathlib.Core.Path.{_≡_};
 ghost use Prim.Native.Nat.{_+_, _*_, _≤_};
 ghost use lib.ListN.{length, take};
 ghost use Rattle.promises.specs.Puts.{Puts};
 ghost use Rattle.lines.specs.Parts.{fieldsOf};
 ghost use Rattle.lines.specs.Fields.{exactly};
 ghost use Rattle.vecdist_lines.specs.Limits.{vecdistRoom};
-ghost use Rattle.probe_near.specs.Near.{nearerText, candidatesText, nearFoundReply, nearReply};
+ghost use Rattle.probe_near.specs.Near.{nearText, nearerText, candidatesText, nearFoundReply, nearReply};
 ghost use Rattle.probe_near.specs.inner.Parts.{partsText};
 use distance::Distance;
 use lines::text::put_malformed;
 use nearer::Among;
 use nearer::Candidate;
+use nearer::Near;
 use nearer::NearerAnswer;
+use reply_texts::put_field;
 use vecdist_lines::Asked;
 use vecdist_lines::asked_of;
 use vecdist_lines::put_named_refusal;
 use vecdist_lines::put_value;
 
-// Puts which candidate is nearer and its distance, or a refusal, at the start of out.
+// Puts a mark, a candidate's distance and its readings at the start of out.
+fn put_near(mark: &[u8], found: Near, out: &mut [u8]) -> usize
+    requires { ⌜ length (now mark) ≡ 4 ⌝ }
+    requires { ⌜ vecdistRoom ≤ length (now out) ⌝ }
+    ensures { λ r. ⌜ Puts (nearText (now (mark .entry)) found) (now (out .entry)) r (now (out .exit)) ⌝ }
+{
+    let value = put_value(mark, found.distance, out);
+    let further = put_field(found.readings.0 as u64, &mut out[value..]);
+    value + further
+}
+
+// Puts which candidate is nearer, its distance and its readings, or a refusal, at the start of out.
 fn put_nearer(answer: NearerAnswer, out: &mut [u8]) -> usize
     requires { ⌜ vecdistRoom ≤ length (now out) ⌝ }
     ensures { λ r. ⌜ Puts (nearerText answer) (now (out .entry)) r (now (out .exit)) ⌝ }
@@ -26,8 +40,8 @@ fn put_nearer(answer: NearerAnswer, out: &mut [u8]) -> usize
         NearerAnswer::Nearer(found) => {
             let candidate = found.candidate;
             match candidate {
-                Candidate::First => put_value(b"N\t1\t", found.distance, out),
-                Candidate::Second => put_value(b"N\t2\t", found.distance, out),
+                Candidate::First => put_near(b"N\t1\t", found, out),
+                Candidate::Second => put_near(b"N\t2\t", found, out),
             }
         }
         NearerAnswer::Refused(refusal, among) => match among {

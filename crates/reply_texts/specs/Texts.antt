@@ -2,8 +2,8 @@
 --     R|number    R|number|N
 -- are refusals, where N is what a refusal carries: the bytes that a buffer would have to have, the place where a vector starts, or the entry
 -- that is wrong. And
---     M|N|N|H
--- shows a vector: a mark, two numbers, and bytes in hexadecimal.
+--     M|N|N|H    M|N|N|H|N
+-- show a vector: a mark, two numbers, bytes in hexadecimal, and a count of readings.
 use Prim.Native.Nat.{ℕ}
 use mathlib.Core.List.{List, [], _++_}
 use Rattle.lines.specs.Text.{word}
@@ -18,12 +18,16 @@ use Rattle.vector_types.specs.declared.Detail.the-variants.{Nothing, Needs, Sta
 abbrev pub markedText : List ℕ → ℕ → List ℕ
 markedText mark n = mark ++ decimalOf n
 
--- what a refusal carries, as a further field
+-- a number as a further field
+abbrev pub fieldText : ℕ → List ℕ
+fieldText n = markedText (word "\t") n
+
+-- what a refusal carries
 unfoldable pub detailText : Detail → List ℕ
 detailText Nothing = []
-detailText (Needs need) = markedText (word "\t") need
-detailText (Starts place) = markedText (word "\t") place
-detailText (Entry entry) = markedText (word "\t") entry
+detailText (Needs need) = fieldText need
+detailText (Starts place) = fieldText place
+detailText (Entry entry) = fieldText entry
 
 abbrev pub refusalText : Refusal → List ℕ
 refusalText r = markedText (word "R\t") (r .number) ++ detailText (r .detail)
@@ -34,3 +38,7 @@ headerText mark m n = (mark ++ headOf m) ++ headOf n
 
 abbrev pub shownText : List ℕ → ℕ → ℕ → List ℕ → List ℕ
 shownText mark m n s = headerText mark m n ++ hexOf s
+
+-- and a further number after the bytes
+abbrev pub countedText : List ℕ → ℕ → ℕ → List ℕ → ℕ → List ℕ
+countedText mark m n s count = shownText mark m n s ++ fieldText count

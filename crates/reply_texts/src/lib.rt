@@ -3,7 +3,7 @@ ghost use mathlib.Core.Path.{_≡_};
 ghost use Prim.Native.Nat.{_+_, _*_, _≤_};
 ghost use lib.ListN.{length};
 ghost use Rattle.promises.specs.Puts.{Puts};
-ghost use Rattle.reply_texts.specs.Texts.{markedText, detailText, refusalText, headerText, shownText};
+ghost use Rattle.reply_texts.specs.Texts.{markedText, fieldText, detailText, refusalText, headerText, shownText, countedText};
 use lines::text::put_decimal;
 use lines::text::put_head;
 use vector_types::Detail;
@@ -21,7 +21,16 @@ fn put_marked(mark: &[u8], number: u64, out: &mut [u8]) -> usize
     head + digits
 }
 
-// Puts what a refusal carries at the start of out: a tab and a number, or nothing.
+// Puts a number as a further field at the start of out: a tab and the number.
+pub fn put_field(number: u64, out: &mut [u8]) -> usize
+    requires { ⌜ 21 ≤ length (now out) ⌝ }
+    ensures { λ r. ⌜ Puts (fieldText number) (now (out .entry)) r (now (out .exit)) ⌝ }
+    ensures { λ r. ⌜ r ≤ 22 ⌝ }
+{
+    put_marked(b"\t", number, out)
+}
+
+// Puts what a refusal carries at the start of out: a further field, or nothing.
 pub fn put_detail(detail: Detail, out: &mut [u8]) -> usize
     requires { ⌜ 21 ≤ length (now out) ⌝ }
     ensures { λ r. ⌜ Puts (detailText detail) (now (out .entry)) r (now (out .exit)) ⌝ }
@@ -29,9 +38,9 @@ pub fn put_detail(detail: Detail, out: &mut [u8]) -> usize
 {
     match detail {
         Detail::Nothing => 0,
-        Detail::Needs(need) => put_marked(b"\t", need as u64, out),
-        Detail::Starts(place) => put_marked(b"\t", place as u64, out),
-        Detail::Entry(entry) => put_marked(b"\t", entry as u64, out),
+        Detail::Needs(need) => put_field(need as u64, out),
+        Detail::Starts(place) => put_field(place as u64, out),
+        Detail::Entry(entry) => put_field(entry as u64, out),
     }
 }
 
@@ -64,8 +73,27 @@ pub fn put_shown(mark: &[u8], first: u64, second: u64, body: &[u8], out: &mut [u
     requires { ⌜ length (now mark) ≡ 2 ⌝ }
     requires { ⌜ 44 + 2 * length (now body) ≤ length (now out) ⌝ }
     ensures { λ r. ⌜ Puts (shownText (now (mark .entry)) first second (now (body .entry))) (now (out .entry)) r (now (out .exit)) ⌝ }
+    ensures { λ r. ⌜ r ≤ 44 + 2 * length (now (body .entry)) ⌝ }
 {
     let head = put_header(mark, first, second, out);
     let digits = lines::hex::put_bytes(body, &mut out[head..]);
     head + digits
+}
+
+// The same with a count as a further field.
+pub fn put_counted(
+    mark: &[u8],
+    first: u64,
+    second: u64,
+    body: &[u8],
+    count: u64,
+    out: &mut [u8],
+) -> usize
+    requires { ⌜ length (now mark) ≡ 2 ⌝ }
+    requires { ⌜ 65 + 2 * length (now body) ≤ length (now out) ⌝ }
+    ensures { λ r. ⌜ Puts (countedText (now (mark .entry)) first second (now (body .entry)) count) (now (out .entry)) r (now (out .exit)) ⌝ }
+{
+    let shown = put_shown(mark, first, second, body, out);
+    let further = put_field(count, &mut out[shown..]);
+    shown + further
 }

@@ -15,7 +15,7 @@ pub asked-of-determined : (κs : _) (a : _) → Determined (asked-of.Post κs a)
 asked-of-determined κs a r r′ x x′ p q = p ∙ sym q
 
 pub put-value-determined : (κs : _) (a : _) → Determined {Y = ℕ × List ℕ} (put-value.Post κs a) (λ r x. (r, now (x .1 .1 .0)))
-put-value-determined κs a r r′ x x′ p q = puts-determined p q
+put-value-determined κs a r r′ x x′ p q = puts-determined (p .0) (q .0)
 
 pub put-named-refusal-determined : (κs : _) (a : _) → Determined {Y = ℕ × List ℕ} (put-named-refusal.Post κs a) (λ r x. (r, now (x .1 .1 .0)))
 put-named-refusal-determined κs a r r′ x x′ p q = puts-determined p q

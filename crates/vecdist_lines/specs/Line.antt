@@ -41,9 +41,10 @@ whichName First = word "a"
 whichName Second = word "b"
 whichName Neither = word "-"
 
+-- the counts of readings are not printed
 unfoldable pub distanceText : DistanceAnswer → List ℕ
 unfolding detailText
-distanceText (Measured x) = valueText (word "D\t") x
+distanceText (Measured x c) = valueText (word "D\t") x
 distanceText (Refused r w) = namedRefusalText r (whichName w)
 
 -- the reply for the blobs that A and B are, where D names a distance

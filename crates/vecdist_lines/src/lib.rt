@@ -43,6 +43,7 @@ pub fn put_value(mark: &[u8], x: f64, out: &mut [u8]) -> usize
     requires { ⌜ length (now mark) ≤ 4 ⌝ }
     requires { ⌜ vecdistRoom ≤ length (now out) ⌝ }
     ensures { λ r. ⌜ Puts (valueText (now (mark .entry)) x) (now (out .entry)) r (now (out .exit)) ⌝ }
+    ensures { λ r. ⌜ r ≤ 20 ⌝ }
 {
     let head = bytes::copy(mark, out);
     head + lines::hex::put_hex(16, little_endian::bits64(x), &mut out[head..])
@@ -68,7 +69,7 @@ fn put_answer(answer: DistanceAnswer, out: &mut [u8]) -> usize
     ensures { λ r. ⌜ Puts (distanceText answer) (now (out .entry)) r (now (out .exit)) ⌝ }
 {
     match answer {
-        DistanceAnswer::Measured(x) => put_value(b"D\t", x, out),
+        DistanceAnswer::Measured(x, _) => put_value(b"D\t", x, out),
         DistanceAnswer::Refused(refusal, which) => match which {
             Which::First => put_named_refusal(refusal, b"a", out),
             Which::Second => put_named_refusal(refusal, b"b", out),

@@ -1,9 +1,9 @@
--- `put_vector` meets its contract: kind and dims are put after the mark, and after these the body.
+-- `put_vector` meets its contract: kind and dims are put after the mark, and after these the body and the readings.
 use mathlib.Core.Path.{_≡_, sym, ap}
 use Prim.Native.Nat.{ℕ}
 use lib.ListN.{length, take}
 use lib.Seq.{length-take-le}
-use Rattle.reply_texts.specs.Texts.{shownText}
+use Rattle.reply_texts.specs.Texts.{countedText}
 use Rattle.promises.proofs.Puts.{puts-same}
 use borrow.Author.Needs.{needs}
 use native.Mathlib.Omega.{arith}
@@ -18,11 +18,11 @@ start c = c .before .before .before .before .before
 size : (c : tie.After-type-byte) → let a = start c .args in length (take (a .view .length) (a .bytes .now)) ≡ a .view .length
 size c = length-take-le _ _ (start c .pre .1 .0)
 
-slice-aggregate-put-shown : tie.Need-slice-aggregate-put-shown
-slice-aggregate-put-shown c = sym (size (c .before))
+slice-aggregate-put-counted : tie.Need-slice-aggregate-put-counted
+slice-aggregate-put-counted c = sym (size (c .before))
 
-put-shown-requires : tie.Need-put-shown-requires
-put-shown-requires c κs =
+put-counted-requires : tie.Need-put-counted-requires
+put-counted-requires c κs =
     let named = c .before .before in
     (start named .pre .0, omega (arith, size named, start named .pre .1 .1 .0, start named .pre .1 .1 .1))
 
@@ -31,11 +31,11 @@ returns c =
     let put = c .before .before in
     let named = put .before .before .before in
     let a = start named .args in
-    puts-same (ap (λ (n : ℕ). shownText (a .mark .now) n (a .view .dims .0) (take (a .view .length) (a .bytes .now))) (named .type-byte .ensures)) (put .put-shown .ensures)
+    puts-same (ap (λ (n : ℕ). countedText (a .mark .now) n (a .view .dims .0) (take (a .view .length) (a .bytes .now)) (a .view .readings .0)) (named .type-byte .ensures)) (put .put-counted .ensures)
 
 pub put-vector-spec : {M : Type 1} → statement M
 put-vector-spec =
     tie.close
     (tie.spec
-    (λ c κs. search needs) (λ c. search needs) slice-aggregate-put-shown put-shown-requires (λ c. search needs)
+    (λ c κs. search needs) (λ c. search needs) slice-aggregate-put-counted put-counted-requires (λ c. search needs)
     returns)

@@ -1,22 +1,22 @@
 -- `put_nearer` meets its contract: each arm puts its case of `nearerText`.
 use mathlib.Core.Path.{_≡_, sym, ap, _∙_}
 use Rattle.promises.proofs.Puts.{puts-same}
-use Rattle.vecdist_lines.specs.Line.{valueText, namedRefusalText}
+use Rattle.vecdist_lines.specs.Line.{namedRefusalText}
 use Rattle.vector_types.specs.declared.Refusal.{Refusal}
 use Rattle.nearer.specs.declared.Near.{Near}
 use Rattle.nearer.specs.declared.Candidate.{Candidate}
 use Rattle.nearer.specs.declared.Among.{Among}
 use Rattle.nearer.specs.declared.NearerAnswer.{NearerAnswer}
 use Rattle.nearer.specs.declared.NearerAnswer.the-variants.{Nearer, Refused}
-use Rattle.probe_near.specs.Near.{candidateMark, amongName, nearerText}
+use Rattle.probe_near.specs.Near.{candidateMark, amongName, nearText, nearerText}
 use borrow.Author.Needs.{needs}
 use Rattle.probe_near.proofs.put_nearer.Statement.{statement}
 use Rattle.probe_near.proofs.put_nearer.Tie as tie
 
 -- what is put where the nearer candidate is c, and of a refusal that is about the blob v
-nearest : {x : NearerAnswer} {n : Near} {c : Candidate} → x ≡ Nearer n → n .candidate ≡ c → valueText (candidateMark c) (n .distance) ≡ nearerText x
+nearest : {x : NearerAnswer} {n : Near} {c : Candidate} → x ≡ Nearer n → n .candidate ≡ c → nearText (candidateMark c) n ≡ nearerText x
 unfolding nearerText
-nearest {n = n} e f = ap (λ (k : Candidate). valueText (candidateMark k) (n .distance)) (sym f) ∙ ap nearerText (sym e)
+nearest {n = n} e f = ap (λ (k : Candidate). nearText (candidateMark k) n) (sym f) ∙ ap nearerText (sym e)
 
 refused : {x : NearerAnswer} {r : Refusal} {w v : Among} → x ≡ Refused r w → w ≡ v → namedRefusalText r (amongName v) ≡ nearerText x
 unfolding nearerText
@@ -25,12 +25,12 @@ refused e f = rw (e, f)
 returns : tie.Need-returns
 returns c =
     let arm = c .before .before .before .before .before in
-    puts-same (nearest (arm .before .before .before .answer .given .1) (arm .enum-told .given .1)) (c .before .before .put-value .ensures)
+    puts-same (nearest (arm .before .before .before .answer .given .1) (arm .enum-told .given .1)) (c .before .before .put-near .ensures)
 
 returns-2 : tie.Need-returns-2
 returns-2 c =
     let arm = c .before .before .before .before .before in
-    puts-same (nearest (arm .before .before .before .answer .given .1) (arm .enum-told2 .given .1)) (c .before .before .put-value2 .ensures)
+    puts-same (nearest (arm .before .before .before .answer .given .1) (arm .enum-told2 .given .1)) (c .before .before .put-near2 .ensures)
 
 returns-3 : tie.Need-returns-3
 returns-3 c =

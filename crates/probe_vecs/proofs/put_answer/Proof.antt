@@ -9,7 +9,7 @@ use Rattle.probe_vecs.proofs.put_answer.Tie as tie
 
 returns : tie.Need-returns
 unfolding vecsText
-returns c = rw (c .before .before .before .before .before .before .before .answer .given .1) (c .before .before .put-shown .ensures)
+returns c = rw (c .before .before .before .before .before .before .before .answer .given .1) (c .before .before .put-shown .ensures .0)
 
 returns-2 : tie.Need-returns-2
 unfolding vecsText

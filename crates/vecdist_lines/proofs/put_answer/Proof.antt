@@ -12,7 +12,7 @@ use Rattle.vecdist_lines.proofs.put_answer.Tie as tie
 
 returns : tie.Need-returns
 unfolding distanceText
-returns c = rw (c .before .before .before .before .before .before .answer .given .1) (c .before .before .put-value .ensures)
+returns c = rw (c .before .before .before .before .before .before .answer .given .1) (c .before .before .put-value .ensures .0)
 
 -- what is put of a refusal that is about the blob v
 refused : {x : DistanceAnswer} {r : Refusal} {w v : Which} → x ≡ Refused r w → w ≡ v → namedRefusalText r (whichName v) ≡ distanceText x
