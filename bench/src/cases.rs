@@ -69,8 +69,8 @@ impl Case {
                 let (blob, mut room) = (self.source(), ours::Room::new(self.dims));
                 let ours = ours::convert(&blob, kind, &mut room);
                 let made = theirs::convert(&blob, kind.into());
-                let (dims, body) = (made.dims, made.bin_data().to_vec());
-                let theirs = differences::converted(self.kind, View { kind, dims, body });
+                let theirs = View::new(kind, made.dims, made.bin_data());
+                let theirs = differences::converted(self.kind, theirs);
                 let theirs: Result<_, u32> = Ok((theirs.dims, &theirs.body[..]));
                 (format!("{ours:x?}"), format!("{theirs:x?}"))
             }

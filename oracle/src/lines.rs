@@ -2,7 +2,7 @@
 
 use crate::differences::{bits_32, bits_64, MOST_LENGTH};
 use crate::hex;
-use crate::oracle::{Oracle, Refused, Shown};
+use crate::oracle::{Nearer, Oracle, Refused, Shown};
 use crate::rules::{Kind, Measure, Refusal, View};
 
 #[derive(Clone, Copy)]
@@ -64,17 +64,11 @@ fn vecprobe(fields: &[&[u8]], oracle: &mut Oracle) -> Option<String> {
         }
         [b"write", to, count, body] => {
             let (to, dims, body) = (kind(to)?, decimal(count)?, hex::decode(body)?);
-            match oracle.write(to, dims, &body) {
-                Ok(blob) => format!("W\t{}", hex::encode(&blob)),
-                Err(refusal) => refused(refusal),
-            }
+            written(oracle.write(to, dims, &body))
         }
         [b"near", name, probe, a, b] => {
             let blobs = [hex::decode(probe)?, hex::decode(a)?, hex::decode(b)?];
-            match oracle.nearer(measure(name)?, blobs.each_ref().map(Vec::as_slice)) {
-                Ok((which, distance)) => format!("N\t{which}\t{:016x}", distance.to_bits()),
-                Err(refused) => named(refused),
-            }
+            nearer(oracle.nearer(measure(name)?, blobs.each_ref().map(Vec::as_slice)))
         }
         [b"fvecs", place, file] => {
             let (place, file) = (decimal(place)?, hex::decode(file)?);
@@ -100,12 +94,34 @@ fn truncated(x: f32) -> u8 {
     (x as i32).clamp(0, 255) as u8
 }
 
+/// A vector's kind, dims and body, and its count of readings last.
 fn shown(letter: char, answer: Result<View, Refusal>) -> String {
     match answer {
-        Ok(View { kind, dims, body }) => {
-            format!("{letter}\t{}\t{dims}\t{}", kind as u8, hex::encode(&body))
+        Ok(view) => {
+            let (kind, dims, readings) = (view.kind as u8, view.dims, view.readings);
+            let body = hex::encode(&view.body);
+            format!("{letter}\t{kind}\t{dims}\t{body}\t{readings}")
         }
         Err(refusal) => refused(refusal),
+    }
+}
+
+fn written(answer: Result<Vec<u8>, Refusal>) -> String {
+    match answer {
+        Ok(blob) => format!("W\t{}", hex::encode(&blob)),
+        Err(refusal) => refused(refusal),
+    }
+}
+
+/// The winner, its distance and its count of readings.
+fn nearer(answer: Result<Nearer, Refused>) -> String {
+    match answer {
+        Ok(Nearer {
+            which,
+            distance,
+            readings,
+        }) => format!("N\t{which}\t{:016x}\t{readings}", distance.to_bits()),
+        Err(refused) => named(refused),
     }
 }
 
@@ -207,15 +223,15 @@ mod tests {
     fn examples_on_each_side() {
         let float8 = |t: &str, answer: &str| format!("read|{:0<26}{t}04 = {answer}", "");
         let blobs = [
-            "read| = V|1|0|",
-            "read|01 = V|1|0|",
+            "read| = V|1|0||0",
+            "read|01 = V|1|0||0",
             "read|05 = R|2",
             "read|03 = R|4",
-            "read|aa0803 = V|3|8|aa",
+            "read|aa0803 = V|3|8|aa|8",
             "read|aa0703 = R|6",
             "read|aa1003 = R|7",
             "read|aa1103 = R|5",
-            &float8("03", "V|4|1|000000000000000000000000"),
+            &float8("03", "V|4|1|000000000000000000000000|1"),
             &float8("04", "R|7"),
             &float8("05", "R|5"),
             "read|0000803f020000000200000009 = R|8|0",
@@ -244,17 +260,17 @@ mod tests {
             "trunc|437fffff = F|ff",
             "trunc|c37fffff = F|00",
             "strict|ff0903 = R|11",
-            "strict|7f0903 = V|3|7|7f",
+            "strict|7f0903 = V|3|7|7f|7",
             "strict|000080bf0000803f01000000000000000200000009 = R|10|1",
-            "conv|4|00000000ffff7f7f = C|4|2|00ff00008080807b00000000",
-            "conv|1|000080bf0000803f01000000010000000200000009 = C|1|2|000000000000803f",
+            "conv|4|00000000ffff7f7f = C|4|2|00ff00008080807b00000000|2",
+            "conv|1|000080bf0000803f01000000010000000200000009 = C|1|2|000000000000803f|2",
             "write|3|8|aa = W|aa0803",
             "write|3|0| = R|16",
             "write|3|9|aa = R|7",
             "write|9|0000000002|0000803f01000000 = W|0000803f010000000200000009",
             "write|9|4294967298|0000803f01000000 = R|9",
-            "near|l2||| = N|1|0000000000000000",
-            "near|cos|aa0803|ab0803|aa0803 = N|2|0000000000000000",
+            "near|l2||| = N|1|0000000000000000|0",
+            "near|cos|aa0803|ab0803|aa0803 = N|2|0000000000000000|8",
             "near|l2|aa0803|ab0803|aa0903 = R|12|-",
             "near|cos|aa0803|07|05 = R|3|a",
             "near|jac|000803|000803|000803 = R|18|-",
@@ -296,7 +312,7 @@ mod tests {
             let indices: String = indices.iter().map(|i| format!("{i:02x}000000")).collect();
             let count = indices.len() / 8;
             let blob = format!("{}{indices}0900000009", ones(count));
-            let shown = format!("V|9|9|{}{indices}", ones(count));
+            let shown = format!("V|9|9|{}{indices}|{count}", ones(count));
             let answer = if answer == "V" { &shown } else { answer };
             [
                 format!("read|{blob} = {shown}"),
@@ -318,6 +334,146 @@ mod tests {
         let lines = lines.concat();
         let lines: Vec<&str> = lines.iter().map(String::as_str).collect();
         ask(Program::Vecprobe, &lines);
+    }
+
+    /// 60 at place 0 and 80 at place 2 of three.
+    const TWO_READINGS: &str = "000070420000a04200000000020000000300000009";
+
+    /// Two readings in the one place that there is.
+    const ONE_PLACE: &str = "0000803f0000803f00000000000000000100000009";
+
+    #[test]
+    fn readings_of_a_blob() {
+        let shown = "V|9|3|000070420000a0420000000002000000|2";
+        let zeros = "000000000000008000000000020000000300000009";
+        let lines = [
+            format!("read|{TWO_READINGS} = {shown}"),
+            format!("strict|{TWO_READINGS} = {shown}"),
+            "read|0300000009 = V|9|3||0".to_string(),
+            "strict|0300000009 = V|9|3||0".to_string(),
+            format!("read|{ONE_PLACE} = V|9|1|0000803f0000803f0000000000000000|2"),
+            format!("strict|{ONE_PLACE} = R|10|1"),
+            // stored zeros count, of both signs
+            format!("read|{zeros} = V|9|3|00000000000000800000000002000000|2"),
+            format!("strict|{zeros} = V|9|3|00000000000000800000000002000000|2"),
+        ];
+        ask(Program::Vecprobe, &lines.each_ref().map(String::as_str));
+    }
+
+    #[test]
+    fn readings_of_other_kinds_are_dims() {
+        let zeros = |length: usize| "00".repeat(length);
+        let lines = ["read", "strict"].map(|word| {
+            [
+                format!("{word}|{0} = V|1|3|{0}|3", zeros(12)),
+                format!("{word}|{0}01 = V|1|3|{0}|3", zeros(12)),
+                format!("{word}|{0}02 = V|2|3|{0}|3", zeros(24)),
+                format!("{word}|000d03 = V|3|3|00|3"),
+                format!("{word}|0000001d03 = V|3|3|00|3"),
+                format!("{word}|{0}000104 = V|4|3|{0}|3", zeros(12)),
+            ]
+        });
+        let lines = lines.concat();
+        let lines: Vec<&str> = lines.iter().map(String::as_str).collect();
+        ask(Program::Vecprobe, &lines);
+    }
+
+    #[test]
+    fn readings_of_a_conversion_from_sparse() {
+        let lines = [
+            format!("conv|1|{TWO_READINGS} = C|1|3|00007042000000000000a042|3"),
+            format!(
+                "conv|2|{TWO_READINGS} = C|2|3|0000000000004e4000000000000000000000000000005440|3"
+            ),
+            format!("conv|3|{TWO_READINGS} = C|3|3|05|3"),
+            format!("conv|4|{TWO_READINGS} = C|4|3|bf00ff00a1a0a03e00000000|3"),
+            format!("conv|1|{ONE_PLACE} = C|1|1|0000803f|1"),
+            "conv|1|0300000009 = C|1|3|000000000000000000000000|3".to_string(),
+            "conv|3|0300000009 = C|3|3|00|3".to_string(),
+            // of the same kind: all entries, with repeats and stored zeros
+            format!("conv|9|{TWO_READINGS} = C|9|3|000070420000a0420000000002000000|2"),
+            format!("conv|9|{ONE_PLACE} = C|9|1|0000803f0000803f0000000000000000|2"),
+            "conv|9|0300000009 = C|9|3||0".to_string(),
+            "conv|9|00000000010000000300000009 = C|9|3|0000000001000000|1".to_string(),
+        ];
+        ask(Program::Vecprobe, &lines.each_ref().map(String::as_str));
+    }
+
+    #[test]
+    fn readings_of_a_conversion_to_sparse() {
+        let lines = [
+            // 60, 0, 80, -0: zeros of both signs are dropped
+            "conv|9|00007042000000000000a04200000080 = C|9|4|000070420000a0420000000002000000|2",
+            "conv|9|0000000000000080 = C|9|2||0",
+            "conv|9|0000c07f = C|9|1|0000c07f00000000|1",
+            "conv|9| = C|9|0||0",
+            // 1, 0, -0 of Float64, and one that is 0 only as f32
+            "conv|9|000000000000f03f0000000000000000000000000000008002 = C|9|3|0000803f00000000|1",
+            "conv|9|26a6acaa04b6793302 = C|9|1|0000000000000000|1",
+            // 0 and 5 of Float8
+            "conv|9|000500000000803f00000000000204 = C|9|2|0000a04001000000|1",
+            // 1-bit has no zero
+            "conv|9|020e03 = C|9|2|000080bf0000803f0000000001000000|2",
+        ];
+        ask(Program::Vecprobe, &lines);
+    }
+
+    #[test]
+    fn readings_of_other_conversions_are_dims() {
+        let lines = [
+            "conv|1|0000704200000000 = C|1|2|0000704200000000|2",
+            "conv|2|0000000000000080 = C|2|2|00000000000000000000000000000080|2",
+            "conv|3|0000000000000080 = C|3|2|00|2",
+            "conv|4|0000000000000080 = C|4|2|000000000000000000000000|2",
+            "conv|1|000000000000f03f000000000000000002 = C|1|2|0000803f00000000|2",
+            "conv|3|020e03 = C|3|2|02|2",
+            "conv|1|020e03 = C|1|2|000080bf0000803f|2",
+            "conv|2|000500000000803f00000000000204 = C|2|2|00000000000000000000000000001440|2",
+            "conv|4|000500000000803f00000000000204 = C|4|2|000500000000803f00000000|2",
+        ];
+        ask(Program::Vecprobe, &lines);
+    }
+
+    /// A sparse blob of three places, with these values at these indices.
+    fn sparse(entries: &[(u8, f32)]) -> String {
+        let value = |(_, value): &(u8, f32)| hex::encode(&value.to_le_bytes());
+        let index = |(index, _): &(u8, f32)| format!("{index:02x}000000");
+        let values: String = entries.iter().map(value).collect();
+        let indices: String = entries.iter().map(index).collect();
+        format!("{values}{indices}0300000009")
+    }
+
+    #[test]
+    fn readings_of_the_winner() {
+        let none = sparse(&[]);
+        let one = sparse(&[(0, 1.0)]);
+        let two = sparse(&[(0, 1.0), (1, 1.0)]);
+        let three = sparse(&[(0, 1.0), (1, 1.0), (2, 1.0)]);
+        let zero = sparse(&[(0, 1.0), (2, 0.0)]);
+        let nan = sparse(&[(0, f32::NAN)]);
+        let far = "00004040000000000100000009";
+        let lines = [
+            format!("near|l2|{three}|{two}|{one} = N|1|3ff0000000000000|2"),
+            format!("near|l2|{three}|{one}|{two} = N|2|3ff0000000000000|2"),
+            format!("near|l2|{one}|{none}|{three} = N|1|3ff0000000000000|0"),
+            format!("near|l2|{one}|{three}|{none} = N|2|3ff0000000000000|0"),
+            format!("near|l2|{none}|{one}|{three} = N|1|3ff0000000000000|1"),
+            format!("near|l2|{none}|{three}|{one} = N|2|3ff0000000000000|1"),
+            // a tie gives the first, and its count
+            format!("near|l2|{none}|{one}|{zero} = N|1|3ff0000000000000|1"),
+            format!("near|l2|{none}|{zero}|{one} = N|1|3ff0000000000000|2"),
+            // NaN loses
+            format!("near|l2|{none}|{nan}|{zero} = N|2|3ff0000000000000|2"),
+            format!("near|l2|{none}|{zero}|{nan} = N|1|3ff0000000000000|2"),
+            // more readings than places
+            format!("near|dot|{far}|0100000009|{ONE_PLACE} = N|2|c008000000000000|2"),
+            // the other kinds have dims
+            "near|l2|00000000|0000803f|00000040 = N|1|3ff0000000000000|1".to_string(),
+            "near|dot|000e03|000e03|010e03 = N|1|c000000000000000|2".to_string(),
+        ];
+        ask(Program::Vecprobe, &lines.each_ref().map(String::as_str));
+        let distance = format!("l2|{one}|{none} = D|3ff0000000000000");
+        ask(Program::Vecdist, &[&distance]);
     }
 
     #[test]

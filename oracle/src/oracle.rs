@@ -24,6 +24,13 @@ pub struct Shown {
     pub next: usize,
 }
 
+/// The nearer of two candidates, 1 or 2, its distance to the probe and its own count of readings.
+pub struct Nearer {
+    pub which: u8,
+    pub distance: f64,
+    pub readings: usize,
+}
+
 /// A blob that was read, beside what was seen of it.
 struct Seen<'a> {
     blob: &'a [u8],
@@ -41,9 +48,11 @@ impl Oracle {
         std::mem::take(&mut self.findings)
     }
 
+    /// What is shown of an accepted blob is the Rust's view of it.
     pub fn read(&mut self, blob: &[u8]) -> Result<View, Refusal> {
-        self.hold_reading(&rules::layout(blob), blob);
-        rules::read(blob)
+        let rust = original::read(blob);
+        self.hold_reading(&rules::layout(blob), &rust, blob);
+        rules::read(blob).map(|view| rust.unwrap_or(view))
     }
 
     pub fn strict(&mut self, blob: &[u8]) -> Result<View, Refusal> {
@@ -57,12 +66,18 @@ impl Oracle {
         strict.map(|()| view)
     }
 
+    /// The count of readings is that of the Rust's result; the rules have dims or the entries of its body.
     pub fn convert(&mut self, blob: &[u8], target: Kind) -> Result<View, Refusal> {
         let View { kind, dims, .. } = self.read(blob)?;
         let rust = original::convert(blob, target);
-        let shape = |view: &View| (view.kind, view.dims, view.kind.fits(dims, view.body.len()));
+        let count = |view: &View| rules::readings(target, dims, &view.body);
+        let expected = (target, dims, rust.as_ref().map_or(0, count), true);
+        let shape = |view: &View| {
+            let fits = view.kind.fits(dims, view.body.len());
+            (view.kind, view.dims, view.readings, fits)
+        };
         let found = rust.as_ref().map(shape).map_err(String::clone);
-        self.hold(&Ok((target, dims, true)), &found);
+        self.hold(&Ok(expected), &found);
         rust.map(|view| differences::converted(kind, view))
             .map_err(|_| NO_ANSWER)
     }
@@ -71,15 +86,12 @@ impl Oracle {
     pub fn write(&mut self, kind: Kind, dims: usize, body: &[u8]) -> Result<Vec<u8>, Refusal> {
         let written = rules::write(kind, dims, body);
         let view = match written {
-            Ok(_) => Ok(View {
-                kind,
-                dims,
-                body: body.to_vec(),
-            }),
+            Ok(_) => Ok(View::new(kind, dims, body)),
             Err(refusal) if refusal.number == 8 => Err(refusal),
             Err(refusal) => return Err(refusal),
         };
-        self.hold_reading(&view, &rules::blob(kind, dims, body));
+        let blob = rules::blob(kind, dims, body);
+        self.hold_reading(&view, &original::read(&blob), &blob);
         written
     }
 
@@ -89,12 +101,11 @@ impl Oracle {
         self.pair(measure, &first, &second).map_err(unnamed)
     }
 
-    /// Which candidate is nearer to the probe, 1 or 2, and its distance.
     pub fn nearer(
         &mut self,
         measure: Measure,
         [probe, first, second]: [&[u8]; 3],
-    ) -> Result<(u8, f64), Refused> {
+    ) -> Result<Nearer, Refused> {
         let probe = self.see(probe, 'p')?;
         let first = self.see(first, 'a')?;
         let second = self.see(second, 'b')?;
@@ -103,10 +114,18 @@ impl Oracle {
             .and_then(|()| rules::alike(&probe.view, &second.view))
             .and_then(|()| rules::defined(measure, probe.view.kind))
             .map_err(unnamed)?;
-        let [first, second] = distances;
-        let (first, second) = (first.map_err(unnamed)?, second.map_err(unnamed)?);
-        let which = rules::nearer(first, second).map_err(unnamed)?;
-        Ok((which, if which == 1 { first } else { second }))
+        let [one, other] = distances;
+        let (one, other) = (one.map_err(unnamed)?, other.map_err(unnamed)?);
+        let which = rules::nearer(one, other).map_err(unnamed)?;
+        let (distance, winner) = match which {
+            1 => (one, first),
+            _ => (other, second),
+        };
+        Ok(Nearer {
+            which,
+            distance,
+            readings: winner.view.readings,
+        })
     }
 
     /// The vector at a place of an fvecs file; none at the end. The Rust reads its body as a blob.
@@ -169,10 +188,14 @@ impl Oracle {
     }
 
     /// Reading a blob: the entry of an 8 has the index at which the Rust stopped.
-    fn hold_reading(&mut self, rules: &Result<View, Refusal>, blob: &[u8]) {
-        let rust = original::read(blob);
-        self.hold(rules, &rust);
-        let (Err(refusal), Err(words)) = (rules, &rust) else {
+    fn hold_reading(
+        &mut self,
+        rules: &Result<View, Refusal>,
+        rust: &Result<View, String>,
+        blob: &[u8],
+    ) {
+        self.hold(rules, rust);
+        let (Err(refusal), Err(words)) = (rules, rust) else {
             return;
         };
         if refusal.number == 8 {
@@ -202,8 +225,7 @@ impl Oracle {
 }
 
 fn dense(dims: usize, body: &[u8]) -> View {
-    let (kind, body) = (Kind::Float32Dense, body.to_vec());
-    View { kind, dims, body }
+    View::new(Kind::Float32Dense, dims, body)
 }
 
 /// The Float8 blob whose elements are its bytes.
@@ -218,4 +240,25 @@ fn float8(bytes: &[u8]) -> Vec<u8> {
 
 fn unnamed(refusal: Refusal) -> Refused {
     Refused { refusal, blob: '-' }
+}
+
+#[cfg(test)]
+mod tests {
+    use super::*;
+
+    /// Two views that differ in nothing but the count of readings.
+    #[test]
+    fn another_count_is_a_finding() {
+        let view = View::new(Kind::Float32Sparse, 3, &rules::sparse_body(&[0, 2]));
+        let readings = view.readings + 1;
+        let other = View {
+            readings,
+            ..view.clone()
+        };
+        let mut oracle = Oracle::default();
+        oracle.hold(&Ok(view.clone()), &Ok(view.clone()));
+        assert_eq!(oracle.take_findings().len(), 0);
+        oracle.hold(&Ok(view), &Ok(other));
+        assert_eq!(oracle.take_findings().len(), 1);
+    }
 }

@@ -100,6 +100,15 @@ fn view(vector: &Vector) -> View {
         kind: vector.vector_type.into(),
         dims: vector.dims,
         body: vector.bin_data().to_vec(),
+        readings: readings(vector),
+    }
+}
+
+/// The count of readings: of a sparse vector the length of its own slice of indices, else dims.
+fn readings(vector: &Vector) -> usize {
+    match vector.vector_type {
+        VectorType::Float32Sparse => vector.as_f32_sparse().idx.len(),
+        _ => vector.dims,
     }
 }
 

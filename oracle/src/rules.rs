@@ -79,19 +79,37 @@ pub struct View {
     pub kind: Kind,
     pub dims: usize,
     pub body: Vec<u8>,
+    pub readings: usize,
 }
 
 impl View {
-    fn new(kind: Kind, dims: usize, body: &[u8]) -> Self {
-        let body = body.to_vec();
-        Self { kind, dims, body }
+    /// The view of a body, with the count of readings that the rules give it.
+    pub fn new(kind: Kind, dims: usize, body: &[u8]) -> Self {
+        Self {
+            kind,
+            dims,
+            body: body.to_vec(),
+            readings: readings(kind, dims, body),
+        }
     }
 }
 
 impl fmt::Debug for View {
     fn fmt(&self, f: &mut fmt::Formatter<'_>) -> fmt::Result {
-        let Self { kind, dims, body } = self;
-        write!(f, "{kind:?} of {dims} dims, body {:?}", hex::encode(body))
+        let (kind, dims, readings) = (self.kind, self.dims, self.readings);
+        let body = hex::encode(&self.body);
+        write!(
+            f,
+            "{kind:?} of {dims} dims, {readings} readings, body {body:?}"
+        )
+    }
+}
+
+/// The count of readings: the entries of a sparse body, repeats and stored zeros too; else dims.
+pub fn readings(kind: Kind, dims: usize, body: &[u8]) -> usize {
+    match kind {
+        Kind::Float32Sparse => body.len() / 8,
+        _ => dims,
     }
 }
 
@@ -371,7 +389,23 @@ mod tests {
                 let length = (0..1000).rev().find(|&length| kind.fits(dims, length));
                 let body = vec![0; length.expect("some length fits")];
                 let blob = write(kind, dims, &body).expect("a fitting body is written");
-                assert_eq!(read(&blob), Ok(View { kind, dims, body }));
+                assert_eq!(read(&blob), Ok(View::new(kind, dims, &body)));
+            }
+        }
+    }
+
+    #[test]
+    fn readings_are_the_entries_or_dims() {
+        let count = |indices: &[u32]| readings(Kind::Float32Sparse, 3, &sparse_body(indices));
+        assert_eq!(count(&[]), 0);
+        assert_eq!(count(&[0, 2]), 2);
+        assert_eq!(count(&[1, 1, 0, 1]), 4);
+        for kind in Kind::ALL {
+            for dims in 1..100 {
+                let length = (0..1000).find(|&length| kind.fits(dims, length));
+                let body = vec![0; length.expect("some length fits")];
+                let expected = if body.is_empty() { 0 } else { dims };
+                assert_eq!(readings(kind, dims, &body), expected, "{kind:?}");
             }
         }
     }
