@@ -44,12 +44,13 @@ pub struct TrailingBytes(pub usize);
 // How many readings a vector holds. They are not its dims: of a sparse vector only stored entries count.
 pub struct Readings(pub usize);
 
-// What an accepted blob shows: its body is its first `length` bytes.
+// What an accepted blob shows: its body is its first `length` bytes. The fields stand in the order in
+// which an answer is made fastest (docs/SPEED.md).
 pub struct View {
-    pub kind: VectorType,
     pub dims: Dims,
-    pub length: usize,
+    pub kind: VectorType,
     pub readings: Readings,
+    pub length: usize,
 }
 
 // The readings of a vector whose body has `length` bytes: the entries of a sparse one, else its elements.
@@ -72,10 +73,10 @@ impl View {
     {
         let readings = readings_of(kind, dims, length);
         View {
-            kind,
             dims,
-            length,
+            kind,
             readings,
+            length,
         }
     }
 }
