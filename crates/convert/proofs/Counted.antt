@@ -40,8 +40,8 @@ module _ (s : List ℕ) (v : View) (e : readOf Plain s ≡ Accepted v) (scratch 
       let (out, view, _) = converted-view s Float32Sparse scratch room w v e answer in
       sym (ap count view) ∙ rw out
 
-  pub dense-converted : (t : VectorType) → hasByte 9 t ≡ false → conversionOf s t scratch room .answer ≡ Converted w → w .readings .0 ≡ v .dims .0
-  dense-converted t h answer =
+  pub other-converted : (t : VectorType) → hasByte 9 t ≡ false → conversionOf s t scratch room .answer ≡ Converted w → w .readings .0 ≡ v .dims .0
+  other-converted t h answer =
       let (_, view, _) = converted-view s t scratch room w v e answer in
       sym (ap count view) ∙ readings-are-dims t (v .dims .0) (length (resultOf (v .kind) t (v .dims .0) (bodyOf s))) h
 
