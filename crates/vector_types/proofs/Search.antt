@@ -5,7 +5,7 @@ use Prim.Native.Nat.{ℕ, zero, suc, _+_, _-_, _<_, _≤_}
 use native.Mathlib.Omega.{arith}
 use Rattle.vector_types.specs.Search.{firstFrom, firstIndex}
 
--- one place one-left
+-- one place more
 firstFrom-suc : (p : ℕ → Bool) (i n : ℕ) → firstFrom p i (suc n) ≡ cond (p i) i (firstFrom p (suc i) n)
 unfolding firstFrom
 firstFrom-suc p i n = refl

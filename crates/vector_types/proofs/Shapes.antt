@@ -1,4 +1,4 @@
--- Which blobs have a view of d elements, a kind at a time: by how dims-within bytes stand before the type byte, the count and the indices.
+-- Which blobs have a view of d elements, a kind at a time: by how many bytes stand before the type byte, the count and the indices.
 use mathlib.Core.Path.{_≡_, refl, _∙_}
 use mathlib.Core.Bool.{false}
 use mathlib.Core.List.{List}
