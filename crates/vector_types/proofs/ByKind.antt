@@ -3,10 +3,11 @@ use mathlib.Core.Path.{_≡_, refl}
 use mathlib.Core.Bool.{Bool, true, false, cond, not, _||_, or-false}
 use mathlib.Core.List.{List}
 use Prim.Native.Nat.{ℕ, _+_, _-_, _*_, _/_, _%_, _<_, _≤_}
+use native.Mathlib.Nat.{div-add-mod}
 use native.Mathlib.Omega.{arith}
 use lib.Dec.{ltb, leb, eqb}
 use lib.ListN.{length, getD}
-use borrow.Author.Tests.{eq-eqb, lt-ltb, le-ltb}
+use borrow.Author.Tests.{eq-eqb, eqb-true, lt-ltb, le-ltb}
 use Rattle.little_endian.specs.Bytes.{u32At}
 use Rattle.vector_types.specs.Answers.{Given, given, unless, acceptedAs, refused, refusal, naming}
 use Rattle.vector_types.specs.Search.{firstIndex, anyIndex}
@@ -18,6 +19,7 @@ use Rattle.vector_types.specs.declared.VectorType.{VectorType}
 use Rattle.vector_types.specs.declared.Named.the-variants.{Kind, Unsupported, Unknown}
 use Rattle.vector_types.specs.declared.VectorType.the-variants.{Float32Dense, Float64Dense, Float32Sparse, Float1Bit, Float8}
 use Rattle.vector_types.specs.declared.Mode.the-variants.{Plain}
+use Rattle.vector_types.proofs.Bools.{same}
 use Rattle.vector_types.proofs.Ends.{named-typed}
 
 abbrev refusedBy : ℕ → ReadAnswer
@@ -33,6 +35,12 @@ module _ (s : List ℕ) where
   unfolding readOf refusals
   read-long h = rw (lt-ltb maxBlobLength (length s) h)
 
+-- that w divides n, asked in two ways
+pub divides : (n w : ℕ) → eqb n (w * (n / w)) ≡ eqb (n % w) 0
+divides n w = same (eqb n (w * (n / w))) (eqb (n % w) 0)
+    (λ h. eq-eqb (n % w) 0 (omega (arith, eqb-true n (w * (n / w)) h, div-add-mod n w)))
+    (λ h. eq-eqb n (w * (n / w)) (omega (arith, eqb-true (n % w) 0 h, div-add-mod n w)))
+
 -- what is left of the reader for a blob of a kind, of n bytes before the type byte, the last of which is t
 abbrev denseBy : VectorType → (w n : ℕ) → ReadAnswer
 denseBy k w n = cond (not (eqb n (w * (n / w)))) (refusedBy 7) (cond (ltb maxDims (n / w)) (refusedBy 9) (acceptedAs k (n / w) n))
@@ -47,7 +55,7 @@ float8By n t = let d = n - 10 - t in
     cond (eqb n 0) (refusedBy 4) (cond (ltb (n - 10) t || ltb n 10) (refusedBy 5) (cond (not (eqb (n - 2) (4 * ceil d 4 + 8)) || eqb d 0) (refusedBy 7)
     (cond (ltb maxDims d) (refusedBy 9) (acceptedAs Float8 d (n - 2)))))
 
-abbrev sparseBy : List ℕ → (n : ℕ) → ReadAnswer
+abbrev pub sparseBy : List ℕ → (n : ℕ) → ReadAnswer
 sparseBy s n = let k = n / 8 in let d = u32At s (n - 4) in
     cond (not (eqb n (4 + 8 * k))) (refusedBy 7) (cond (anyIndex (isOutside s k d) k) (refused (naming 8 (firstIndex (isOutside s k d) k))) (cond (ltb maxDims d) (refusedBy 9) (acceptedAs Float32Sparse d (8 * k))))
 

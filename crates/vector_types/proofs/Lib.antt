@@ -1,5 +1,6 @@
 -- Laws of blobs
 pub mod Accepted
+pub mod AsOriginal
 pub mod Bodies
 pub mod Bools
 pub mod ByKind
@@ -16,5 +17,6 @@ pub mod Shapes
 pub mod Some
 pub mod Statements
 pub mod Strict
+pub mod Unreached
 pub mod Unused
 pub mod Views

@@ -5,4 +5,7 @@ pub mod inner
 pub mod Read
 pub mod Statements
 pub mod Parts
+pub mod Original
+pub mod OriginalNumbers
 pub mod Examples
+pub mod OriginalExamples
