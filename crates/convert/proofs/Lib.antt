@@ -2,4 +2,5 @@
 pub mod Answered
 pub mod Counted
 pub mod Shown
+pub mod Unreached
 pub mod Determined
