@@ -261,4 +261,80 @@ mod tests {
         oracle.hold(&Ok(view), &Ok(other));
         assert_eq!(oracle.take_findings().len(), 1);
     }
+
+    /// A check that no blob fails (docs/DIFFERENCES.md), with the Rust's words. Where another check has the
+    /// same words, they are expected of the blobs that fail it, by n and t as in the table of layouts.
+    struct Branch {
+        kind: Kind,
+        words: &'static str,
+        is_expected: fn(usize, usize) -> bool,
+    }
+
+    const NEVER_RUN: [Branch; 4] = [
+        Branch {
+            kind: Kind::Float1Bit,
+            words: "float1bit vector blob length must be even and non-empty",
+            is_expected: |n, _| n == 0,
+        },
+        Branch {
+            kind: Kind::Float8,
+            words: "float8 vector blob must have even length >= 2 (excluding type byte)",
+            is_expected: |n, _| n == 0,
+        },
+        Branch {
+            kind: Kind::Float1Bit,
+            words: "f1bit vector data length mismatch: got 2 expected 1 for 8 dims",
+            is_expected: |n, t| n > 0 && t == 8 * n,
+        },
+        Branch {
+            kind: Kind::Float8,
+            words: "f8 vector data too short: 4",
+            is_expected: |_, _| false,
+        },
+    ];
+
+    /// Whether it is a finding if the Rust says this of a blob of the kind, with n bytes before its type byte.
+    fn is_finding(kind: Kind, words: &str, n: usize, t: u8) -> bool {
+        let mut blob = vec![0; n];
+        if let Some(last) = blob.last_mut() {
+            *last = t;
+        }
+        blob.push(kind as u8);
+        let mut oracle = Oracle::default();
+        oracle.hold_reading(&rules::layout(&blob), &Err(words.to_string()), &blob);
+        !oracle.take_findings().is_empty()
+    }
+
+    #[test]
+    fn a_branch_of_reading_that_never_runs_is_a_finding() {
+        let source = include_str!("vector/vector_types.rs");
+        let counts = |n| (0..=u8::MAX).map(move |t| (n, t));
+        for Branch {
+            kind,
+            words,
+            is_expected,
+        } in NEVER_RUN
+        {
+            let (start, _) = words.split_once(": ").unwrap_or((words, ""));
+            assert!(source.contains(start), "the Rust does not say {start:?}");
+            for (n, t) in (0..=34).step_by(2).flat_map(counts) {
+                let expected = is_expected(n, t.into());
+                let found = is_finding(kind, words, n, t);
+                assert_eq!(found, !expected, "{words}: n {n}, t {t}");
+            }
+        }
+    }
+
+    /// The last arm of a conversion, which no pair of kinds takes, would panic.
+    #[test]
+    fn the_last_arm_of_a_conversion_is_a_finding() {
+        let words = "unexpected conversion";
+        assert!(include_str!("vector/operations/convert.rs").contains(words));
+        let panic = original::run(|| -> crate::Result<View> { unreachable!("{words}") });
+        for rules in [Ok(dense(0, &[])), Err(7.into())] {
+            let mut oracle = Oracle::default();
+            oracle.hold(&rules, &panic);
+            assert_eq!(oracle.take_findings().len(), 1);
+        }
+    }
 }

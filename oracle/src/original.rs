@@ -81,7 +81,7 @@ pub fn index_out_of_range(words: &str) -> Option<u32> {
 
 const PANIC: &str = "panic: ";
 
-fn run<T>(work: impl FnOnce() -> crate::Result<T>) -> Result<T, String> {
+pub fn run<T>(work: impl FnOnce() -> crate::Result<T>) -> Result<T, String> {
     match catch_unwind(AssertUnwindSafe(work)) {
         Ok(answer) => answer.map_err(|error| error.to_string()),
         Err(panic) => Err(format!("{PANIC}{}", message(&*panic))),
@@ -162,5 +162,18 @@ impl From<Kind> for VectorType {
             Kind::Float8 => VectorType::Float8,
             Kind::Float32Sparse => VectorType::Float32Sparse,
         }
+    }
+}
+
+#[cfg(test)]
+mod tests {
+    use super::*;
+
+    /// No blob has such a body, but `from_data` is public.
+    #[test]
+    fn a_direct_caller_reaches_the_float8_body_that_is_too_short() {
+        let refused = Vector::from_data(VectorType::Float8, None, Some(&[0; 7]));
+        let words = refused.map(|_| ()).map_err(|error| error.to_string());
+        assert_eq!(words, Err("f8 vector data too short: 7".to_string()));
     }
 }
