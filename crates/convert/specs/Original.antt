@@ -24,6 +24,7 @@ pub record Arm : Type 0 where
   pub target : VectorType
   pub way : Way
 
+-- an arm that makes the new body, and one that converts in two steps
 abbrev pub makes : VectorType → VectorType → (ℕ → List ℕ → List ℕ) → Arm
 makes k t new = record { source = k; target = t; way = inOneStep new }
 
@@ -60,6 +61,7 @@ abbrev pub firstArm : List Arm → VectorType → VectorType → Way
 firstArm [] k t = unreachable
 firstArm (a ∷ rest) k t = cond (hasByte (byteOf k) (a .source) && hasByte (byteOf t) (a .target)) (a .way) (firstArm rest k t)
 
+-- equal kinds return before the match
 unfoldable pub wayOf : VectorType → VectorType → Way
 wayOf k t = cond (hasByte (byteOf t) k) copied (firstArm arms k t)
 

@@ -1,6 +1,6 @@
 -- Laws of `readOf`, kind by kind: the tests that are left for a blob that names this kind and is not too long.
 use mathlib.Core.Path.{_≡_, refl}
-use mathlib.Core.Bool.{Bool, true, false, cond, not, _||_, or-false}
+use mathlib.Core.Bool.{false, cond, not, _||_, or-false}
 use mathlib.Core.List.{List}
 use Prim.Native.Nat.{ℕ, _+_, _-_, _*_, _/_, _%_, _<_, _≤_}
 use native.Mathlib.Nat.{div-add-mod}
@@ -9,11 +9,10 @@ use lib.Dec.{ltb, leb, eqb}
 use lib.ListN.{length, getD}
 use borrow.Author.Tests.{eq-eqb, eqb-true, lt-ltb, le-ltb}
 use Rattle.little_endian.specs.Bytes.{u32At}
-use Rattle.vector_types.specs.Answers.{Given, given, unless, acceptedAs, refused, refusal, naming}
+use Rattle.vector_types.specs.Answers.{acceptedAs, refused, refusal, naming}
 use Rattle.vector_types.specs.Search.{firstIndex, anyIndex}
 use Rattle.vector_types.specs.Layout.{maxBlobLength, maxDims, ceil, hasByte, namedKind, lengthBeforeType, isOutside, bodyFits, layoutRow}
 use Rattle.vector_types.specs.Read.{readOf, refusals, shown}
-use Rattle.vector_types.specs.declared.Refusal.{Refusal}
 use Rattle.vector_types.specs.declared.ReadAnswer.{ReadAnswer}
 use Rattle.vector_types.specs.declared.VectorType.{VectorType}
 use Rattle.vector_types.specs.declared.Named.the-variants.{Kind, Unsupported, Unknown}
@@ -21,14 +20,10 @@ use Rattle.vector_types.specs.declared.VectorType.the-variants.{Float32D
 use Rattle.vector_types.specs.declared.Mode.the-variants.{Plain}
 use Rattle.vector_types.proofs.Bools.{same}
 use Rattle.vector_types.proofs.Ends.{named-typed}
+use Rattle.vector_types.proofs.Given.{unless-cond}
 
 abbrev refusedBy : ℕ → ReadAnswer
 refusedBy n = refused (refusal n)
-
--- a test that comes first
-unless-cond : (b : Bool) (r : Refusal) (g : Given) (x : ReadAnswer) → unless (cond b (given r) g) refused x ≡ cond b (refused r) (unless g refused x)
-unless-cond true r g x = refl
-unless-cond false r g x = refl
 
 module _ (s : List ℕ) where
   pub read-long : maxBlobLength < length s → readOf Plain s ≡ refusedBy 1

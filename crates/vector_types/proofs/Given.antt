@@ -7,6 +7,7 @@ use Rattle.vector_types.specs.declared.Refusal.{Refusal}
 use Rattle.vector_types.specs.declared.View.{View}
 use Rattle.vector_types.specs.declared.ReadAnswer.{ReadAnswer}
 use Rattle.vector_types.specs.declared.ReadAnswer.the-variants.{Accepted, Refused}
+use Rattle.vector_types.proofs.Bools.{cond-through}
 
 -- every test of a list fails
 abbrev pub Passed : List Test → Type 0
@@ -88,3 +89,7 @@ pub unless-twice : {A : Type 0} (g h : Given) (refuse : Refusal → A) (x : A)
     → unless (unless g given h) refuse x ≡ unless g refuse (unless h refuse x)
 unless-twice none h refuse x = refl
 unless-twice (given r) h refuse x = refl
+
+-- a test that comes first
+pub unless-cond : (b : Bool) (r : Refusal) (g : Given) (x : ReadAnswer) → unless (cond b (given r) g) refused x ≡ cond b (refused r) (unless g refused x)
+unless-cond b r g x = cond-through (λ (h : Given). unless h refused x) b (given r) g

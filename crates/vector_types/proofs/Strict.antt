@@ -5,7 +5,7 @@ use mathlib.Core.Logic.{_↔_, Iff·trans}
 use mathlib.Core.List.{List}
 use Prim.Native.Nat.{ℕ, _-_, _*_}
 use lib.Dec.{ltb}
-use Rattle.vector_types.specs.Answers.{none, given, firstGiven, unless, refused, refusal, naming}
+use Rattle.vector_types.specs.Answers.{none, firstGiven, unless, refused, refusal, naming}
 use Rattle.vector_types.specs.Search.{firstIndex, anyIndex}
 use Rattle.vector_types.specs.Layout.{hasByte, entryCount, dimsOf, lengthOf, layoutRow}
 use Rattle.vector_types.specs.Read.{readOf, ownRefusals, isNotAbovePrevious, unusedSet}
@@ -15,17 +15,12 @@ use Rattle.vector_types.specs.declared.Named.the-variants.{Kind}
 use Rattle.vector_types.specs.declared.VectorType.the-variants.{Float32Sparse, Float1Bit}
 use Rattle.vector_types.specs.declared.Refusal.{Refusal}
 use Rattle.vector_types.specs.declared.View.{View}
-use Rattle.vector_types.specs.declared.ReadAnswer.{ReadAnswer}
 use Rattle.vector_types.specs.declared.ReadAnswer.the-variants.{Accepted}
 use Rattle.vector_types.specs.declared.Mode.the-variants.{Plain, Strict}
-use Rattle.vector_types.proofs.Given.{refused-not-accepted}
+use Rattle.vector_types.proofs.Given.{refused-not-accepted, unless-cond}
 use Rattle.vector_types.proofs.Statements.{none-not-above, none-unused-set}
 use Rattle.vector_types.proofs.Modes.{read-by-own}
 use Rattle.vector_types.proofs.Views.{view-facts}
-
-one-test : (b : Bool) (r : Refusal) (x : ReadAnswer) → unless (cond b (given r) none) refused x ≡ cond b (refused r) x
-one-test true r x = refl
-one-test false r x = refl
 
 accepted-iff : (b : Bool) (r : Refusal) (v : View) → cond b (refused r) (Accepted v) ≡ Accepted v ↔ b ≡ false
 accepted-iff true r v = (λ e. absurd (refused-not-accepted r v e), λ e. absurd (true≢false e))
@@ -42,7 +37,7 @@ module _ (s : List ℕ) (v : View) (e : readOf Plain s ≡ Accepted v) where
 
   pub strict-sparse : v .kind ≡ Float32Sparse → readOf Strict s ≡ cond (ltb (firstNotAbove s) (entryCount s)) (refused (naming 10 (firstNotAbove s))) (Accepted v)
   unfolding layoutRow
-  strict-sparse h = strict-kind Float32Sparse h ∙ one-test (ltb (firstNotAbove s) (entryCount s)) (naming 10 (firstNotAbove s)) (Accepted v)
+  strict-sparse h = strict-kind Float32Sparse h ∙ unless-cond (ltb (firstNotAbove s) (entryCount s)) (naming 10 (firstNotAbove s)) none (Accepted v)
 
   pub strict-bits : v .kind ≡ Float1Bit
       → readOf Strict s ≡ cond (anyIndex (unusedSet s (v .dims .0)) (8 * v .length - v .dims .0)) (refused (refusal 11)) (Accepted v)
@@ -53,7 +48,7 @@ module _ (s : List ℕ) (v : View) (e : readOf Plain s ≡ Accepted v) where
       let long : lengthOf Float1Bit s ≡ v .length = sym (rw h at (t .long)) in
       let test : ℕ → ℕ → Bool = λ d m. anyIndex (unusedSet s d) (8 * m - d) in
       strict-kind Float1Bit h
-      ∙ one-test (test (dimsOf Float1Bit s) (lengthOf Float1Bit s)) (refusal 11) (Accepted v)
+      ∙ unless-cond (test (dimsOf Float1Bit s) (lengthOf Float1Bit s)) (refusal 11) none (Accepted v)
       ∙ ap₂ (λ d m. cond (test d m) (refused (refusal 11)) (Accepted v)) sized long
 
   pub strict-other : hasByte 9 (v .kind) ≡ false → hasByte 3 (v .kind) ≡ false → readOf Strict s ≡ Accepted v
