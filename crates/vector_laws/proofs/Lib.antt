@@ -9,6 +9,7 @@ pub mod JaccardChoices
 pub mod Summed
 pub mod Spreading
 pub mod DenseFormSums
+pub mod DenseFormMade
 pub mod DenseForm
 pub mod StrictDenseForm
 pub mod Padding

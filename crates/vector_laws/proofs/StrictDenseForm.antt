@@ -2,6 +2,7 @@
 use mathlib.Core.Path.{_≡_}
 use mathlib.Core.List.{List}
 use Prim.Native.Nat.{ℕ}
+use lib.Ieee.{binary32}
 use Rattle.vector_types.specs.Read.{readOf}
 use Rattle.vector_types.specs.Parts.{bodyOf}
 use Rattle.vector_types.specs.declared.View.{View}
@@ -24,13 +25,13 @@ strict-rises s v e k =
     body-indices-rise s v plain k (strict-indices-rise s v plain k .0 e)
 
 module _ (s t : List ℕ) (v w : View) (p : readOf Strict s ≡ Accepted v) (q : readOf Strict t ≡ Accepted w) (kv : v .kind ≡ Float32Sparse) (kw : w .kind ≡ Float32Sparse) where
-  pub strict-dense-form-same-distance : (m : Distance) → Premises m (bodyOf s) (bodyOf t) → SameDistance (distanceOf m (denseForm s v) (denseForm t w)) (distanceOf m s t)
+  pub strict-dense-form-same-distance : (m : Distance) → Premises m (bodyOf s) (bodyOf t) → SameDistance (distanceOf m (denseForm binary32 s v) (denseForm binary32 t w)) (distanceOf m s t)
   strict-dense-form-same-distance m asks =
       dense-form-same-distance m s t v w (shown-plainly Strict s v p) (shown-plainly Strict t w q) kv kw (strict-rises s v p kv) (strict-rises t w q kw) asks
 
   -- L2 and Jaccard ask nothing more
-  pub strict-dense-form-same-l2 : SameDistance (distanceOf L2 (denseForm s v) (denseForm t w)) (distanceOf L2 s t)
+  pub strict-dense-form-same-l2 : SameDistance (distanceOf L2 (denseForm binary32 s v) (denseForm binary32 t w)) (distanceOf L2 s t)
   strict-dense-form-same-l2 = strict-dense-form-same-distance L2 tt
 
-  pub strict-dense-form-same-jaccard : SameDistance (distanceOf Jaccard (denseForm s v) (denseForm t w)) (distanceOf Jaccard s t)
+  pub strict-dense-form-same-jaccard : SameDistance (distanceOf Jaccard (denseForm binary32 s v) (denseForm binary32 t w)) (distanceOf Jaccard s t)
   strict-dense-form-same-jaccard = strict-dense-form-same-distance Jaccard tt

@@ -1,15 +1,17 @@
--- A sparse blob as a Float32Dense one, what each distance asks of two sparse bodies so that it stays the same, and what staying the same means.
-use Prim.Native.Nat.{ℕ, _*_, _<_}
+-- A blob as a dense one of either width, what each distance asks of two sparse bodies so that it stays the same, and what staying the same means.
+use Prim.Native.Nat.{ℕ, _+_, _*_, _<_}
 use mathlib.Core.Path.{_≡_}
 use mathlib.Core.Bool.{false}
 use mathlib.Core.List.{List}
 use lib.Dec.{T}
+use lib.Ieee.{Format, binary32, binary64}
 use lib.Ieee.Scale.{finite}
 use Rattle.little_endian.specs.Bytes.{f32At}
 use Rattle.vector_types.specs.Parts.{bodyOf}
 use Rattle.blob_writer.specs.Write.{blobOf}
 use Rattle.vector_types.specs.declared.View.{View}
-use Rattle.vector_types.specs.declared.VectorType.the-variants.{Float32Dense, Float32Sparse}
+use Rattle.vector_types.specs.declared.VectorType.{VectorType}
+use Rattle.vector_types.specs.declared.VectorType.the-variants.{Float32Dense, Float64Dense}
 use Rattle.bodies.specs.Entries.{storedCount}
 use Rattle.convert_parts.specs.Result.{resultOf}
 use Rattle.distance_sums.specs.Dense.{Products, isZero}
@@ -19,9 +21,21 @@ use Rattle.distance.specs.declared.Distance.the-variants.{Cos, L2, Dot, Jaccard
 use Rattle.distance.specs.declared.DistanceAnswer.{DistanceAnswer}
 use Rattle.distance.specs.declared.DistanceAnswer.the-variants.{Measured, Refused}
 
--- the blob that the writer makes of what the blob s, with the view v, is converted to
-abbrev pub denseForm : List ℕ → View → List ℕ
-denseForm s v = blobOf Float32Dense (v .dims .0) (resultOf Float32Sparse Float32Dense (v .dims .0) (bodyOf s))
+-- the dense kind whose elements have the width f, and how long its blob of d elements is
+abbrev pub denseKind : Format → VectorType
+denseKind binary32 = Float32Dense
+denseKind binary64 = Float64Dense
+
+abbrev pub denseLength : Format → ℕ → ℕ
+denseLength binary32 d = 4 * d
+denseLength binary64 d = 8 * d + 1
+
+-- what the body of the blob s, with the view v, is converted to, and the blob that the writer makes of that
+abbrev pub denseFormBody : Format → List ℕ → View → List ℕ
+denseFormBody f s v = resultOf (v .kind) (denseKind f) (v .dims .0) (bodyOf s)
+
+abbrev pub denseForm : Format → List ℕ → View → List ℕ
+denseForm f s v = blobOf (denseKind f) (v .dims .0) (denseFormBody f s v)
 
 -- all stored values are finite
 abbrev pub AllFinite : List ℕ → Type 0

@@ -5,7 +5,7 @@ use mathlib.Core.List.{List, [], _∷_, _++_, map}
 use mathlib.Core.Bool.{false}
 use Prim.Native.Nat.{ℕ}
 use lib.Dec.{eqb}
-use lib.Ieee.{add, sub, mul, div, neg, eq, lt, ofBits, binary64}
+use lib.Ieee.{Format, binary32, binary64, add, sub, mul, div, neg, eq, lt, ofBits}
 use Rattle.float_laws.specs.Running.{running}
 use Rattle.little_endian.specs.Bytes.{numberAt, bytesOf, put}
 use Rattle.rounding.specs.Root.{root}
@@ -53,10 +53,13 @@ changes measure (s, m) (t, n) x y =
     ∷ record { measure = measure; firstBlob = t; secondBlob = s; held = counts n m; sparse = x; dense = y }
     ∷ []
 
--- the dense form of a blob that is read
-abbrev pub denseFormIn : ReadAnswer → List ℕ → List ℕ
-denseFormIn (Accepted v) s = denseForm s v
-denseFormIn (Unread r) s = s
+-- the dense form of a blob, by what the reader answers
+abbrev pub denseFormIn : Format → ReadAnswer → List ℕ → List ℕ
+denseFormIn f (Accepted v) s = denseForm f s v
+denseFormIn f (Unread r) s = s
+
+abbrev pub asDense : Format → List ℕ → List ℕ
+asDense f s = denseFormIn f (readOf Plain s) s
 
 -- a sparse blob of dims 2: the bytes of its values, and those of their indices
 abbrev pub sparseBlob : List ℕ → List ℕ → List ℕ
@@ -116,7 +119,7 @@ abbrev pub defined : Example → DistanceAnswer × DistanceAnswer
 defined e =
     let s = e .firstBlob in
     let t = e .secondBlob in
-    (distanceOf (e .measure) s t, distanceOf (e .measure) (denseFormIn (readOf Plain s) s) (denseFormIn (readOf Plain t) t))
+    (distanceOf (e .measure) s t, distanceOf (e .measure) (asDense binary32 s) (asDense binary32 t))
 
 pub table-holds : map defined table ≡ map (λ (e : Example). (answer (e .sparse) (e .held), answer (e .dense) (counts 2 2))) table
 unfolding distanceOf readOf bodyOf namedKind byByte lengthBeforeType bodyFits refusals shown firstFrom numberAt bytesOf put layoutRow tailOf blobOf resultOf spread running root merged productsWith squaresWith dotsWith sharesWith lesser greater add sub mul div neg eq lt ofBits
