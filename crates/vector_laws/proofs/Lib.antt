@@ -12,4 +12,6 @@ pub mod DenseFormSums
 pub mod DenseFormMade
 pub mod DenseForm
 pub mod StrictDenseForm
+pub mod RealDotSums
+pub mod RealDot
 pub mod Padding

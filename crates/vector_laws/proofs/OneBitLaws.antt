@@ -52,6 +52,9 @@ differ-is zero y = omega arith
 differ-is (suc x) zero = omega arith
 differ-is (suc x) (suc y) = omega (arith, differ-is x y)
 
+pub differ-self : (x : ℕ) → differ x x ≡ 0
+differ-self x = omega (arith, differ-is x x)
+
 differ-triangle : (x y z : ℕ) → differ x z ≤ differ x y + differ y z
 differ-triangle x y z = omega (arith, differ-is x z, differ-is x y, differ-is y z)
 
@@ -64,7 +67,7 @@ differing-triangle a b c (suc m) = omega (arith, differing-triangle a b c m, dif
 differing-self : (a : List ℕ) (m : ℕ) → differing a a m ≡ 0
 unfolding differing total
 differing-self a zero = refl
-differing-self a (suc m) = omega (arith, differing-self a m, differ-is (bitAt a m) (bitAt a m))
+differing-self a (suc m) = omega (arith, differing-self a m, differ-self (bitAt a m))
 
 -- a number with no digit set is 0, so two bytes that differ in none are equal
 no-digit : (n : ℕ) → ones n ≡ 0 → n ≡ 0

@@ -4,3 +4,5 @@ pub mod BitsApart
 pub mod Padding
 pub mod DenseForm
 pub mod DenseFormExamples
+pub mod RealDot
+pub mod RealDotExamples
