@@ -53,6 +53,8 @@ table =
     ∷ hasPattern (some (jaccardOf Float32Sparse 2 (oneAt 0) (oneAt 1))) 0x3ff0_0000_0000_0000
     -- dims 1: the bit that differs is an unused one
     ∷ hasPattern (some (cosineOf Float1Bit 1 (2 ∷ []) (0 ∷ []))) 0x3ff0_0000_0000_0000
+    -- dims 2, of which one differs
+    ∷ hasPattern (some (dotOf Float1Bit 2 (1 ∷ []) (3 ∷ []))) 0x8000_0000_0000_0000
     ∷ []
 
 pub table-holds : map (λ (e : Example). e .defined) table ≡ map (λ (e : Example). e .written) table
