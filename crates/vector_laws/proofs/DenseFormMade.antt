@@ -33,11 +33,11 @@ use Rattle.distance.specs.declared.Distance.{Distance}
 use Rattle.distance.specs.declared.Which.the-variants.{Neither}
 use Rattle.distance.specs.declared.DistanceAnswer.{DistanceAnswer}
 use Rattle.distance.specs.declared.DistanceAnswer.the-variants.{Measured, Refused}
-use Rattle.vector_laws.specs.DenseForm.{denseKind, denseLength, denseFormBody, denseForm}
+use Rattle.vector_laws.specs.DenseForm.{denseKind, denseBlobLength, denseFormBody, denseForm}
 use Rattle.vector_laws.proofs.Measured.{views-related}
 
 -- ---- a dense body of d elements, of either width
-length-dense-blob : (f : Format) (d : ℕ) (body : List ℕ) → length body ≡ width f * d → length (blobOf (denseKind f) d body) ≡ denseLength f d
+length-dense-blob : (f : Format) (d : ℕ) (body : List ℕ) → length body ≡ width f * d → length (blobOf (denseKind f) d body) ≡ denseBlobLength f d
 unfolding blobOf tailOf
 length-dense-blob binary32 d body e = rw append-nil e
 length-dense-blob binary64 d body e = length-append body _ ∙ omega arith
@@ -80,21 +80,21 @@ module _ (f : Format) (s : List ℕ) (v : View) (e : readOf Plain s ≡ Accepted
   dense-form-read = reads-back (denseKind f) d new unrefusing
 
   -- with so much room the converter leaves that body at the start of its output, and the writer makes that blob of it
-  pub dense-form-made : (scratch out blob : List ℕ) → width f * v .dims .0 ≤ length out → denseLength f (v .dims .0) ≤ length blob
+  pub dense-form-made : (scratch out blob : List ℕ) → width f * v .dims .0 ≤ length out → denseBlobLength f (v .dims .0) ≤ length blob
       → (convertOutcome s (denseKind f) scratch out .answer ≡ convertedTo (denseKind f) (v .dims .0) (width f * v .dims .0))
       × (take (width f * v .dims .0) (convertOutcome s (denseKind f) scratch out .out) ≡ denseFormBody f s v)
-      × (writeOf (denseKind f) (v .dims .0) (denseFormBody f s v) (length blob) ≡ written (denseLength f (v .dims .0)))
-      × (take (denseLength f (v .dims .0)) (writeOutcome (denseKind f) (v .dims .0) (denseFormBody f s v) blob .out) ≡ denseForm f s v)
+      × (writeOf (denseKind f) (v .dims .0) (denseFormBody f s v) (length blob) ≡ written (denseBlobLength f (v .dims .0)))
+      × (take (denseBlobLength f (v .dims .0)) (writeOutcome (denseKind f) (v .dims .0) (denseFormBody f s v) blob .out) ≡ denseForm f s v)
   unfolding convertOutcome
   dense-form-made scratch out blob h l =
       let k = denseKind f in
       let none-needed = length-scratch d (bodyOf s) (v .kind) k (shown-fitting s v e) ∙ no-scratch f (v .kind) d in
       let put = conversion-put s k v e (length scratch) (length out) (omega arith) (omega (arith, length-new)) in
-      let goes : writeOf k d new (length blob) ≡ written (denseLength f d) = sym (clear-whole k d new (length blob) unrefusing (denseLength f d) (sym (length-dense-blob f d new length-new)) l) in (
+      let goes : writeOf k d new (length blob) ≡ written (denseBlobLength f d) = sym (clear-whole k d new (length blob) unrefusing (denseBlobLength f d) (sym (length-dense-blob f d new length-new)) l) in (
         rw (put, length-new),
         rw put (take-at new (drop (length new) out) (width f * d) length-new),
         goes,
-        written-blob k d new blob (denseLength f d) goes .2,
+        written-blob k d new blob (denseBlobLength f d) goes .2,
       )
 
 -- ---- two blobs of one kind, and their dense forms: over what relates every refusal to itself, and one distance with both counts

@@ -26,9 +26,9 @@ abbrev pub denseKind : Format → VectorType
 denseKind binary32 = Float32Dense
 denseKind binary64 = Float64Dense
 
-abbrev pub denseLength : Format → ℕ → ℕ
-denseLength binary32 d = 4 * d
-denseLength binary64 d = 8 * d + 1
+abbrev pub denseBlobLength : Format → ℕ → ℕ
+denseBlobLength binary32 d = 4 * d
+denseBlobLength binary64 d = 8 * d + 1
 
 -- what the body of the blob s, with the view v, is converted to, and the blob that the writer makes of that
 abbrev pub denseFormBody : Format → List ℕ → View → List ℕ
