@@ -26,7 +26,7 @@ use Rattle.distance_sums.specs.Values.{dotOf}
 use Rattle.vector_laws.specs.DenseForm.{denseKind}
 use Rattle.vector_laws.proofs.OneBitLaws.{differ-self}
 
--- ---- p - q, and m - k added to it
+-- ---- differences of natural numbers: k more taken away, and two added
 subtract-more : (k p q : ℕ) → negℤ (pos k) +ℤ (pos p -ℤ pos q) ≡ pos p -ℤ pos (q + k)
 subtract-more k p q =
     +ℤ-comm (negℤ (pos k)) (pos p -ℤ pos q)

@@ -1,5 +1,5 @@
--- The dot of two 1-bit blobs, and of the two as Float32Dense and as Float64Dense: one table, which antt computes. The third pair is not one of
--- which the law speaks, and there the dots differ; the strict mode refuses it.
+-- The dot of two 1-bit blobs, and of the two as Float32Dense and as Float64Dense: one table, which antt computes. In the third pair one blob has an
+-- unused bit set, and the dots differ; the strict mode refuses that blob.
 use mathlib.Core.Path.{_≡_, refl}
 use mathlib.Core.List.{List, [], _∷_, map}
 use Prim.Native.Nat.{ℕ}
