@@ -1,17 +1,17 @@
 -- Any blob that is read, as a dense one of either width: it reads back, and it is what the converter and the writer make, neither of which refuses
 -- where there is room. And two blobs of one kind have an answer related to that of their dense forms where the values are the same.
 use mathlib.Core.Path.{_≡_, refl, sym, _∙_}
-use mathlib.Core.Bool.{true, cond, _&&_, and-false}
-use mathlib.Core.List.{List, append-nil}
+use mathlib.Core.Bool.{cond, _&&_, and-false}
+use mathlib.Core.List.{List}
 use Prim.Native.Nat.{ℕ, _*_, _≤_}
 use native.Mathlib.Omega.{arith}
-use lib.ListN.{length, take, drop, length-append}
+use lib.ListN.{length, take, drop}
 use lib.Seq.{take-at}
 use lib.Ieee.{Float, Format, binary32, binary64}
 use borrow.Author.Tests.{eq-eqb}
 use Rattle.little_endian.specs.Bytes.{width}
 use Rattle.vector_types.specs.Answers.{none, firstGiven, viewOf}
-use Rattle.vector_types.specs.Layout.{maxDims, byteOf, hasByte, hasTrailingCount, bodyFits}
+use Rattle.vector_types.specs.Layout.{maxDims, hasByte, hasTrailingCount, bodyFits}
 use Rattle.vector_types.specs.Read.{readOf}
 use Rattle.vector_types.specs.Parts.{bodyOf}
 use Rattle.vector_types.specs.declared.Refusal.{Refusal}
@@ -19,9 +19,11 @@ use Rattle.vector_types.specs.declared.View.{View}
 use Rattle.vector_types.specs.declared.VectorType.{VectorType}
 use Rattle.vector_types.specs.declared.ReadAnswer.the-variants.{Accepted}
 use Rattle.vector_types.specs.declared.Mode.the-variants.{Plain}
+use Rattle.vector_types.proofs.SameKind.{own-byte}
 use Rattle.vector_types.proofs.Views.{view-facts}
 use Rattle.blob_writer.specs.Answers.{written}
 use Rattle.blob_writer.specs.Write.{blobOf, tailOf, writeRefusals, writeOf, writeOutcome}
+use Rattle.blob_writer.proofs.Tails.{length-blob}
 use Rattle.blob_writer.proofs.Written.{Writable, clear-whole, unrefused, reads-back, written-blob}
 use Rattle.convert_parts.proofs.Lengths.{length-float32, length-float64, length-scratch}
 use Rattle.convert.specs.Convert.{convertedTo, convertOutcome}
@@ -38,9 +40,9 @@ use Rattle.vector_laws.proofs.Measured.{views-related}
 
 -- ---- a dense body of d elements, of either width
 length-dense-blob : (f : Format) (d : ℕ) (body : List ℕ) → length body ≡ width f * d → length (blobOf (denseKind f) d body) ≡ denseBlobLength f d
-unfolding blobOf tailOf
-length-dense-blob binary32 d body e = rw append-nil e
-length-dense-blob binary64 d body e = length-append body _ ∙ omega arith
+unfolding tailOf
+length-dense-blob binary32 d body e = length-blob (denseKind binary32) d body ∙ omega arith
+length-dense-blob binary64 d body e = length-blob (denseKind binary64) d body ∙ omega arith
 
 -- the writer does not refuse it: that of 65,536 dims has 262,144 bytes, or 524,289
 dense-writable : (f : Format) (d : ℕ) (body : List ℕ) → d ≤ maxDims → length body ≡ width f * d → Writable (denseKind f) d body
@@ -107,7 +109,6 @@ unfolding distanceOf
 dense-forms-related R refusals m f s t v w p q kinds measured values =
     let (g, x) = dense-form-read f s v p in
     let (h, y) = dense-form-read f t w q in
-    let same : (k : VectorType) → hasByte (byteOf k) k ≡ true = λ k. eq-eqb (byteOf k) (byteOf k) refl in
-    let pairs : pairingOf (denseFormView f s v) (denseFormView f t w) ≡ pairingOf v w = rw (kinds, same (denseKind f), same (w .kind)) in
+    let pairs : pairingOf (denseFormView f s v) (denseFormView f t w) ≡ pairingOf v w = rw (kinds, own-byte (denseKind f), own-byte (w .kind)) in
     rw (p, q, g, h, x, y)
     (views-related R refusals (valueOf m) (valueOf m) (denseFormView f s v) (denseFormView f t w) v w _ _ _ _ measured pairs (λ shape. values (shape .dims)))

@@ -6,7 +6,6 @@ use mathlib.Core.List.{List}
 use mathlib.Core.Option.{Option, none, some}
 use Prim.Native.Nat.{ℕ}
 use lib.Ieee.{Float}
-use borrow.Author.Tests.{eq-eqb}
 use Rattle.vector_types.specs.Answers.{refusal}
 use Rattle.vector_types.specs.Layout.{byteOf, hasByte}
 use Rattle.vector_types.specs.Read.{readOf}
@@ -16,6 +15,7 @@ use Rattle.vector_types.specs.declared.View.{View}
 use Rattle.vector_types.specs.declared.ReadAnswer.{ReadAnswer}
 use Rattle.vector_types.specs.declared.ReadAnswer.the-variants.{Accepted, Refused as Unread}
 use Rattle.vector_types.specs.declared.Mode.the-variants.{Plain}
+use Rattle.vector_types.proofs.SameKind.{own-byte}
 use Rattle.distance.specs.Values.{Formula, valueOf}
 use Rattle.distance.specs.Answer.{countsOf, pairingOf, distanceAnswer, answerOfViews, answerIn, answerBy, distanceOf}
 use Rattle.distance.specs.declared.Counts.{Counts}
@@ -115,5 +115,5 @@ module _ (m : Distance) (s t : List ℕ) (x : Float) (c : Counts) where
   alike-measured p =
       let v = p .first in
       let w = p .second in
-      let kinds : hasByte (byteOf (w .kind)) (v .kind) ≡ true = rw (p .kind) (eq-eqb (byteOf (w .kind)) (byteOf (w .kind)) refl) in
+      let kinds : hasByte (byteOf (w .kind)) (v .kind) ≡ true = rw (p .kind) (own-byte (w .kind)) in
       rw (p .firstRead, p .secondRead, answer-by-pairing (valueOf m) v w (bodyOf s) (bodyOf t), both-same v w (p .dims) kinds, p .value, p .counted)

@@ -110,8 +110,11 @@ abbrev orNan : Option Float → Float
 orNan none = nan
 orNan (some x) = x
 
+pub one-bit-readings : (s : List ℕ) (v : View) → readOf Plain s ≡ Accepted v → v .kind ≡ Float1Bit → v .readings ≡ readings (v .dims .0)
+one-bit-readings s v e k = ap readings (view-facts s v e .counted ∙ rw k)
+
 dims-readings : {d : ℕ} {s : List ℕ} (o : OneBit d s) → o .view .readings ≡ readings d
-dims-readings {d} {s} o = ap readings (view-facts s (o .view) (o .read) .counted ∙ rw (o .kind) (o .dims))
+dims-readings {d} {s} o = one-bit-readings s (o .view) (o .read) (o .kind) ∙ ap readings (o .dims)
 
 dims-each : {d : ℕ} {s t : List ℕ} (o : OneBit d s) (other : OneBit d t) → countsOf (o .view) (other .view) ≡ dimsEach d
 dims-each o other = ap₂ (λ m n. record { first = m; second = n }) (dims-readings o) (dims-readings other)

@@ -27,6 +27,7 @@ use Rattle.distance.specs.declared.Distance.the-variants.{Dot}
 use Rattle.distance.specs.declared.DistanceAnswer.the-variants.{Measured}
 use Rattle.vector_laws.specs.DenseForm.{denseKind, denseFormBody, denseForm}
 use Rattle.vector_laws.specs.RealDot.{BothUnusedZero}
+use Rattle.vector_laws.proofs.OneBitLaws.{one-bit-readings}
 use Rattle.vector_laws.proofs.DenseFormMade.{denseFormView, dense-forms-related}
 use Rattle.vector_laws.proofs.RealDotSums.{dot-real-bodies}
 
@@ -45,7 +46,7 @@ module _ (s : List ℕ) (v : View) (e : readOf Plain s ≡ Accepted v) (k : v .k
 
   -- it holds as many readings as its dense form
   same-readings : (f : Format) → denseFormView f s v .readings ≡ v .readings
-  same-readings f = ap readings (dense-readings f (v .dims .0) _ ∙ sym (view-facts s v e .counted ∙ rw k))
+  same-readings f = ap readings (dense-readings f (v .dims .0) _) ∙ sym (one-bit-readings s v e k)
 
 -- ---- two such blobs
 pub dot-real : (f : Format) (s t : List ℕ) (v w : View) → readOf Plain s ≡ Accepted v → readOf Plain t ≡ Accepted w → v .kind ≡ Float1Bit → w .kind ≡ Float1Bit

@@ -1,7 +1,7 @@
 -- Kinds are told apart by their type bytes: each byte names its kind back.
 use mathlib.Core.Path.{_≡_, refl, sym, ap, _∙_}
 use mathlib.Core.Bool.{true}
-use borrow.Author.Tests.{eqb-true}
+use borrow.Author.Tests.{eqb-true, eq-eqb}
 use Rattle.vector_types.specs.Layout.{byteOf, hasByte, byByte}
 use Rattle.vector_types.specs.declared.VectorType.{VectorType}
 use Rattle.vector_types.specs.declared.VectorType.the-variants.{Float32Dense, Float64Dense, Float32Sparse, Float1Bit, Float8}
@@ -15,6 +15,9 @@ type-byte-names Float64Dense = refl
 type-byte-names Float32Sparse = refl
 type-byte-names Float1Bit = refl
 type-byte-names Float8 = refl
+
+pub own-byte : (k : VectorType) → hasByte (byteOf k) k ≡ true
+own-byte k = eq-eqb (byteOf k) (byteOf k) refl
 
 -- the kind that is named, or another
 abbrev kindOr : VectorType → Named → VectorType
