@@ -11,7 +11,7 @@ mod Closest
 mod Patterns
 mod Powers
 mod WholeRootLaw
-mod WholeRootSteps
+mod Digits
 mod Widths
 mod RootSpecial
 mod TruncateLaw

@@ -6,7 +6,6 @@ use native.Mathlib.Nat.{le-trans, le-of-eq, le-of-lt, lt-irrefl, lt-of-lt-of-le,
 use native.Mathlib.Omega.{arith}
 use mathlib.Core.Bool.{true, false, true≢false}
 use lib.Arith.{lt-of-le-ne}
-use lib.Bits.{shifted-even}
 use lib.Dec.{lit≤}
 use lib.Pow.{pow-add, pow-pos, pow-mono}
 use lib.Ieee.{Float, nan, inf, fin, Format, binary32, binary64, prec, emax, low, up, down, nearest, hid, ones, ofBits}
@@ -20,6 +19,7 @@ use Rattle.rounding.proofs.Compare.{compare-lt, compare-gt, compare-sca
 use Rattle.rounding.proofs.Patterns.{signed, signed-value, hid-pos, twice-hid, digits-pos, count-is, count-at, count-lt}
 use Rattle.rounding.proofs.Nearest.{Increasing, nearest-unique, pick-nearest, floor-nearest, nearest-scale}
 use Rattle.rounding.proofs.WholeRootLaw.{square-le, lt-next-square, root-ge, root-lt}
+use Rattle.rounding.proofs.Digits.{no-tie}
 
 -- ---- one value, and only one
 squares-rise : (D : ℕ) → 0 < D → Increasing (λ M. M * M * D)
@@ -150,7 +150,7 @@ module _ (f : Format) (m e w r : ℕ) (full : hid f ≤ m) (less : m < 2 * hid f
       high : (q U : ℕ) → A < 2 * q * (2 * q) → 0 < U * U → 4 * (A * (U * U)) < mid (q * (2 * U) + q * (2 * U))
       high q U l p = let g : A * (U * U) < 2 * q * (2 * q) * (U * U) = mul-lt-mul-of-pos-right l p in omega arith
 
-  -- the midpoint is mean * U: the root is below it if w is even, above it if w is odd, and never at it, since A is even
+  -- the midpoint is mean * U: the root is below it if w is even, above it if w is odd, and never at it (`no-tie`)
   abbrev mean : ℕ
   mean = 2 * (w / 2) + 1
 
@@ -163,12 +163,6 @@ module _ (f : Format) (m e w r : ℕ) (full : hid f ≤ m) (less : m < 2 * hid f
       point : (q U : ℕ) → mid (q * (2 * U) + suc q * (2 * U)) * 1 ≡ (2 * q + 1) * (2 * q + 1) * (4 * (U * U))
       point q U = omega arith
 
-  A-even : A % 2 ≡ 0
-  A-even = subst (λ (x : ℕ). m * 2 ^ x % 2 ≡ 0) (one-more (prec f) ((e + prec f + 1) % 2)) (shifted-even m (prec f + (e + prec f + 1) % 2))
-    where
-      one-more : (p c : ℕ) → suc (p + c) ≡ p + 1 + c
-      one-more p c = omega arith
-
   nearest-floor : nearest floor (compare A (mean * mean)) ≡ suc k * h + (w + 1) / 2
   nearest-floor = go (w % 2) refl
     where
@@ -176,13 +170,9 @@ module _ (f : Format) (m e w r : ℕ) (full : hid f ≤ m) (less : m < 2 * hid f
       below z = subst (λ (x : ℕ). A < x * x) (omega arith) (lt-next-square root)
 
       above : (r : ℕ) → w % 2 ≡ suc r → mean * mean < A
-      above r z = lt-of-le-ne (subst (λ (x : ℕ). x * x ≤ A) (omega arith) (square-le root)) (λ q. odd-square (w / 2) A A-even q)
-        where
-          odd-square : (q A : ℕ) → A % 2 ≡ 0 → (2 * q + 1) * (2 * q + 1) ≡ A → ⊥
-          odd-square q A z e = let g : A ≡ 2 * (2 * (q * q) + 2 * q) + 1 = omega arith in odd-one A (2 * (q * q) + 2 * q) z g
-            where
-              odd-one : (A t : ℕ) → A % 2 ≡ 0 → A ≡ 2 * t + 1 → ⊥
-              odd-one A t z e = omega arith
+      above r z =
+          let odd : mean ≡ w = omega arith in
+          lt-of-le-ne (rw odd (square-le root)) (λ q. no-tie m t w (omega arith) (omega arith) (record { is = omega (arith, rw odd at q); small = zero-le }))
 
       go : (r : ℕ) → w % 2 ≡ r → nearest floor (compare A (mean * mean)) ≡ suc k * h + (w + 1) / 2
       go zero z = let q : w / 2 ≡ (w + 1) / 2 = omega arith in rw (compare-lt A (mean * mean) (below z)) (ap (λ (x : ℕ). suc k * h + x) q)

@@ -1,7 +1,7 @@
 -- The root's laws for a format's numbers as the code is given them, by replacing them with the format's own, and that every number on the way fits 64 bits.
 use mathlib.Core.Path.{_≡_, refl, sym, ap, _∙_, subst}
 use Prim.Native.Nat.{ℕ, _+_, _-_, _*_, _/_, _%_, _^_, _≤_, _<_}
-use native.Mathlib.Nat.{le-trans, le-of-eq, lt-of-lt-of-le, mul-assoc, mul-le-mul, mul-lt-mul-of-pos-right}
+use native.Mathlib.Nat.{le-of-eq, lt-of-lt-of-le, mul-assoc, mul-lt-mul-of-pos-right}
 use native.Mathlib.Omega.{arith}
 use lib.Dec.{T, lit≤}
 use lib.Pow.{pow-add, pow-pos, pow-mono, shl-exact}
@@ -9,16 +9,18 @@ use lib.Ieee.{Float, Format, binary32, binary64, prec, low, hid, ones, fits, ofB
 use lib.Ieee.Bits.{ofBits-toBits}
 use Rattle.rounding.specs.inner.Pick.{digitsOf}
 use Rattle.rounding.specs.Root.{IsRoot}
+use Rattle.rounding.specs.inner.Digits.{firstPairs}
 use Rattle.rounding.specs.inner.Parts.{IsWholeRoot, IsNormalized, Widths, IsRootPattern}
-use Rattle.rounding.proofs.Powers.{four-pow}
+use Rattle.rounding.proofs.Powers.{four-pow, pow-regroup}
 use Rattle.rounding.proofs.RootLaw.{rootShift, shift-le-exponent, root-pattern-of, w-lt}
 
 -- what holds of a format's own numbers holds of the numbers given
-with-widths : {f : Format} {p h l n : ℕ} (P : ℕ → ℕ → ℕ → Type 0) → Widths f p h l n → P (prec f) (hid f) (low f) → P p h l
+with-widths : {f : Format} {p h l : ℕ} (P : ℕ → ℕ → ℕ → Type 0) → Widths f p h l → P (prec f) (hid f) (low f) → P p h l
 with-widths {f} {p} {h} {l} P W x = subst (λ (y : ℕ). P y h l) (sym (W .digits)) (subst (λ (y : ℕ). P (prec f) y l) (sym (W .lead)) (subst (λ (y : ℕ). P (prec f) (hid f) y) (sym (W .least)) x))
 
 pub record FormatBounds (f : Format) (p h l : ℕ) : Type 0 where
-  pub digits : p ≤ 53
+  pub digits-ge : 2 ≤ p
+  pub digits-le : p ≤ 53
   pub some : 0 < h
   pub lead : h ≤ 2 ^ 52
   pub twice : 2 * h ≡ 2 ^ p
@@ -26,45 +28,42 @@ pub record FormatBounds (f : Format) (p h l : ℕ) : Type 0 where
   pub deep : h ≤ 2 ^ l
   pub fields : ones f ≤ 2047
 
-pub format-bounds : {f : Format} {p h l n : ℕ} → Widths f p h l n → FormatBounds f p h l
+pub format-bounds : {f : Format} {p h l : ℕ} → Widths f p h l → FormatBounds f p h l
 format-bounds {f} W = with-widths (λ p h l. FormatBounds f p h l) W (of-format f)
   where
     of-format : (f : Format) → FormatBounds f (prec f) (hid f) (low f)
-    of-format binary32 = record { digits = lit≤ tt; some = lit≤ tt; lead = lit≤ tt; twice = refl; least = lit≤ tt; deep = lit≤ tt; fields = lit≤ tt }
-    of-format binary64 = record { digits = lit≤ tt; some = lit≤ tt; lead = lit≤ tt; twice = refl; least = lit≤ tt; deep = lit≤ tt; fields = lit≤ tt }
+    of-format binary32 = record { digits-ge = lit≤ tt; digits-le = lit≤ tt; some = lit≤ tt; lead = lit≤ tt; twice = refl; least = lit≤ tt; deep = lit≤ tt; fields = lit≤ tt }
+    of-format binary64 = record { digits-ge = lit≤ tt; digits-le = lit≤ tt; some = lit≤ tt; lead = lit≤ tt; twice = refl; least = lit≤ tt; deep = lit≤ tt; fields = lit≤ tt }
 
-module _ {f : Format} {p h l n : ℕ} (W : Widths f p h l n) (b m e : ℕ) (some : 0 < b) (norm : IsNormalized (digitsOf h b) (b / h - 1 + l) h m e) where
+module _ {f : Format} {p h l : ℕ} (W : Widths f p h l) (b m e : ℕ) (some : 0 < b) (norm : IsNormalized (digitsOf h b) (b / h - 1 + l) h m e) where
   pub shift-le : rootShift p e ≤ e
   shift-le = with-widths (λ p h l. IsNormalized (digitsOf h b) (b / h - 1 + l) h m e → rootShift p e ≤ e) W (shift-le-exponent f b m e some) norm
 
-  -- ---- the number of which the whole root is taken
+  -- ---- the number of which the whole root is taken, at the top of 54 digits: p + 1 pairs
   abbrev pub shifted : ℕ
-  shifted = m * 2 ^ (rootShift p e - n * 2)
+  shifted = m * 2 ^ (rootShift p e + 52 - p * 2)
 
   m-lt : m < 2 ^ p
   m-lt = lt-of-lt-of-le (norm .less-than) (le-of-eq (format-bounds W .twice))
 
-  shift-fits : rootShift p e - n * 2 + p ≤ 56
-  shift-fits = omega (arith, W .fits)
+  pub shift-lt : shifted < 2 ^ 54
+  shift-lt =
+      lt-of-lt-of-le (mul-lt-mul-of-pos-right m-lt (pow-pos (rootShift p e + 52 - p * 2)))
+      (rw (← pow-add 2 p (rootShift p e + 52 - p * 2)) (pow-mono {j = 54} (omega (arith, format-bounds W .digits-le))))
 
   pub shift-is : shifted % 2 ^ 64 ≡ shifted
-  shift-is = shl-exact p (rootShift p e - n * 2) 64 m-lt (omega (arith, shift-fits))
+  shift-is = shl-exact p (rootShift p e + 52 - p * 2) 64 m-lt (omega (arith, format-bounds W .digits-le))
 
-  pub shift-lt : shifted < 2 ^ 56
-  shift-lt = lt-of-lt-of-le (mul-lt-mul-of-pos-right m-lt (pow-pos (rootShift p e - n * 2))) (le-trans (le-of-eq (sym (pow-add 2 p (rootShift p e - n * 2)))) (pow-mono {j = 56} (omega (arith, shift-fits))))
-
-  pub shift-from : 4 ^ n ≤ shifted
-  shift-from =
-      le-trans (le-trans (le-of-eq (four-pow n ∙ sym (pow-add 2 n n))) (le-trans (pow-mono {j = p - 1 + (rootShift p e - n * 2)} (omega (arith, W .more))) (le-of-eq (pow-add 2 (p - 1) (rootShift p e - n * 2)))))
-      (mul-le-mul {m₁ = 2 ^ (rootShift p e - n * 2)} (le-trans lead (norm .at-least)) (le-of-eq refl))
+  pub shift-whole : firstPairs shifted (p + 1) ≡ m * 2 ^ rootShift p e
+  shift-whole = ap (λ (x : ℕ). x / 2 ^ 54) grown ∙ cancel (m * 2 ^ rootShift p e)
     where
-      lead : 2 ^ (p - 1) ≤ h
-      lead = with-widths (λ p h l. 2 ^ (p - 1) ≤ h) W (le-of-eq refl)
+      cancel : (x : ℕ) → x * 2 ^ 54 / 2 ^ 54 ≡ x
+      cancel x = omega arith
 
-  pub shift-whole : shifted * 4 ^ n ≡ m * 2 ^ rootShift p e
-  shift-whole =
-      mul-assoc m (2 ^ (rootShift p e - n * 2)) (4 ^ n)
-      ∙ ap (λ (x : ℕ). m * x) (ap (λ (x : ℕ). 2 ^ (rootShift p e - n * 2) * x) (four-pow n ∙ sym (pow-add 2 n n)) ∙ sym (pow-add 2 (rootShift p e - n * 2) (n + n)) ∙ ap (λ (x : ℕ). 2 ^ x) (omega (arith, W .more)))
+      grown : shifted * 4 ^ (p + 1) ≡ m * 2 ^ rootShift p e * 2 ^ 54
+      grown =
+          ap (λ (x : ℕ). shifted * x) (four-pow (p + 1)) ∙ sym (mul-assoc shifted (2 ^ (p + 1)) (2 ^ (p + 1)))
+          ∙ pow-regroup m (rootShift p e + 52 - p * 2) (p + 1) (p + 1) (rootShift p e) 54 (omega (arith, format-bounds W .digits-le))
 
   -- ---- the answer
   pub root-pattern-is : (w r : ℕ) → b < ones f * h → IsWholeRoot (m * 2 ^ rootShift p e) w r → IsRootPattern f b (((e - rootShift p e) / 2 + 1) * h + (w + 1) / 2)

@@ -4,3 +4,4 @@ pub mod Root
 pub mod Truncate
 pub mod inner
 pub mod Examples
+pub mod TurnsExamples

@@ -23,13 +23,11 @@ pub record IsNormalized (m e h m′ e′ : ℕ) : Type 0 where
 abbrev pub formatOf : ℕ → Format
 formatOf p = cond (eqb p 53) binary64 binary32
 
--- the numbers of a format: its digits, the weight of its exponent's field, minus the exponent of its smallest value; and n digits of the root that are made by division, so that the rest fits 56 digits
-pub record Widths (f : Format) (p h l n : ℕ) : Type 0 where
+-- the numbers of a format: its digits, the weight of its exponent's field, minus the exponent of its smallest value
+pub record Widths (f : Format) (p h l : ℕ) : Type 0 where
   pub digits : p ≡ prec f
   pub lead : h ≡ hid f
   pub least : l ≡ low f
-  pub more : 2 * n ≤ p
-  pub fits : 2 * p + 2 ≤ 56 + 2 * n
 
 -- r is the pattern of a finite value, the root of what has the pattern b
 pub record IsRootPattern (f : Format) (b r : ℕ) : Type 0 where

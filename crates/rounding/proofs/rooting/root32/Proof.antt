@@ -12,7 +12,7 @@ float-to-bits-b : tie.Need-float-to-bits-b
 float-to-bits-b c = above-number binary32 (c .before .args .x) (c .if1 .taken)
 
 root-pattern-requires : tie.Need-root-pattern-requires
-root-pattern-requires c κs = (record { digits = refl; lead = refl; least = refl; more = search needs; fits = search needs }, (bits-pos binary32 (c .before .before .args .x) (c .before .if1 .taken) (search needs), search needs))
+root-pattern-requires c κs = (record { digits = refl; lead = refl; least = refl }, (bits-pos binary32 (c .before .before .args .x) (c .before .if1 .taken) (search needs), search needs))
 
 float-from-bits-result : tie.Need-float-from-bits-result
 float-from-bits-result c = not-nan-bits binary32 (c .root-pattern .result) (le-of-lt (c .root-pattern .ensures .finite))

@@ -1,13 +1,13 @@
 -- `rounding::rooting::root_pattern` meets its contract: each number fits, and the law of the root (`root-pattern-is`) gives the pattern.
-use mathlib.Core.Path.{sym, ap, _∙_, subst}
-use Prim.Native.Nat.{ℕ, _+_, _-_, _*_, _/_, _^_, _<_}
+use mathlib.Core.Path.{sym, subst}
+use Prim.Native.Nat.{ℕ, _+_, _-_, _*_, _/_, _^_, _≤_, _<_}
 use native.Mathlib.Nat.{le-trans, le-add-left, le-add-right, lt-of-le-of-lt, div-lt-iff-lt-mul}
 use lib.Pow.{pow-mono}
 use Rattle.rounding.specs.inner.Pick.{digitsOf}
 use Rattle.rounding.specs.inner.Parts.{IsWholeRoot, IsNormalized, IsRootPattern, formatOf}
 use Rattle.rounding.proofs.Patterns.{digits-lt, digits-pos}
 use Rattle.rounding.proofs.RootLaw.{rootShift}
-use Rattle.rounding.proofs.Widths.{format-bounds, pattern-lt, shift-le, shift-is, shift-lt, shift-from, shift-whole, whole-root-lt, root-pattern-is}
+use Rattle.rounding.proofs.Widths.{format-bounds, pattern-lt, shift-le, shift-lt, shift-is, shift-whole, whole-root-lt, root-pattern-is}
 use borrow.Author.Needs.{needs}
 use native.Mathlib.Omega.{arith}
 use Rattle.rounding.proofs.rooting.root_pattern.Statement.{statement}
@@ -16,6 +16,9 @@ use Rattle.rounding.proofs.rooting.root_pattern.Tie as tie
 -- the exponent's field is below that of an infinity
 field-lt : (c : tie.Start) → c .args .b / c .args .hid < 2047
 field-lt c = let s = format-bounds (c .pre .0) in let l = div-lt-iff-lt-mul (s .some) .1 (c .pre .1 .1) in omega (arith, s .fields)
+
+prec-le : (c : tie.After-normalize) → c .before .before .before .args .prec ≤ 53
+prec-le c = format-bounds (c .before .before .before .pre .0) .digits-le
 
 normalized : (c : tie.After-normalize) → let a = c .before .before .before .args in IsNormalized (digitsOf (a .hid) (a .b)) (a .b / a .hid - 1 + a .low) (a .hid) (c .normalize .result .m) (c .normalize .result .e)
 normalized c =
@@ -37,9 +40,7 @@ whole-root c =
     let S = c .before .before .before .before .before in
     let y = c .before .before .normalize .result in
     let N = normalized (c .before .before) in
-    subst (λ (x : ℕ). IsWholeRoot x (c .root-digits .result .root) (c .root-digits .result .rest))
-    (ap (λ (x : ℕ). x * 4 ^ S .args .n) (shift-is (S .pre .0) (S .args .b) (y .m) (y .e) (S .pre .1 .0) N) ∙ shift-whole (S .pre .0) (S .args .b) (y .m) (y .e) (S .pre .1 .0) N)
-    (c .root-digits .ensures)
+    rw (shift-is (S .pre .0) (S .args .b) (y .m) (y .e) (S .pre .1 .0) N, shift-whole (S .pre .0) (S .args .b) (y .m) (y .e) (S .pre .1 .0) N) at (c .root-digits .ensures)
 
 answered : (c : tie.After-root-digits)
     → let S = c .before .before .before .before .before in
@@ -65,19 +66,39 @@ normalize-requires c κs =
     let less : x .result .m < 2 * S .args .hid = subst (λ (y : ℕ). y < 2 * S .args .hid) (sym (x .ensures .0)) (digits-lt (S .args .hid) (S .args .b) (s .some)) in
     (some, (less, (omega arith, le-trans (s .deep) (pow-mono (le-add-left (S .args .low) (x .result .e))))))
 
+add-shift : tie.Need-add-shift
+add-shift c = omega (arith, prec-le c)
+
 add-shift-2 : tie.Need-add-shift-2
 add-shift-2 c = omega (arith, exponent-fits c)
 
 add-shift-3 : tie.Need-add-shift-3
 add-shift-3 c = exponent-fits c
 
+add-shift-4 : tie.Need-add-shift-4
+add-shift-4 c = omega (arith, prec-le c)
+
+add-root-digits : tie.Need-add-root-digits
+add-root-digits c = omega (arith, prec-le c)
+
+mul-root-digits : tie.Need-mul-root-digits
+mul-root-digits c = omega (arith, prec-le c)
+
+sub-root-digits : tie.Need-sub-root-digits
+sub-root-digits c = omega (arith, prec-le c)
+
+shl-root-digits : tie.Need-shl-root-digits
+shl-root-digits c = omega (arith, prec-le (c .before), format-bounds (c .before .before .before .before .pre .0) .digits-ge)
+
+add-root-digits-2 : tie.Need-add-root-digits-2
+add-root-digits-2 c = omega (arith, prec-le (c .before))
+
 root-digits-requires : tie.Need-root-digits-requires
 root-digits-requires c κs =
     let S = c .before .before .before .before in
     let y = c .before .normalize .result in
-    let W = S .pre .0 in
-    rw (shift-is W (S .args .b) (y .m) (y .e) (S .pre .1 .0) (normalized (c .before)))
-    (shift-lt W (S .args .b) (y .m) (y .e) (S .pre .1 .0) (normalized (c .before)), (omega (arith, W .more, format-bounds W .digits), shift-from W (S .args .b) (y .m) (y .e) (S .pre .1 .0) (normalized (c .before))))
+    let N = normalized (c .before) in
+    rw (shift-is (S .pre .0) (S .args .b) (y .m) (y .e) (S .pre .1 .0) N) (shift-lt (S .pre .0) (S .args .b) (y .m) (y .e) (S .pre .1 .0) N, omega (arith, prec-le (c .before)))
 
 sub-result : tie.Need-sub-result
 sub-result c = let S = c .before .before .before .before .before in let y = c .before .before .normalize .result in shift-le (S .pre .0) (S .args .b) (y .m) (y .e) (S .pre .1 .0) (normalized (c .before .before))
@@ -105,10 +126,15 @@ root-pattern-spec =
     decode-requires
     add-normalize
     normalize-requires
-    (λ c. search needs)
+    add-shift
     add-shift-2
     add-shift-3
-    (λ c. search needs) (λ c. search needs) (λ c. search needs) (λ c. search needs)
+    add-shift-4
+    add-root-digits
+    mul-root-digits
+    sub-root-digits
+    shl-root-digits
+    add-root-digits-2
     root-digits-requires
     sub-result
     (λ c. search needs)
