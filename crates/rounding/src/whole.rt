@@ -36,7 +36,7 @@ fn one_digit(r: RootAndRest, pair: u64) -> RootAndRest
 {
     let have = 4 * r.rest + pair;
     let need = 4 * r.root + 1;
-    let digit = (need <= have) as u64;
+    let digit = if need <= have { 1 } else { 0 };
     RootAndRest {
         root: 2 * r.root + digit,
         rest: have - need * digit,

@@ -1,54 +1,64 @@
--- `rounding::whole::one_digit` meets its contract: the number of the test is the digit of the definition, and every number fits, since what is taken away is there.
-use mathlib.Core.Path.{_≡_, refl}
-use Prim.Native.Nat.{ℕ, _+_, _*_, _^_, _≤_, _<_}
+-- `rounding::whole::one_digit` meets its contract: the digit is that of the definition, by its test, and every number fits, since what is taken away is there.
+use mathlib.Core.Path.{_≡_, refl, sym, _∙_}
+use mathlib.Core.Logic.{⊎-elim}
+use Prim.Native.Nat.{ℕ, _*_, _≤_, _<_}
 use native.Mathlib.Omega.{arith}
 use mathlib.Core.Bool.{Bool, true, false, cond}
 use borrow.Author.Needs.{needs}
-use borrow.Author.Tests.{leb-true}
+use borrow.Author.Tests.{leb-true, leb-false, le-leb, lt-leb}
 use lib.Dec.{leb}
-use mir.Val.{boolByte}
+use Rattle.rounding.specs.inner.Digits.{have, need, nextDigit}
 use Rattle.rounding.proofs.whole.one_digit.Statement.{statement}
 use Rattle.rounding.proofs.whole.one_digit.Tie as tie
 
--- ---- the answer
-number-of-test : (d : Bool) → boolByte d ≡ cond d 1 0
-number-of-test true = refl
-number-of-test false = refl
+-- ---- the digit
+digit-one : (root rest pair : ℕ) → need root ≤ have rest pair → nextDigit root rest pair ≡ 1
+digit-one root rest pair l = rw (le-leb (need root) (have rest pair) l) refl
+
+digit-zero : (root rest pair : ℕ) → have rest pair < need root → nextDigit root rest pair ≡ 0
+digit-zero root rest pair l = rw (lt-leb (need root) (have rest pair) l) refl
+
+digit-is : (c : tie.After-row-known) → let a = c .before .before .before .before .before .args in c .before .before .if1 .digit ≡ nextDigit (a .r .root) (a .r .rest) (a .pair)
+digit-is c =
+    let a = c .before .before .before .before .before .args in
+    ⊎-elim
+    (λ w. w .1 ∙ sym (digit-one (a .r .root) (a .r .rest) (a .pair) (omega (arith, leb-true, w .0 .taken))))
+    (λ w. w .1 ∙ sym (digit-zero (a .r .root) (a .r .rest) (a .pair) (omega (arith, leb-false, w .0 .left))))
+    (c .before .before .if1 .came)
 
 returns : tie.Need-returns
-returns c = rw number-of-test (omega arith, omega arith)
+returns c = rw (digit-is c) (refl, refl)
 
 -- ---- every number fits
-root-fits : (root : ℕ) (d : Bool) → root < 2 ^ 60 → mir.Val.Fits mir.Syntax.w64 (2 * root + boolByte d)
-root-fits root true l = omega arith
-root-fits root false l = omega arith
-
-need-fits : (root : ℕ) (d : Bool) → root < 2 ^ 60 → mir.Val.Fits mir.Syntax.w64 ((4 * root + 1) * boolByte d)
-need-fits root true l = omega arith
-need-fits root false l = omega arith
-
-taken-le : (x y : ℕ) → x * boolByte (leb x y) ≤ y
-taken-le x y = go (leb x y) refl
+digit-le : (root rest pair : ℕ) → nextDigit root rest pair ≤ 1
+digit-le root rest pair = go (leb (need root) (have rest pair))
   where
-    go : (d : Bool) → leb x y ≡ d → x * boolByte d ≤ y
-    go true t = let l = leb-true x y t in omega arith
+    go : (d : Bool) → cond d 1 0 ≤ 1
+    go true = omega arith
+    go false = omega arith
+
+taken-le : (root rest pair : ℕ) → need root * nextDigit root rest pair ≤ have rest pair
+taken-le root rest pair = go (leb (need root) (have rest pair)) refl
+  where
+    go : (d : Bool) → leb (need root) (have rest pair) ≡ d → need root * cond d 1 0 ≤ have rest pair
+    go true t = omega (arith, leb-true, t)
     go false t = omega arith
 
-add-t8 : tie.Need-add-t8
-add-t8 c = search (needs, root-fits)
+add-t9 : tie.Need-add-t9
+add-t9 c = let a = c .before .before .before .before .before .args in omega (arith, digit-is c, digit-le (a .r .root) (a .r .rest) (a .pair))
 
-mul-t9 : tie.Need-mul-t9
-mul-t9 c = search (needs, need-fits)
+mul-t10 : tie.Need-mul-t10
+mul-t10 c = let a = c .before .before .before .before .before .args in rw (digit-is c) (omega (arith, taken-le (a .r .root) (a .r .rest) (a .pair)))
 
-sub-t10 : tie.Need-sub-t10
-sub-t10 c = search (needs, taken-le)
+sub-t11 : tie.Need-sub-t11
+sub-t11 c = let a = c .before .before .before .before .before .args in rw (digit-is c) (taken-le (a .r .root) (a .r .rest) (a .pair))
 
 pub one-digit-spec : {M : Type 1} → statement M
 one-digit-spec =
     tie.close
     (tie.spec
-    (λ c. search needs) (λ c. search needs) (λ c. search needs) (λ c. search needs) (λ c. search needs) (λ c. search needs)
-    add-t8
-    mul-t9
-    sub-t10
+    (λ c. search needs) (λ c. search needs) (λ c. search needs) (λ c. search needs) (λ c. search needs)
+    add-t9
+    mul-t10
+    sub-t11
     returns)
