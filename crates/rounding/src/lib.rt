@@ -1,7 +1,8 @@
 // Rounding, worked out from bits: a float to the other width, its square root, and its whole part.
 //
 // Each public function answers for every pattern, and has no `requires`. What is nearest is said by
-// comparing whole numbers (`specs/Nearest.antt`), and no step of the code stands in a definition.
+// comparing whole numbers (`specs/Nearest.antt`): no step of the code stands in what the contracts of
+// these functions name.
 mod narrowing;
 mod pattern;
 mod rooting;
