@@ -1,4 +1,4 @@
--- What `IsWholeRoot` says: w * w ≤ n < (w + 1) * (w + 1), and what bounds w. By arithmetic. All that lies outside of `whole` cites these laws only.
+-- What `IsWholeRoot` says: w * w ≤ n < (w + 1) * (w + 1), and what bounds w. By arithmetic. What lies outside of `whole` cites these laws, and of `Digits.antt` only `no-tie`.
 use Prim.Native.Nat.{ℕ, suc, _*_, _≤_, _<_}
 use native.Mathlib.Nat.{le-trans, le-of-suc-le-suc, lt-of-not-le, not-le-of-lt, mul-le-mul}
 use native.Mathlib.Omega.{arith}

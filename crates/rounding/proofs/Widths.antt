@@ -1,7 +1,7 @@
 -- The root's laws for a format's numbers as the code is given them, by replacing them with the format's own, and that every number on the way fits 64 bits.
 use mathlib.Core.Path.{_≡_, refl, sym, ap, _∙_, subst}
 use Prim.Native.Nat.{ℕ, _+_, _-_, _*_, _/_, _%_, _^_, _≤_, _<_}
-use native.Mathlib.Nat.{le-of-eq, lt-of-lt-of-le, mul-assoc, mul-lt-mul-of-pos-right}
+use native.Mathlib.Nat.{le-of-eq, lt-of-lt-of-le, mul-assoc, mul-lt-mul-of-pos-right, mul-div-cancel}
 use native.Mathlib.Omega.{arith}
 use lib.Dec.{T, lit≤}
 use lib.Pow.{pow-add, pow-pos, pow-mono, shl-exact}
@@ -55,11 +55,8 @@ module _ {f : Format} {p h l : ℕ} (W : Widths f p h l) (b m e : ℕ) (some : 0
   shift-is = shl-exact p (rootShift p e + 52 - p * 2) 64 m-lt (omega (arith, format-bounds W .digits-le))
 
   pub shift-whole : firstPairs shifted (p + 1) ≡ m * 2 ^ rootShift p e
-  shift-whole = ap (λ (x : ℕ). x / 2 ^ 54) grown ∙ cancel (m * 2 ^ rootShift p e)
+  shift-whole = ap (λ (x : ℕ). x / 2 ^ 54) grown ∙ mul-div-cancel (m * 2 ^ rootShift p e) (lit≤ tt)
     where
-      cancel : (x : ℕ) → x * 2 ^ 54 / 2 ^ 54 ≡ x
-      cancel x = omega arith
-
       grown : shifted * 4 ^ (p + 1) ≡ m * 2 ^ rootShift p e * 2 ^ 54
       grown =
           ap (λ (x : ℕ). shifted * x) (four-pow (p + 1)) ∙ sym (mul-assoc shifted (2 ^ (p + 1)) (2 ^ (p + 1)))

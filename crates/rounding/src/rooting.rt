@@ -53,7 +53,7 @@ fn root_pattern(b: u64, prec: u64, hid: u64, low: u64) -> u64
     let y = pattern::normalize(x.m, x.e + low, hid);
     let e = y.e;
     let shift = prec + 1 + (e + prec + 1) % 2;
-    // a pair for each digit of the root, at the top of 54 digits
+    // one pair for each digit of the root, at the top of 54 digits
     let r = whole::root_digits(y.m << (shift + 52 - prec * 2), prec + 1);
     ((e - shift) / 2 + 1) * hid + (r.root + 1) / 2
 }

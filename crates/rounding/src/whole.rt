@@ -1,5 +1,5 @@
-// The whole root of a number, digit by digit: whole numbers only. `root_digits` is all that the root
-// sees of it. docs/ROOT.md explains the method and works an example.
+// The whole root of a number, digit by digit. `root_digits` is all that the root sees of it.
+// docs/ROOT.md explains the method and works an example.
 ghost use mathlib.Core.Path.{_≡_};
 ghost use Prim.Native.Nat.{_≤_, _<_, _^_};
 ghost use Rattle.rounding.specs.inner.Parts.{IsWholeRoot};
@@ -28,8 +28,8 @@ pub fn root_digits(a: u64, n: u64) -> RootAndRest
     r
 }
 
-// The root and the rest with one pair more brought down. The digit is a number: as an `if` with two
-// results it would be a branch, mispredicted half of the time.
+// One turn: the root and the rest with one pair more brought down. The digit is a number and a factor:
+// an `if` that makes both results is a branch, mispredicted half of the time.
 fn one_digit(r: RootAndRest, pair: u64) -> RootAndRest
     requires { ⌜ r .root < 2 ^ 60 ⌝ ∗ ⌜ r .rest < 2 ^ 60 ⌝ ∗ ⌜ pair < 4 ⌝ }
     ensures { λ s. ⌜ (s .root ≡ nextRoot (r .root) (r .rest) pair) × (s .rest ≡ nextRest (r .root) (r .rest) pair) ⌝ }

@@ -1,22 +1,13 @@
 -- `rounding::whole::one_digit` meets its contract: the digit is that of the definition, by its test, and every number fits, since what is taken away is there.
 use mathlib.Core.Path.{_≡_, refl, sym, _∙_}
 use mathlib.Core.Logic.{⊎-elim}
-use Prim.Native.Nat.{ℕ, _*_, _≤_, _<_}
 use native.Mathlib.Omega.{arith}
-use mathlib.Core.Bool.{Bool, true, false, cond}
 use borrow.Author.Needs.{needs}
-use borrow.Author.Tests.{leb-true, leb-false, le-leb, lt-leb}
-use lib.Dec.{leb}
-use Rattle.rounding.specs.inner.Digits.{have, need, nextDigit}
+use borrow.Author.Tests.{leb-true, leb-false}
+use Rattle.rounding.specs.inner.Digits.{nextDigit}
+use Rattle.rounding.proofs.Digits.{digit-one, digit-zero, digit-le, taken-le}
 use Rattle.rounding.proofs.whole.one_digit.Statement.{statement}
 use Rattle.rounding.proofs.whole.one_digit.Tie as tie
-
--- ---- the digit
-digit-one : (root rest pair : ℕ) → need root ≤ have rest pair → nextDigit root rest pair ≡ 1
-digit-one root rest pair l = rw (le-leb (need root) (have rest pair) l) refl
-
-digit-zero : (root rest pair : ℕ) → have rest pair < need root → nextDigit root rest pair ≡ 0
-digit-zero root rest pair l = rw (lt-leb (need root) (have rest pair) l) refl
 
 digit-is : (c : tie.After-row-known) → let a = c .before .before .before .before .before .args in c .before .before .if1 .digit ≡ nextDigit (a .r .root) (a .r .rest) (a .pair)
 digit-is c =
@@ -26,24 +17,6 @@ digit-is c =
     (λ w. w .1 ∙ sym (digit-zero (a .r .root) (a .r .rest) (a .pair) (omega (arith, leb-false, w .0 .left))))
     (c .before .before .if1 .came)
 
-returns : tie.Need-returns
-returns c = rw (digit-is c) (refl, refl)
-
--- ---- every number fits
-digit-le : (root rest pair : ℕ) → nextDigit root rest pair ≤ 1
-digit-le root rest pair = go (leb (need root) (have rest pair))
-  where
-    go : (d : Bool) → cond d 1 0 ≤ 1
-    go true = omega arith
-    go false = omega arith
-
-taken-le : (root rest pair : ℕ) → need root * nextDigit root rest pair ≤ have rest pair
-taken-le root rest pair = go (leb (need root) (have rest pair)) refl
-  where
-    go : (d : Bool) → leb (need root) (have rest pair) ≡ d → need root * cond d 1 0 ≤ have rest pair
-    go true t = omega (arith, leb-true, t)
-    go false t = omega arith
-
 add-t9 : tie.Need-add-t9
 add-t9 c = let a = c .before .before .before .before .before .args in omega (arith, digit-is c, digit-le (a .r .root) (a .r .rest) (a .pair))
 
@@ -52,6 +25,9 @@ mul-t10 c = let a = c .before .before .before .before .before .args in rw (digit
 
 sub-t11 : tie.Need-sub-t11
 sub-t11 c = let a = c .before .before .before .before .before .args in rw (digit-is c) (taken-le (a .r .root) (a .r .rest) (a .pair))
+
+returns : tie.Need-returns
+returns c = rw (digit-is c) (refl, refl)
 
 pub one-digit-spec : {M : Type 1} → statement M
 one-digit-spec =
