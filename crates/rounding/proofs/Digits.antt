@@ -58,7 +58,7 @@ digits-left-next a i = ap (λ (x : ℕ). x % 2 ^ 54) (four-times a i) ∙ split 
     split : (x : ℕ) → x * 4 % 2 ^ 54 ≡ x % 2 ^ 54 * 4 % 2 ^ 54
     split x = omega arith
 
-pub next-pair-lt : (a i : ℕ) → nextPair a i < 4
+next-pair-lt : (a i : ℕ) → nextPair a i < 4
 next-pair-lt a i = omega arith
 
 -- ---- after i turns: the root of the number that the first i pairs spell, which has i digits

@@ -46,16 +46,18 @@ module _ {f : Format} {p h l : ℕ} (W : Widths f p h l) (b m e : ℕ) (some : 0
   m-lt : m < 2 ^ p
   m-lt = lt-of-lt-of-le (norm .less-than) (le-of-eq (format-bounds W .twice))
 
-  pub shift-lt : shifted < 2 ^ 54
-  shift-lt =
-      lt-of-lt-of-le (mul-lt-mul-of-pos-right m-lt (pow-pos (rootShift p e + 52 - p * 2)))
-      (rw (← pow-add 2 p (rootShift p e + 52 - p * 2)) (pow-mono {j = 54} (omega (arith, format-bounds W .digits-le))))
-
-  pub shift-is : shifted % 2 ^ 64 ≡ shifted
+  -- the shift drops nothing
+  shift-is : shifted % 2 ^ 64 ≡ shifted
   shift-is = shl-exact p (rootShift p e + 52 - p * 2) 64 m-lt (omega (arith, format-bounds W .digits-le))
 
-  pub shift-whole : firstPairs shifted (p + 1) ≡ m * 2 ^ rootShift p e
-  shift-whole = ap (λ (x : ℕ). x / 2 ^ 54) grown ∙ mul-div-cancel (m * 2 ^ rootShift p e) (lit≤ tt)
+  pub shift-lt : shifted % 2 ^ 64 < 2 ^ 54
+  shift-lt =
+      rw shift-is
+      (lt-of-lt-of-le (mul-lt-mul-of-pos-right m-lt (pow-pos (rootShift p e + 52 - p * 2)))
+      (rw (← pow-add 2 p (rootShift p e + 52 - p * 2)) (pow-mono {j = 54} (omega (arith, format-bounds W .digits-le)))))
+
+  pub shift-whole : firstPairs (shifted % 2 ^ 64) (p + 1) ≡ m * 2 ^ rootShift p e
+  shift-whole = rw shift-is (ap (λ (x : ℕ). x / 2 ^ 54) grown ∙ mul-div-cancel (m * 2 ^ rootShift p e) (lit≤ tt))
     where
       grown : shifted * 4 ^ (p + 1) ≡ m * 2 ^ rootShift p e * 2 ^ 54
       grown =

@@ -57,7 +57,7 @@ table =
     ∷ turn 0 19268956 47453133 0 23726566 19268956
     ∷ []
 
--- the number is 2 ^ 49, of 25 pairs, at the top of 54 digits
-pub table-holds : computedFrom (2 ^ 49 * 2 ^ 4) 0 25 ≡ table
+-- the significand is 2 ^ 23, grown by 26; the 25 pairs stand at the top of 54 digits
+pub table-holds : computedFrom (2 ^ 23 * 2 ^ 26 * 2 ^ 4) 0 25 ≡ table
 unfolding computed computedFrom turns
 table-holds = refl

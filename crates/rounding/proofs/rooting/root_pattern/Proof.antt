@@ -7,7 +7,7 @@ use Rattle.rounding.specs.inner.Pick.{digitsOf}
 use Rattle.rounding.specs.inner.Parts.{IsWholeRoot, IsNormalized, IsRootPattern, formatOf}
 use Rattle.rounding.proofs.Patterns.{digits-lt, digits-pos}
 use Rattle.rounding.proofs.RootLaw.{rootShift}
-use Rattle.rounding.proofs.Widths.{format-bounds, pattern-lt, shift-le, shift-lt, shift-is, shift-whole, whole-root-lt, root-pattern-is}
+use Rattle.rounding.proofs.Widths.{format-bounds, pattern-lt, shift-le, shift-lt, shift-whole, whole-root-lt, root-pattern-is}
 use borrow.Author.Needs.{needs}
 use native.Mathlib.Omega.{arith}
 use Rattle.rounding.proofs.rooting.root_pattern.Statement.{statement}
@@ -39,8 +39,7 @@ whole-root : (c : tie.After-root-digits)
 whole-root c =
     let S = c .before .before .before .before .before in
     let y = c .before .before .normalize .result in
-    let N = normalized (c .before .before) in
-    rw (shift-is (S .pre .0) (S .args .b) (y .m) (y .e) (S .pre .1 .0) N, shift-whole (S .pre .0) (S .args .b) (y .m) (y .e) (S .pre .1 .0) N) at (c .root-digits .ensures)
+    rw (shift-whole (S .pre .0) (S .args .b) (y .m) (y .e) (S .pre .1 .0) (normalized (c .before .before))) at (c .root-digits .ensures)
 
 answered : (c : tie.After-root-digits)
     → let S = c .before .before .before .before .before in
@@ -97,8 +96,7 @@ root-digits-requires : tie.Need-root-digits-requires
 root-digits-requires c κs =
     let S = c .before .before .before .before in
     let y = c .before .normalize .result in
-    let N = normalized (c .before) in
-    rw (shift-is (S .pre .0) (S .args .b) (y .m) (y .e) (S .pre .1 .0) N) (shift-lt (S .pre .0) (S .args .b) (y .m) (y .e) (S .pre .1 .0) N, omega (arith, prec-le (c .before)))
+    (shift-lt (S .pre .0) (S .args .b) (y .m) (y .e) (S .pre .1 .0) (normalized (c .before)), omega (arith, prec-le (c .before)))
 
 sub-result : tie.Need-sub-result
 sub-result c = let S = c .before .before .before .before .before in let y = c .before .before .normalize .result in shift-le (S .pre .0) (S .args .b) (y .m) (y .e) (S .pre .1 .0) (normalized (c .before .before))
