@@ -1,9 +1,11 @@
 /* Fulandewu: vector blobs read, written, converted, measured and compared, and files of vectors read and
  * filled, each by a proved function.
  *
- * Link with libfulandewu.a (`rt staticlib fulandewu` makes target/staticlib/libfulandewu.a, x86-64):
+ * Link with libfulandewu.a. There is one for 64-bit Linux on x86-64 (`embed/build x86-64` makes it, and so does
+ * `rt staticlib fulandewu`) and one on aarch64 (`embed/build aarch64`):
  *
  *     cc -I include program.c target/staticlib/libfulandewu.a
+ *     cc -I include program.c target/aarch64/libfulandewu.a
  *
  * What every function keeps to:
  *
@@ -129,7 +131,7 @@ struct fulandewu_answer {
     uint64_t reserved[17];
 };
 
-/* Where this does not compile, the archive is not for the target: it is for 64-bit x86-64 Linux. */
+/* Where this does not compile, no archive is for the target: they are for 64-bit Linux on x86-64 and aarch64. */
 typedef char fulandewu_answer_has_256_bytes[sizeof(struct fulandewu_answer) == 256 ? 1 : -1];
 typedef char fulandewu_lengths_have_8_bytes[sizeof(size_t) == 8 ? 1 : -1];
 

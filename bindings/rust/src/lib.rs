@@ -1,6 +1,6 @@
 //! Vector blobs read, written, converted, measured and compared, and files of vectors read and filled,
 //! by proved functions: safe functions over `libfulandewu.a`. Every blob, pair, file and buffer gets a
-//! defined answer, and nothing panics.
+//! defined answer, and nothing panics. The archive is for 64-bit Linux, on x86-64 or aarch64.
 //!
 //! ```
 //! use fulandewu::{distance, read, Distance, Mode, Reason, VectorType};
