@@ -107,15 +107,24 @@ const ANSWER_BYTES = 256;
 
 const MODES = { plain: 0, strict: 1 };
 const DISTANCES = ['cos', 'l2', 'dot', 'jaccard'];
+/** @type {(Which | null)[]} */
 const WHICH = [null, 'first', 'second', 'probe'];
 const PAGE = 65_536;
 const NOTHING = new Uint8Array(0);
 
+/** The start of a window, as an export takes a place. */
+const START = 0n;
+
 /** The buffer that a refusal calls too short. */
 const TOO_SHORT = { 15: 'out', 17: 'scratch' };
 
+const FILE_ENDS_INSIDE = 19;
+
 /** The bytes of the longest vector in a file: its count and its elements. */
 const LONGEST_VECTOR = { fvecs: 4 + 4 * MOST_DIMS, bvecs: 4 + MOST_DIMS };
+
+/** How many bytes of a file a call is lent at first: most vectors end within them. */
+const SHORT_WINDOW = 4096;
 
 /** Whether the module can run here: a memory of 64-bit addresses compiles. */
 export function isSupported() {
@@ -125,7 +134,7 @@ export function isSupported() {
 
 /**
  * Loads fulandewu.wasm.
- * @param {BufferSource | WebAssembly.Module} source its bytes, or the compiled module
+ * @param {ArrayBuffer | Uint8Array | WebAssembly.Module} source its bytes, or the compiled module
  * @returns {Promise<Fulandewu>}
  */
 export async function load(source) {
@@ -134,10 +143,10 @@ export async function load(source) {
   return new Fulandewu((await WebAssembly.instantiate(module, {})).exports);
 }
 
-/** Bytes that a call writes to: they are copied back. */
+/** Bytes that a call writes to: they are copied back. No call writes more than the longest blob has. */
 class Lent {
   constructor(bytes) {
-    this.bytes = bytes;
+    this.bytes = bytes.subarray(0, LONGEST);
   }
 }
 
@@ -178,7 +187,7 @@ class Answer {
       words: WORDS[this.number],
       which: named ? WHICH[this.get('which')] : null,
       entry: carried('entry', 8, 10),
-      place: carried('place', 19),
+      place: carried('place', FILE_ENDS_INSIDE),
       need: carried('needed', 15, 17),
     };
     return { refusal };
@@ -187,13 +196,14 @@ class Answer {
 
 /** The functions of the module. */
 export class Fulandewu {
+  /** @type {any} */
   #exports;
   #start;
 
   /** @param {WebAssembly.Exports} exports of fulandewu.wasm; `load` hands them over */
   constructor(exports) {
     this.#exports = exports;
-    this.#start = 16 * Math.ceil(Number(exports.__heap_base.value) / 16);
+    this.#start = 16 * Math.ceil(Number(this.#exports.__heap_base.value) / 16);
   }
 
   /**
@@ -204,7 +214,7 @@ export class Fulandewu {
    */
   read(mode, blob) {
     if (!Object.hasOwn(MODES, mode)) throw new TypeError(`no mode is called ${mode}`);
-    const answer = this.#call('fulandewu_read', MODES[mode], bytes(blob));
+    const answer = this.#call('fulandewu_read', MODES[mode], blobBytes(blob));
     return answer.number ? answer.refused() : shown(answer.get('kind'), answer, blob);
   }
 
@@ -235,7 +245,7 @@ export class Fulandewu {
    * @returns {View | Refused}
    */
   convert(blob, kind, lent = {}) {
-    const fixed = [bytes(blob), typeByte(kind)];
+    const fixed = [blobBytes(blob), typeByte(kind)];
     const ask = ({ scratch, out }) => this.#call('fulandewu_convert', ...fixed, scratch, out);
     const { answer, room } = this.#inRoom(lent, ask);
     return answer.number ? answer.refused() : shown(kind, answer, room.out);
@@ -249,7 +259,7 @@ export class Fulandewu {
    * @returns {Measured | Refused}
    */
   distance(name, first, second) {
-    const answer = this.#call(`fulandewu_distance_${distanceName(name)}`, bytes(first), bytes(second));
+    const answer = this.#call(`fulandewu_distance_${distanceName(name)}`, blobBytes(first), blobBytes(second));
     if (answer.number) return answer.refused(true);
     const [readings, otherReadings] = [answer.get('readings'), answer.get('otherReadings')];
     return { refusal: null, ...answer.distance(), readings, otherReadings };
@@ -265,10 +275,10 @@ export class Fulandewu {
    * @returns {Nearer | Refused}
    */
   nearer(name, probe, first, second) {
-    const blobs = [probe, first, second].map(bytes);
+    const blobs = [probe, first, second].map(blobBytes);
     const answer = this.#call(`fulandewu_nearer_${distanceName(name)}`, ...blobs);
     if (answer.number) return answer.refused(true);
-    const nearer = WHICH[answer.get('nearer')];
+    const nearer = /** @type {'first' | 'second'} */ (WHICH[answer.get('nearer')]);
     return { refusal: null, nearer, ...answer.distance(), readings: answer.get('readings') };
   }
 
@@ -279,8 +289,8 @@ export class Fulandewu {
    * @returns {Found | Refused}
    */
   fvecsAt(file, place) {
-    const at = windowAt(bytes(file), whole(place), LONGEST_VECTOR.fvecs);
-    const answer = this.#call('fulandewu_fvecs_read', at.bytes, at.inside);
+    const ask = (at) => ({ at, answer: this.#call('fulandewu_fvecs_read', at.bytes, START) });
+    const { at, answer } = inWindows(bytes(file), whole(place), LONGEST_VECTOR.fvecs, ask);
     return found(answer, at, () => file.subarray(at.before + answer.get('start'), at.before + answer.get('next')));
   }
 
@@ -293,9 +303,9 @@ export class Fulandewu {
    * @returns {Found | Refused}
    */
   bvecsAt(file, place, out) {
-    const at = windowAt(bytes(file), whole(place), LONGEST_VECTOR.bvecs);
-    const ask = (lent) => this.#call('fulandewu_bvecs_read', at.bytes, at.inside, lent.out);
-    const { answer, room } = this.#inRoom({ out }, ask);
+    const call = (at) => (lent) => this.#call('fulandewu_bvecs_read', at.bytes, START, lent.out);
+    const ask = (at) => ({ at, ...this.#inRoom({ out }, call(at)) });
+    const { at, answer, room } = inWindows(bytes(file), whole(place), LONGEST_VECTOR.bvecs, ask);
     return found(answer, at, () => room.out.subarray(0, 4 * answer.get('dims')));
   }
 
@@ -305,6 +315,7 @@ export class Fulandewu {
    * @returns {Generator<View | Refused>}
    */
   fvecs(file) {
+    bytes(file);
     return walk((place) => this.fvecsAt(file, place));
   }
 
@@ -314,6 +325,7 @@ export class Fulandewu {
    * @returns {Generator<View | Refused>}
    */
   bvecs(file) {
+    bytes(file);
     return walk((place) => this.bvecsAt(file, place));
   }
 
@@ -326,8 +338,9 @@ export class Fulandewu {
    * @returns {{refusal: null, fill: number} | Refused}
    */
   appendFvecs(blob, out, fill) {
-    const at = windowAt(bytes(out), whole(fill), 4 + bytes(blob).length);
-    const answer = this.#call('fulandewu_fvecs_append', blob, new Lent(at.bytes), at.inside);
+    const from = blobBytes(blob);
+    const at = windowAt(bytes(out), whole(fill), 4 + from.length);
+    const answer = this.#call('fulandewu_fvecs_append', from, new Lent(at.bytes), START);
     return answer.number ? answer.refused() : { refusal: null, fill: at.before + answer.get('fill') };
   }
 
@@ -400,12 +413,21 @@ function view(kind, dims, readings, body) {
 }
 
 /**
- * What a call can touch of a long buffer: at most so many bytes from a place on. What is before them is added to
- * the places of its answer. A place past the end stays outside.
+ * What a call can touch of a long buffer: at most so many bytes from a place on, none past its end. The call is about
+ * their start, and what is before them is added to the places of its answer.
  */
 function windowAt(buffer, place, most) {
   const before = Math.min(place, buffer.length);
-  return { bytes: buffer.subarray(before, before + most), before, inside: BigInt(place - before) };
+  return { bytes: buffer.subarray(before, before + most), before };
+}
+
+/**
+ * Asks about the vector at a place of a file with a short window, and where that ends inside it, with one that is
+ * long enough for every vector. What follows a vector changes nothing.
+ */
+function inWindows(file, place, longest, ask) {
+  const short = ask(windowAt(file, place, SHORT_WINDOW));
+  return short.answer.number === FILE_ENDS_INSIDE ? ask(windowAt(file, place, longest)) : short;
 }
 
 /** What a call found in a file, with the elements of its vector. */
@@ -434,6 +456,11 @@ function* walk(at) {
 function bytes(given) {
   if (!(given instanceof Uint8Array)) throw new TypeError('bytes are to be a Uint8Array');
   return given;
+}
+
+/** A blob, as far as it is looked at: with one byte over the limit it is refused as with all of them. */
+function blobBytes(given) {
+  return bytes(given).subarray(0, LONGEST + 1);
 }
 
 function whole(given) {
