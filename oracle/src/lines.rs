@@ -2,22 +2,35 @@
 
 use crate::differences::{bits_32, bits_64, MOST_LENGTH};
 use crate::hex;
-use crate::oracle::{Nearer, Oracle, Refused, Shown};
-use crate::rules::{Kind, Measure, Refusal, View};
+use crate::oracle::Oracle;
+use crate::request::{Answer, Mode, Refused, Reply, Request, Shown, Vecs};
+use crate::rules::{Kind, Measure, View};
 
-#[derive(Clone, Copy)]
+#[derive(Clone, Copy, Debug, PartialEq, Eq)]
 pub enum Program {
     Vecdist,
     Vecprobe,
 }
 
 impl Program {
-    pub fn named(name: &str) -> Option<Self> {
-        match name {
-            "vecdist" => Some(Self::Vecdist),
-            "vecprobe" => Some(Self::Vecprobe),
-            _ => None,
+    pub fn name(self) -> &'static str {
+        match self {
+            Self::Vecdist => "vecdist",
+            Self::Vecprobe => "vecprobe",
         }
+    }
+
+    /// The one that answers such a request.
+    pub fn of(request: &Request) -> Self {
+        match request {
+            Request::Distance { .. } => Self::Vecdist,
+            _ => Self::Vecprobe,
+        }
+    }
+
+    pub fn named(name: &str) -> Option<Self> {
+        let mut programs = [Self::Vecdist, Self::Vecprobe].into_iter();
+        programs.find(|program| program.name() == name)
     }
 
     /// How many bytes a line may have before its newline.
@@ -31,62 +44,98 @@ impl Program {
     /// The answer to a line, without its number; `X` for a line of another shape.
     pub fn answer(self, line: &[u8], oracle: &mut Oracle) -> String {
         let fields: Vec<&[u8]> = line.split(|&byte| byte == b'\t').collect();
+        let answered = |request: Request| printed(&oracle.answer(&request));
         let answer = match self {
             _ if line.len() > self.longest() => None,
-            Self::Vecdist => vecdist(&fields, oracle),
-            Self::Vecprobe => vecprobe(&fields, oracle),
+            Self::Vecdist => distance(&fields).map(answered),
+            Self::Vecprobe => rounded(&fields).or_else(|| probe(&fields).map(answered)),
         };
         answer.unwrap_or_else(|| "X".to_string())
     }
 }
 
-fn vecdist(fields: &[&[u8]], oracle: &mut Oracle) -> Option<String> {
+/// What the fields of a `vecdist` line ask.
+fn distance(fields: &[&[u8]]) -> Option<Request> {
     let &[name, a, b] = fields else { return None };
-    let (a, b) = (hex::decode(a)?, hex::decode(b)?);
-    Some(match oracle.distance(measure(name)?, &a, &b) {
-        Ok(distance) => format!("D\t{:016x}", distance.to_bits()),
-        Err(refused) => named(refused),
-    })
+    let blobs = [hex::decode(a)?, hex::decode(b)?];
+    let measure = measure(name)?;
+    Some(Request::Distance { measure, blobs })
 }
 
-fn vecprobe(fields: &[&[u8]], oracle: &mut Oracle) -> Option<String> {
+/// The answer to the fields of a `vecprobe` line about one float.
+fn rounded(fields: &[&[u8]]) -> Option<String> {
     Some(match *fields {
         [b"root", b"32", f] => format!("F\t{:08x}", bits_32(single(f)?.sqrt())),
         [b"root", b"64", f] => format!("F\t{:016x}", bits_64(double(f)?.sqrt())),
         [b"narrow", f] => format!("F\t{:08x}", bits_32(double(f)? as f32)),
         [b"widen", f] => format!("F\t{:016x}", bits_64(single(f)? as f64)),
         [b"trunc", f] => format!("F\t{:02x}", truncated(single(f)?)),
-        [b"read", blob] => shown('V', oracle.read(&hex::decode(blob)?)),
-        [b"strict", blob] => shown('V', oracle.strict(&hex::decode(blob)?)),
-        [b"conv", target, blob] => {
-            let (target, blob) = (kind(target)?, hex::decode(blob)?);
-            shown('C', oracle.convert(&blob, target))
-        }
-        [b"write", to, count, body] => {
-            let (to, dims, body) = (kind(to)?, decimal(count)?, hex::decode(body)?);
-            written(oracle.write(to, dims, &body))
-        }
-        [b"near", name, probe, a, b] => {
-            let blobs = [hex::decode(probe)?, hex::decode(a)?, hex::decode(b)?];
-            nearer(oracle.nearer(measure(name)?, blobs.each_ref().map(Vec::as_slice)))
-        }
-        [b"fvecs", place, file] => {
-            let (place, file) = (decimal(place)?, hex::decode(file)?);
-            found(oracle.fvecs(&file, place))
-        }
-        [b"bvecs", place, file] => {
-            let (place, file) = (decimal(place)?, hex::decode(file)?);
-            found(oracle.bvecs(&file, place))
-        }
-        [b"append", fill, lent, blob] => {
-            let (fill, mut lent, blob) = (decimal(fill)?, buffer(lent)?, hex::decode(blob)?);
-            match oracle.append(&blob, &mut lent, fill) {
-                Ok(fill) => format!("A\t{fill}\t{}", hex::encode(&lent)),
-                Err(refusal) => refused(refusal),
-            }
-        }
         _ => return None,
     })
+}
+
+/// What the fields of any other `vecprobe` line ask.
+fn probe(fields: &[&[u8]]) -> Option<Request> {
+    Some(match *fields {
+        [b"read", blob] => reading(Mode::Plain, blob)?,
+        [b"strict", blob] => reading(Mode::Strict, blob)?,
+        [b"conv", target, blob] => Request::Convert {
+            target: kind(target)?,
+            blob: hex::decode(blob)?,
+        },
+        [b"write", to, count, body] => Request::Write {
+            kind: kind(to)?,
+            dims: decimal(count)?,
+            body: hex::decode(body)?,
+        },
+        [b"near", name, probe, a, b] => Request::Nearer {
+            measure: measure(name)?,
+            blobs: [hex::decode(probe)?, hex::decode(a)?, hex::decode(b)?],
+        },
+        [b"fvecs", place, file] => finding(Vecs::Fvecs, place, file)?,
+        [b"bvecs", place, file] => finding(Vecs::Bvecs, place, file)?,
+        [b"append", fill, lent, blob] => Request::Append {
+            fill: decimal(fill)?,
+            buffer: buffer(lent)?,
+            blob: hex::decode(blob)?,
+        },
+        _ => return None,
+    })
+}
+
+fn reading(mode: Mode, blob: &[u8]) -> Option<Request> {
+    let blob = hex::decode(blob)?;
+    Some(Request::Read { mode, blob })
+}
+
+fn finding(vecs: Vecs, place: &[u8], file: &[u8]) -> Option<Request> {
+    let (place, file) = (decimal(place)?, hex::decode(file)?);
+    Some(Request::Find { vecs, place, file })
+}
+
+/// The line of a request.
+pub fn line(request: &Request) -> String {
+    spelled(request, request.number().map(|number| number.to_string()))
+}
+
+/// The line of a request, whose number, if it has one, is spelled so: the word, the kind or the name of the
+/// distance that `near` asks for, the number, the bytes.
+pub fn spelled(request: &Request, number: Option<String>) -> String {
+    let choice = match request {
+        Request::Write { kind, .. } | Request::Convert { target: kind, .. } => {
+            Some((*kind as u8).to_string())
+        }
+        Request::Nearer { measure, .. } => Some(measure.word().to_string()),
+        _ => None,
+    };
+    let parts = request.parts().into_iter().map(|part| hex::encode(part));
+    let word = request.word().to_string();
+    let fields: Vec<String> = [Some(word), choice, number]
+        .into_iter()
+        .flatten()
+        .chain(parts)
+        .collect();
+    fields.join("\t")
 }
 
 /// Truncation as `convert.rs` has it.
@@ -94,70 +143,46 @@ fn truncated(x: f32) -> u8 {
     (x as i32).clamp(0, 255) as u8
 }
 
+/// A reply as our programs print it, without the number of its line.
+pub fn printed(reply: &Reply) -> String {
+    match reply {
+        Ok(Answer::Read(view)) => shown('V', view),
+        Ok(Answer::Converted(view)) => shown('C', view),
+        Ok(Answer::Written(blob)) => format!("W\t{}", hex::encode(blob)),
+        Ok(Answer::Measured(measured)) => format!("D\t{:016x}", measured.bits),
+        Ok(Answer::Nearer(nearer)) => {
+            let (which, bits, readings) = (nearer.which, nearer.bits, nearer.readings);
+            format!("N\t{which}\t{bits:016x}\t{readings}")
+        }
+        Ok(Answer::Found(Some(Shown { dims, body, next }))) => {
+            format!("I\t{next}\t{dims}\t{}", hex::encode(body))
+        }
+        Ok(Answer::Found(None)) => "E".to_string(),
+        Ok(Answer::Appended { fill, buffer }) => format!("A\t{fill}\t{}", hex::encode(buffer)),
+        Ok(Answer::Panic(words)) => words.clone(),
+        Err(refused) => refusal(refused),
+    }
+}
+
 /// A vector's kind, dims and body, and its count of readings last.
-fn shown(letter: char, answer: Result<View, Refusal>) -> String {
-    match answer {
-        Ok(view) => {
-            let (kind, dims, readings) = (view.kind as u8, view.dims, view.readings);
-            let body = hex::encode(&view.body);
-            format!("{letter}\t{kind}\t{dims}\t{body}\t{readings}")
-        }
-        Err(refusal) => refused(refusal),
-    }
+fn shown(letter: char, view: &View) -> String {
+    let (kind, dims, readings) = (view.kind as u8, view.dims, view.readings);
+    let body = hex::encode(&view.body);
+    format!("{letter}\t{kind}\t{dims}\t{body}\t{readings}")
 }
 
-fn written(answer: Result<Vec<u8>, Refusal>) -> String {
-    match answer {
-        Ok(blob) => format!("W\t{}", hex::encode(&blob)),
-        Err(refusal) => refused(refusal),
-    }
-}
-
-/// The winner, its distance and its count of readings.
-fn nearer(answer: Result<Nearer, Refused>) -> String {
-    match answer {
-        Ok(Nearer {
-            which,
-            distance,
-            readings,
-        }) => format!("N\t{which}\t{:016x}\t{readings}", distance.to_bits()),
-        Err(refused) => named(refused),
-    }
-}
-
-fn named(Refused { refusal, blob }: Refused) -> String {
-    format!("R\t{}\t{blob}{}", refusal.number, carried(refusal))
-}
-
-fn found(answer: Result<Option<Shown>, Refusal>) -> String {
-    match answer {
-        Ok(Some(Shown { dims, body, next })) => {
-            format!("I\t{next}\t{dims}\t{}", hex::encode(&body))
-        }
-        Ok(None) => "E".to_string(),
-        Err(refusal) => refused(refusal),
-    }
-}
-
-fn refused(refusal: Refusal) -> String {
-    format!("R\t{}{}", refusal.number, carried(refusal))
-}
-
-/// What a refusal carries, as a further field.
-fn carried(refusal: Refusal) -> String {
-    refusal
-        .carried
-        .map_or(String::new(), |carried| format!("\t{carried}"))
+/// A refusal's number, the blob that it names and what it carries.
+fn refusal(Refused { refusal, blob }: &Refused) -> String {
+    let blob = blob.map(|blob| blob.to_string());
+    let carried = refusal.carried.map(|carried| carried.to_string());
+    let fields = ["R".to_string(), refusal.number.to_string()];
+    let fields: Vec<String> = fields.into_iter().chain(blob).chain(carried).collect();
+    fields.join("\t")
 }
 
 fn measure(name: &[u8]) -> Option<Measure> {
-    match name {
-        b"cos" => Some(Measure::Cos),
-        b"l2" => Some(Measure::L2),
-        b"dot" => Some(Measure::Dot),
-        b"jac" => Some(Measure::Jac),
-        _ => None,
-    }
+    let mut measures = Measure::ALL.into_iter();
+    measures.find(|measure| measure.word().as_bytes() == name)
 }
 
 fn kind(digits: &[u8]) -> Option<Kind> {
@@ -194,6 +219,7 @@ fn double(digits: &[u8]) -> Option<f64> {
 #[cfg(test)]
 mod tests {
     use super::*;
+    use crate::generate::random::Random;
 
     /// Asks lines in which `|` stands for a tab, each with its answer after ` = `.
     fn ask(program: Program, lines: &[&str]) {
@@ -203,6 +229,22 @@ mod tests {
             let answer = program.answer(asked.replace('|', "\t").as_bytes(), &mut oracle);
             assert_eq!(answer.replace('\t', "|"), expected, "{asked}");
             assert_eq!(oracle.take_findings(), [""; 0], "{asked}");
+        }
+    }
+
+    #[test]
+    fn a_line_asks_its_request() {
+        let mut random = Random::new(1);
+        let requests = std::iter::repeat_with(|| random.request());
+        let is_short = |request: &Request| request.parts().iter().all(|part| part.len() < 1_000);
+        for request in requests.filter(is_short).take(20_000) {
+            let line = line(&request);
+            let fields: Vec<&[u8]> = line.as_bytes().split(|&byte| byte == b'\t').collect();
+            let asked = match Program::of(&request) {
+                Program::Vecdist => distance(&fields),
+                Program::Vecprobe => probe(&fields),
+            };
+            assert_eq!(asked, Some(request));
         }
     }
 

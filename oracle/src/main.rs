@@ -1,38 +1,11 @@
-//! The Rust side of differential runs: the vector module of turso_core, unchanged, beside
-//! the rules. `oracle answer` answers lines as our programs must; `oracle gen` makes lines.
-
-mod differences;
-mod generate;
-mod hex;
-mod lines;
-mod oracle;
-mod original;
-mod rules;
-mod stand_ins;
-mod vecs;
-
-/// The six files as published: the build copies them here and changes nothing.
-#[rustfmt::skip]
-#[allow(dead_code, unstable_name_collisions, clippy::all)]
-mod vector {
-    pub mod operations {
-        pub mod convert;
-        pub mod distance_cos;
-        pub mod distance_dot;
-        pub mod distance_l2;
-        pub mod jaccard;
-    }
-    pub mod vector_types;
-}
-
-// The names under which the six files look for what they import.
-use stand_ins::{alloc, turso_debug_assert, types, LimboError, Result, ValueBlob};
+//! `oracle answer` answers lines as our programs must; `oracle gen` makes lines.
 
 use std::io::{self, BufRead, BufWriter, Write};
 use std::process::ExitCode;
 
-use lines::Program;
-use oracle::Oracle;
+use oracle::generate;
+use oracle::lines::Program;
+use oracle::oracle::Oracle;
 
 const USAGE: &str = "usage: oracle answer vecdist|vecprobe < lines
        oracle gen MODE SEED COUNT, with MODE one of

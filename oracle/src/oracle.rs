@@ -2,6 +2,7 @@
 
 use std::fmt::Debug;
 
+use crate::request::{Answer, Measured, Mode, Nearer, Refused, Reply, Request, Shown, Vecs};
 use crate::rules::{self, Kind, Measure, Refusal, View};
 use crate::{differences, original, vecs};
 
@@ -10,26 +11,6 @@ const NO_ANSWER: Refusal = Refusal {
     number: 0,
     carried: None,
 };
-
-/// A refusal and the blob it names: `p`, `a`, `b`, or `-` for none.
-pub struct Refused {
-    pub refusal: Refusal,
-    pub blob: char,
-}
-
-/// A vector that a file shows: its Float32Dense body, and the place after it.
-pub struct Shown {
-    pub dims: usize,
-    pub body: Vec<u8>,
-    pub next: usize,
-}
-
-/// The nearer of two candidates, 1 or 2, its distance to the probe and its own count of readings.
-pub struct Nearer {
-    pub which: u8,
-    pub distance: f64,
-    pub readings: usize,
-}
 
 /// A blob that was read, beside what was seen of it.
 struct Seen<'a> {
@@ -48,14 +29,39 @@ impl Oracle {
         std::mem::take(&mut self.findings)
     }
 
+    pub fn answer(&mut self, request: &Request) -> Reply {
+        Ok(match request {
+            Request::Read { mode, blob } => Answer::Read(match mode {
+                Mode::Plain => self.read(blob)?,
+                Mode::Strict => self.strict(blob)?,
+            }),
+            Request::Write { kind, dims, body } => Answer::Written(self.write(*kind, *dims, body)?),
+            Request::Convert { target, blob } => Answer::Converted(self.convert(blob, *target)?),
+            Request::Distance { measure, blobs } => {
+                Answer::Measured(self.distance(*measure, blobs)?)
+            }
+            Request::Nearer { measure, blobs } => Answer::Nearer(self.nearer(*measure, blobs)?),
+            Request::Find { vecs, place, file } => Answer::Found(match vecs {
+                Vecs::Fvecs => self.fvecs(file, *place)?,
+                Vecs::Bvecs => self.bvecs(file, *place)?,
+            }),
+            Request::Append { fill, buffer, blob } => {
+                let mut buffer = buffer.clone();
+                let fill = self.append(blob, &mut buffer, *fill)?;
+                Answer::Appended { fill, buffer }
+            }
+        })
+    }
+
     /// What is shown of an accepted blob is the Rust's view of it.
     pub fn read(&mut self, blob: &[u8]) -> Result<View, Refusal> {
         let rust = original::read(blob);
-        self.hold_reading(&rules::layout(blob), &rust, blob);
-        rules::read(blob).map(|view| rust.unwrap_or(view))
+        let layout = rules::layout(blob);
+        self.hold_reading(&layout, &rust, blob);
+        rules::limited(blob, layout).map(|view| rust.unwrap_or(view))
     }
 
-    pub fn strict(&mut self, blob: &[u8]) -> Result<View, Refusal> {
+    fn strict(&mut self, blob: &[u8]) -> Result<View, Refusal> {
         let view = self.read(blob)?;
         let strict = rules::strict(&view);
         if view.kind == Kind::Float32Sparse {
@@ -83,7 +89,7 @@ impl Oracle {
     }
 
     /// The Rust has no writer: it reads what is written, and must not read a body with a wrong entry.
-    pub fn write(&mut self, kind: Kind, dims: usize, body: &[u8]) -> Result<Vec<u8>, Refusal> {
+    fn write(&mut self, kind: Kind, dims: usize, body: &[u8]) -> Result<Vec<u8>, Refusal> {
         let written = rules::write(kind, dims, body);
         let view = match written {
             Ok(_) => Ok(View::new(kind, dims, body)),
@@ -95,16 +101,20 @@ impl Oracle {
         written
     }
 
-    pub fn distance(&mut self, measure: Measure, a: &[u8], b: &[u8]) -> Result<f64, Refused> {
+    fn distance(&mut self, measure: Measure, [a, b]: &[Vec<u8>; 2]) -> Result<Measured, Refused> {
         let first = self.see(a, 'a')?;
         let second = self.see(b, 'b')?;
-        self.pair(measure, &first, &second).map_err(unnamed)
+        let distance = self.pair(measure, &first, &second).map_err(unnamed)?;
+        Ok(Measured {
+            bits: distance.to_bits(),
+            readings: [first, second].map(|seen| seen.view.readings),
+        })
     }
 
-    pub fn nearer(
+    fn nearer(
         &mut self,
         measure: Measure,
-        [probe, first, second]: [&[u8]; 3],
+        [probe, first, second]: &[Vec<u8>; 3],
     ) -> Result<Nearer, Refused> {
         let probe = self.see(probe, 'p')?;
         let first = self.see(first, 'a')?;
@@ -123,7 +133,7 @@ impl Oracle {
         };
         Ok(Nearer {
             which,
-            distance,
+            bits: distance.to_bits(),
             readings: winner.view.readings,
         })
     }
@@ -141,7 +151,7 @@ impl Oracle {
 
     /// The vector at a place of a bvecs file; none at the end. The Rust converts its bytes as those
     /// of a Float8 blob with alpha 1 and shift 0, of which there is none of dims 0.
-    pub fn bvecs(&mut self, file: &[u8], place: usize) -> Result<Option<Shown>, Refusal> {
+    fn bvecs(&mut self, file: &[u8], place: usize) -> Result<Option<Shown>, Refusal> {
         let Some(found) = vecs::vector_at(1, file, place)? else {
             return Ok(None);
         };
@@ -170,7 +180,7 @@ impl Oracle {
             Ok(view) => Ok(Seen { blob, view }),
             Err(refusal) => Err(Refused {
                 refusal,
-                blob: name,
+                blob: Some(name),
             }),
         }
     }
@@ -238,8 +248,10 @@ fn float8(bytes: &[u8]) -> Vec<u8> {
     blob
 }
 
+/// A refusal that is about several blobs together.
 fn unnamed(refusal: Refusal) -> Refused {
-    Refused { refusal, blob: '-' }
+    let blob = Some('-');
+    Refused { refusal, blob }
 }
 
 #[cfg(test)]

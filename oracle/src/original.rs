@@ -82,10 +82,12 @@ pub fn index_out_of_range(words: &str) -> Option<u32> {
 const PANIC: &str = "panic: ";
 
 pub fn run<T>(work: impl FnOnce() -> crate::Result<T>) -> Result<T, String> {
-    match catch_unwind(AssertUnwindSafe(work)) {
-        Ok(answer) => answer.map_err(|error| error.to_string()),
-        Err(panic) => Err(format!("{PANIC}{}", message(&*panic))),
-    }
+    caught(work)?.map_err(|error| error.to_string())
+}
+
+/// What some work gives, or the words of its panic.
+pub fn caught<T>(work: impl FnOnce() -> T) -> Result<T, String> {
+    catch_unwind(AssertUnwindSafe(work)).map_err(|panic| format!("{PANIC}{}", message(&*panic)))
 }
 
 fn message(panic: &(dyn Any + Send)) -> &str {

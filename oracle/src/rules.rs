@@ -24,6 +24,25 @@ impl Kind {
         Kind::Float32Sparse,
     ];
 
+    /// The kind of a type byte.
+    pub fn named(type_byte: u8) -> Option<Kind> {
+        Self::ALL.into_iter().find(|&kind| kind as u8 == type_byte)
+    }
+
+    /// The kind of a blob by its length and its last byte, whether it is accepted or not.
+    pub fn of(blob: &[u8]) -> Option<Kind> {
+        match blob.split_last() {
+            Some((&type_byte, rest)) if rest.len().is_multiple_of(2) => Self::named(type_byte),
+            _ => Some(Self::Float32Dense),
+        }
+    }
+
+    /// Its place among all kinds.
+    pub fn place(self) -> usize {
+        let mut kinds = Self::ALL.into_iter();
+        kinds.position(|kind| kind == self).expect("all are listed")
+    }
+
     /// Whether a body of this length can hold this many dims.
     pub fn fits(self, dims: usize, length: usize) -> bool {
         match self {
@@ -50,8 +69,22 @@ pub enum Measure {
     Jac,
 }
 
-/// A number of the table of refusals, and what it carries: 8 and 10 the entry that is wrong, 15 the need,
-/// 19 the place where the vector starts.
+impl Measure {
+    pub const ALL: [Measure; 4] = [Measure::Cos, Measure::L2, Measure::Dot, Measure::Jac];
+
+    /// Its name in a line.
+    pub fn word(self) -> &'static str {
+        match self {
+            Measure::Cos => "cos",
+            Measure::L2 => "l2",
+            Measure::Dot => "dot",
+            Measure::Jac => "jac",
+        }
+    }
+}
+
+/// A number of the table of refusals, and what it carries: 8 and 10 the entry that is wrong, 15 and 17 the
+/// need, 19 the place where the vector starts.
 #[derive(Clone, Copy, Debug, PartialEq, Eq)]
 pub struct Refusal {
     pub number: u8,
@@ -115,10 +148,15 @@ pub fn readings(kind: Kind, dims: usize, body: &[u8]) -> usize {
 
 /// The plain mode: refusals 1 to 9 in their order.
 pub fn read(blob: &[u8]) -> Result<View, Refusal> {
+    limited(blob, layout(blob))
+}
+
+/// What the reader without its limits shows of a blob, with the limits: 1 comes first and 9 last.
+pub fn limited(blob: &[u8], layout: Result<View, Refusal>) -> Result<View, Refusal> {
     if blob.len() > MOST_LENGTH {
         return Err(1.into());
     }
-    let view = layout(blob)?;
+    let view = layout?;
     if view.dims > MOST_DIMS {
         return Err(9.into());
     }

@@ -54,11 +54,11 @@ impl Random {
     }
 
     fn floats(&mut self, format: Format, count: usize) -> Vec<u8> {
-        let elements = self.elements(format, count);
-        elements
-            .into_iter()
-            .flat_map(|pattern| format.bytes(pattern))
-            .collect()
+        let mut bytes = Vec::with_capacity(count * format.width());
+        for pattern in self.elements(format, count) {
+            bytes.extend_from_slice(&pattern.to_le_bytes()[..format.width()]);
+        }
+        bytes
     }
 
     /// Bits at random, all alike, or few; unused ones are cleared half of the time.

@@ -1,9 +1,8 @@
-//! Lines about files of vectors: files whole, cut and damaged, and buffers to append to.
+//! Requests about files of vectors: files whole, cut and damaged, and buffers to append to.
 
 use super::random::Random;
-use super::requests::line;
 use crate::differences::{MOST_DIMS, MOST_LENGTH};
-use crate::hex;
+use crate::request::{Request, Vecs};
 use crate::rules::Kind;
 
 /// Dims of most vectors.
@@ -33,22 +32,10 @@ const FAR_PLACES: [usize; 6] = [
     9_999_999_999,
 ];
 
-/// What a number in a line must not be.
-const NO_NUMBERS: [&str; 8] = [
-    "",
-    "+0",
-    "-1",
-    "0x0",
-    " 0",
-    "0.",
-    "00000000000",
-    "99999999999",
-];
-
 impl Random {
-    /// A line of a mode that reads a file, whose elements have so many bytes each.
-    pub fn file_line(&mut self, word: &str, width: usize) -> Vec<u8> {
-        let (mut file, starts) = self.file(width);
+    /// A place of a file, whole or damaged.
+    pub fn finding(&mut self, vecs: Vecs) -> Request {
+        let (mut file, starts) = self.file(vecs.width());
         let start = self.pick(&starts);
         if self.one_in(2) {
             self.damage_file(&mut file, start);
@@ -62,7 +49,7 @@ impl Random {
             5 => start.saturating_sub(1),
             _ => start,
         };
-        line(&[word, &self.number(place), &hex::encode(&file)])
+        Request::Find { vecs, place, file }
     }
 
     /// A file of at most six vectors, and where each starts, or now and then where it ends.
@@ -145,7 +132,7 @@ impl Random {
         count
     }
 
-    pub fn append_line(&mut self) -> Vec<u8> {
+    pub fn appending(&mut self) -> Request {
         let blob = self.blob_to_append();
         // a line has no room for a blob that is too long for Float32Dense and as long a buffer
         let need = match blob.len() {
@@ -159,8 +146,7 @@ impl Random {
             self.fill_and_length(need)
         };
         let buffer = self.bytes(length);
-        let fill = self.number(fill);
-        line(&["append", &fill, &hex::encode(&buffer), &hex::encode(&blob)])
+        Request::Append { fill, buffer, blob }
     }
 
     /// A fill, and the length of a buffer that has as much room after it as is needed, or nearly.
@@ -204,15 +190,6 @@ impl Random {
         } else {
             blob
         }
-    }
-
-    /// A number of a line, with zeros in front or without; now and then none.
-    fn number(&mut self, number: usize) -> String {
-        if self.one_in(256) {
-            return self.pick(&NO_NUMBERS).to_string();
-        }
-        let digits = self.pick(&[1, 1, 1, 2, 5, 10]);
-        format!("{number:0digits$}")
     }
 }
 

@@ -56,10 +56,13 @@ impl Format {
         [0, 1, 2, half - 1, half, half + 1, end - 2, end - 1]
     }
 
-    /// A pattern's bytes in a blob.
-    pub fn bytes(self, pattern: u64) -> Vec<u8> {
-        let width = if self == SINGLE { 4 } else { 8 };
-        pattern.to_le_bytes()[..width].to_vec()
+    /// How many bytes a pattern has in a blob, the lowest first.
+    pub fn width(self) -> usize {
+        if self == SINGLE {
+            4
+        } else {
+            8
+        }
     }
 }
 

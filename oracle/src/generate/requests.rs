@@ -1,12 +1,10 @@
-//! Lines for `vecdist` and `vecprobe`, and lines that are none.
+//! Requests, their lines for `vecdist` and `vecprobe`, and lines that are none.
 
 use super::random::Random;
 use crate::differences::MOST_DIMS;
-use crate::hex;
-use crate::lines::Program;
-use crate::rules::Kind;
-
-const MEASURES: [&str; 4] = ["cos", "l2", "dot", "jac"];
+use crate::lines::{self, Program};
+use crate::request::{Mode, Request, Vecs};
+use crate::rules::{Kind, Measure};
 
 /// Dims that the writer refuses; three of them are small or at the limit in their lowest 32 bits.
 const REFUSED_DIMS: [usize; 6] = [
@@ -18,18 +16,48 @@ const REFUSED_DIMS: [usize; 6] = [
     9_999_999_999,
 ];
 
+/// What a number in a line must not be.
+const NO_NUMBERS: [&str; 8] = [
+    "",
+    "+0",
+    "-1",
+    "0x0",
+    " 0",
+    "0.",
+    "00000000000",
+    "99999999999",
+];
+
 impl Random {
-    pub fn distance_line(&mut self) -> Vec<u8> {
-        let blobs = if self.one_in(2_000) {
+    /// A request of any word, now and then one that is too long for a line.
+    pub fn request(&mut self) -> Request {
+        match self.below(20) {
+            10..=16 if self.one_in(8_000) => self.comparison_at_limit(),
+            0 | 1 => self.reading(Mode::Plain),
+            2 | 3 => self.reading(Mode::Strict),
+            4 | 5 => self.writing(),
+            6..=9 => self.conversion(),
+            10..=13 => self.distance(),
+            14..=16 => self.nearer(),
+            17 => self.finding(Vecs::Fvecs),
+            18 => self.finding(Vecs::Bvecs),
+            _ => self.appending(),
+        }
+    }
+
+    pub fn distance(&mut self) -> Request {
+        let [first, second, _] = if self.one_in(2_000) {
             self.blobs_of_half_a_line()
         } else {
             self.blobs_to_compare()
         };
-        let [first, second, _] = blobs.map(|blob| hex::encode(&blob));
-        line(&[self.pick(&MEASURES), &first, &second])
+        Request::Distance {
+            measure: self.pick(&Measure::ALL),
+            blobs: [first, second],
+        }
     }
 
-    pub fn nearer_line(&mut self) -> Vec<u8> {
+    pub fn nearer(&mut self) -> Request {
         let blobs = if self.one_in(4_000) {
             let kind = self.pick(&[Kind::Float1Bit, Kind::Float8, Kind::Float32Sparse]);
             let dims = self.near(MOST_DIMS);
@@ -37,22 +65,38 @@ impl Random {
         } else {
             self.blobs_to_compare()
         };
-        let [probe, first, second] = blobs.map(|blob| hex::encode(&blob));
-        line(&["near", self.pick(&MEASURES), &probe, &first, &second])
+        let measure = self.pick(&Measure::ALL);
+        Request::Nearer { measure, blobs }
     }
 
-    pub fn reading_line(&mut self, word: &str) -> Vec<u8> {
+    /// A distance or the nearer of two, of any kind and as many dims as there may be, or nearly.
+    fn comparison_at_limit(&mut self) -> Request {
+        let (kind, dims) = (self.kind(), self.near(MOST_DIMS));
+        let measure = self.pick(&Measure::ALL);
+        let blobs = [(); 3].map(|()| {
+            let body = self.body_at_limit(kind, dims);
+            self.blob(kind, dims, &body)
+        });
+        if self.one_in(2) {
+            return Request::Nearer { measure, blobs };
+        }
+        let [first, second, _] = blobs;
+        let blobs = [first, second];
+        Request::Distance { measure, blobs }
+    }
+
+    pub fn reading(&mut self, mode: Mode) -> Request {
         let blob = self.blob_to_read(4);
-        line(&[word, &hex::encode(&blob)])
+        Request::Read { mode, blob }
     }
 
-    pub fn conversion_line(&mut self) -> Vec<u8> {
-        let target = (self.kind() as u8).to_string();
+    pub fn conversion(&mut self) -> Request {
+        let target = self.kind();
         let blob = self.blob_to_read(20);
-        line(&["conv", &target, &hex::encode(&blob)])
+        Request::Convert { target, blob }
     }
 
-    pub fn writing_line(&mut self) -> Vec<u8> {
+    pub fn writing(&mut self) -> Request {
         let kind = self.kind();
         let (mut dims, mut body) = if self.one_in(4_000) {
             let dims = self.near(MOST_DIMS);
@@ -67,9 +111,23 @@ impl Random {
             2 => dims += self.below(9),
             _ => {}
         }
+        Request::Write { kind, dims, body }
+    }
+
+    /// The line of a request, whose number, if it has one, has zeros in front or none; in a line about files
+    /// it is now and then no number.
+    pub fn line(&mut self, request: &Request) -> Vec<u8> {
+        let number = request.number().map(|number| match request {
+            Request::Write { .. } => self.padded(number),
+            _ if self.one_in(256) => self.pick(&NO_NUMBERS).to_string(),
+            _ => self.padded(number),
+        });
+        lines::spelled(request, number).into_bytes()
+    }
+
+    fn padded(&mut self, number: usize) -> String {
         let digits = self.pick(&[1, 1, 1, 2, 5, 10]);
-        let (kind, dims) = ((kind as u8).to_string(), format!("{dims:0digits$}"));
-        line(&["write", &kind, &dims, &hex::encode(&body)])
+        format!("{number:0digits$}")
     }
 
     /// The line; a few are stretched to the longest that a program takes, or just past it.
@@ -157,8 +215,4 @@ impl Random {
             self.blob(kind, dims, &last)
         })
     }
-}
-
-pub fn line(fields: &[&str]) -> Vec<u8> {
-    fields.join("\t").into_bytes()
 }
