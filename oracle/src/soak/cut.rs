@@ -123,41 +123,31 @@ fn asking_less(request: &Request) -> Vec<Request> {
 
 /// The same request of every kind or distance, or of the first format.
 fn other_choices(request: &Request) -> Vec<Request> {
-    match request.clone() {
-        Request::Write { dims, body, .. } => {
-            Kind::ALL.map(|kind| writing(kind, dims, &body)).concat()
+    let mut others = vec![];
+    for kind in Kind::ALL {
+        let mut other = request.clone();
+        match &mut other {
+            Request::Write { dims, body, .. } => others.extend(writing(kind, *dims, body)),
+            Request::Convert { target, .. } => {
+                *target = kind;
+                others.push(other);
+            }
+            _ => {}
         }
-        Request::Convert { blob, .. } => {
-            let blob = || blob.clone();
-            let converting = |target| Request::Convert {
-                target,
-                blob: blob(),
-            };
-            Kind::ALL.map(converting).to_vec()
-        }
-        Request::Distance { blobs, .. } => {
-            let blobs = || blobs.clone();
-            let measuring = |measure| Request::Distance {
-                measure,
-                blobs: blobs(),
-            };
-            Measure::ALL.map(measuring).to_vec()
-        }
-        Request::Nearer { blobs, .. } => {
-            let blobs = || blobs.clone();
-            let choosing = |measure| Request::Nearer {
-                measure,
-                blobs: blobs(),
-            };
-            Measure::ALL.map(choosing).to_vec()
-        }
-        Request::Find { place, file, .. } => vec![Request::Find {
-            vecs: Vecs::Fvecs,
-            place,
-            file,
-        }],
-        Request::Read { .. } | Request::Append { .. } => vec![],
     }
+    for another in Measure::ALL {
+        let mut other = request.clone();
+        if let Request::Distance { measure, .. } | Request::Nearer { measure, .. } = &mut other {
+            *measure = another;
+            others.push(other);
+        }
+    }
+    let mut other = request.clone();
+    if let Request::Find { vecs, .. } = &mut other {
+        *vecs = Vecs::Fvecs;
+        others.push(other);
+    }
+    others
 }
 
 /// The body as a kind, and bodies of zeros, of the same dims and of none.
