@@ -1,5 +1,5 @@
 // A lab's file, read by slices: where its rides start, and the elements of one of them.
-import { Kind, MOST_DIMS } from '../bindings/js/fulandewu.js';
+import { Kind, LONGEST_VECTOR } from '../bindings/js/fulandewu.js';
 import { bytesOf } from './numbers.js';
 
 /** The largest file that is read, in bytes, and the most rides that are listed. */
@@ -8,9 +8,6 @@ export const MOST_RIDES = 100_000;
 
 /** How much of the file is in memory at a time. */
 const PIECE_BYTES = 4_000_000;
-
-/** The bytes of the longest ride in a file: its count and its elements. */
-const LONGEST_RIDE = { fvecs: 4 + 4 * MOST_DIMS, bvecs: 4 + MOST_DIMS };
 
 /** How long the page may be busy before it is let go, in milliseconds. */
 const BUSY = 30;
@@ -64,7 +61,7 @@ export class LabFile {
 
   /** What the module finds at a place: it is shown enough for the longest ride, or all up to the file's end. */
   async #at(place) {
-    const window = await this.#bytes(place, Math.min(this.file.size, place + LONGEST_RIDE[this.format]));
+    const window = await this.#bytes(place, Math.min(this.file.size, place + LONGEST_VECTOR[this.format]));
     return inFile(this.format === 'fvecs' ? this.#module.fvecsAt(window, 0) : this.#module.bvecsAt(window, 0), place);
   }
 

@@ -70,6 +70,9 @@ export const LONGEST = 524_293;
 /** The most dims, which are also the most readings. */
 export const MOST_DIMS = 65_536;
 
+/** The bytes of the longest vector in a file of either format: its count and its elements. */
+export const LONGEST_VECTOR = Object.freeze({ fvecs: 4 + 4 * MOST_DIMS, bvecs: 4 + MOST_DIMS });
+
 /** What runs the module: its memory has 64-bit addresses. */
 export const RUNS_IN =
   'Chrome and Edge from version 133, Firefox from 134, Node from 24 (before: --experimental-wasm-memory64)';
@@ -119,9 +122,6 @@ const START = 0n;
 const TOO_SHORT = { 15: 'out', 17: 'scratch' };
 
 const FILE_ENDS_INSIDE = 19;
-
-/** The bytes of the longest vector in a file: its count and its elements. */
-const LONGEST_VECTOR = { fvecs: 4 + 4 * MOST_DIMS, bvecs: 4 + MOST_DIMS };
 
 /** How many bytes of a file a call is lent at first: most vectors end within them. */
 const SHORT_WINDOW = 4096;
