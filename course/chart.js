@@ -1,6 +1,6 @@
 // A chart of rides in SVG: a gap breaks the line and has a tick of its own, a zero is a point on the zero line.
 import { draw } from './dom.js';
-import { brief, counted } from './numbers.js';
+import { brief, counted, grouped } from './numbers.js';
 import { valuesWords } from './stored.js';
 
 /** Sizes in pixels: of the chart, its edges, a line of ticks for places without a reading, a digit of a label. */
@@ -91,7 +91,7 @@ function axes({ dims, ticks, left, right, bottom, x, y }) {
       draw('path', { class: value === 0 ? 'zero-line' : 'grid', d: `M${left} ${y(value)}H${right}` }),
       label(left - 8, y(value) + 4, 'end', brief(value)),
     ]),
-    ...places.map((place) => label(x(place), bottom + 25, 'middle', String(place))),
+    ...places.map((place) => label(x(place), bottom + 25, 'middle', grouped(place))),
     label(right, bottom + 44, 'end', 'place'),
     draw('g', { transform: `translate(14 ${EDGE.top + 80}) rotate(-90)` }, label(0, 0, 'middle', 'reading')),
   ];

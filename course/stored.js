@@ -105,7 +105,7 @@ const STATE_WORDS = {
   zero: 'zero',
   none: 'no reading',
   several: 'two or more',
-  odd: 'no number',
+  odd: 'not finite',
   wrong: 'not clear',
 };
 

@@ -245,9 +245,11 @@ export class Browser {
     }
   }
 
-  /** The page seen in a window of so many pixels. */
-  size(width, height = 900) {
-    return this.cdp('Emulation.setDeviceMetricsOverride', { width, height, deviceScaleFactor: 1, mobile: false });
+  /** The page seen in a window of so many pixels, when it is drawn anew. */
+  async size(width, height = 900) {
+    const window = { width, height, deviceScaleFactor: 1, mobile: false };
+    await this.cdp('Emulation.setDeviceMetricsOverride', window);
+    await this.script(() => new Promise((drawn) => requestAnimationFrame(() => requestAnimationFrame(() => drawn()))));
   }
 
   /** The page seen with a colour scheme, light or dark, on screen or on paper (`print`). */

@@ -2,6 +2,10 @@
 
 import { pasteBlob, useBlob } from './hands.js';
 
+/** The largest f64, and the least one. */
+const LARGEST = 'ffffffffffffef7f';
+const LEAST = 'ffffffffffffefff';
+
 /** Answers the first step of a lesson by its first or last choice. */
 async function guess(page, lesson, choice) {
   const step = `#lesson-${lesson} [data-step="1"]`;
@@ -22,6 +26,8 @@ export const STATES = {
   'as opened': async () => {},
   'the opening answered': (page) => page.click('#opening-ask'),
   'no reading': (page) => page.fill('#ride-a-cell-1', 'abc'),
+  'a long text': (page) => page.fill('#ride-a-cell-1', 'x'.repeat(300)),
+  'a large number': (page) => page.fill('#ride-a-cell-1', '123456789012345678901234567890.123456789'),
   'rides mended': (page) => page.fill('#ride-a-cell-1', '0'),
   'a blob read': (page) => pasteBlob(page, '01020304000000400000803fee0104'),
   'a blob refused at an entry': (page) => pasteBlob(page, '000070420000a04201000000050000000200000009'),
@@ -36,6 +42,10 @@ export const STATES = {
   'no likeness': async (page) => {
     await useBlob(page, 'a', '0200000009');
     await useBlob(page, 'b', '000070420000a04200000000010000000200000009');
+  },
+  'the largest numbers': async (page) => {
+    await useBlob(page, 'a', `${LARGEST}${LEAST}02`);
+    await useBlob(page, 'b', `${LEAST}${LARGEST}02`);
   },
   'a right guess': (page) => guess(page, 1, 'first'),
   'a wrong guess': (page) => guess(page, 2, 'last'),
