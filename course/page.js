@@ -1,5 +1,5 @@
 // Starts the page: decodes the module inside it, and joins its sections.
-import { Kind, RUNS_IN, isSupported, load } from '../bindings/js/fulandewu.js';
+import { BROWSERS, Kind, isSupported, load } from '../bindings/js/fulandewu.js';
 import { showConversions } from './conversions.js';
 import { byId } from './dom.js';
 import { RideCard } from './editor.js';
@@ -28,7 +28,7 @@ function explain(words) {
 async function start() {
   if (!isSupported()) {
     const missing = 'The proved module inside this page needs a memory of 64-bit addresses';
-    explain(`${missing}, which this browser does not have. These have it: ${RUNS_IN}.`);
+    explain(`${missing}, which this browser does not have. These have it: ${BROWSERS}.`);
     return;
   }
   try {

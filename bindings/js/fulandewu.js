@@ -73,9 +73,11 @@ export const MOST_DIMS = 65_536;
 /** The bytes of the longest vector in a file of either format: its count and its elements. */
 export const LONGEST_VECTOR = Object.freeze({ fvecs: 4 + 4 * MOST_DIMS, bvecs: 4 + MOST_DIMS });
 
-/** What runs the module: its memory has 64-bit addresses. */
-export const RUNS_IN =
-  'Chrome and Edge from version 133, Firefox from 134, Node from 24 (before: --experimental-wasm-memory64)';
+/** The browsers that run the module: its memory has 64-bit addresses. */
+export const BROWSERS = 'Chrome and Edge from version 133, Firefox from 134';
+
+/** What runs the module. */
+export const RUNS_IN = `${BROWSERS}, Node from 24 (before: --experimental-wasm-memory64)`;
 
 /** The reason of each refusal, by its number. */
 const WORDS = [
@@ -112,6 +114,7 @@ const MODES = { plain: 0, strict: 1 };
 const DISTANCES = ['cos', 'l2', 'dot', 'jaccard'];
 /** @type {(Which | null)[]} */
 const WHICH = [null, 'first', 'second', 'probe'];
+/** The bytes by which memory grows. */
 const PAGE = 65_536;
 const NOTHING = new Uint8Array(0);
 

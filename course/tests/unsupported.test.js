@@ -2,7 +2,7 @@
 
 import assert from 'node:assert/strict';
 
-import { RUNS_IN } from '../../bindings/js/fulandewu.js';
+import { BROWSERS } from '../../bindings/js/fulandewu.js';
 import { inBrowser, openCourse } from './course.js';
 import { isSeen } from './hands.js';
 
@@ -10,8 +10,8 @@ inBrowser('A browser without 64-bit memory', (it) => {
   it('is told which versions have it, and shown nothing that does not work', async (page) => {
     await page.beforeEachPage('WebAssembly.validate = () => false;');
     await openCourse(page, '#unsupported');
-    assert.ok((await page.text('#unsupported')).includes(RUNS_IN));
-    assert.match(RUNS_IN, /Chrome .* 133.*Firefox .* 134/);
+    assert.ok((await page.text('#unsupported')).includes(BROWSERS));
+    assert.match(BROWSERS, /Chrome .* 133.*Firefox .* 134/);
     assert.equal(await isSeen(page, '#sections'), false);
     const controls = () => [...document.querySelectorAll('button, input')].filter(inspect.seen).length;
     assert.equal(await page.script(controls), 0);
