@@ -54,6 +54,7 @@ inBrowser('By keyboard and by ear', (it) => {
     await page.click('#opening-ask');
     await page.click('#lab-sample');
     await page.until('the sample is listed', () => document.querySelector('#lab-rides > li'));
+    let last;
     for (const scheme of ['light', 'dark']) {
       await page.look(scheme);
       await page.script(() => inspect.rest());
@@ -66,9 +67,10 @@ inBrowser('By keyboard and by ear', (it) => {
         stops.push(stop.where);
       }
       assert.ok(stops.length > 40, `${stops.length} stops`);
+      last = stops.at(-1);
     }
     await page.chord(Key.Shift, Key.Tab);
-    assert.match((await page.script(() => inspect.focus())).where, /lab/);
+    assert.equal((await page.script(() => inspect.focus())).where, last);
   });
 
   it('the first stop skips to the course', async (page) => {
