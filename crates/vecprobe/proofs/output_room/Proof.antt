@@ -2,12 +2,12 @@
 use mathlib.Core.Path.{sym}
 use Prim.Native.Nat.{ℕ}
 use lib.ListN.{length-replicate}
-use Rattle.vecprobe.specs.inner.Rooms.{outputRoom}
+use Rattle.vecprobe.specs.Inner.Rooms.{output_room}
 use Rattle.vecprobe.proofs.output_room.Statement.{statement}
 use Rattle.vecprobe.proofs.output_room.Tie as tie
 
 returns : tie.Need-returns
-returns c = sym (length-replicate {0} {A = ℕ} outputRoom 0)
+returns c = sym (length-replicate {0} {A = ℕ} output_room 0)
 
 pub output-room-spec : {M : Type 1} → statement M
 output-room-spec = tie.close (tie.spec returns)
