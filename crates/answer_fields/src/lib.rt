@@ -1,5 +1,7 @@
 // The answer that a caller of an export lends, and what each operation's answer writes into it. The exports
 // themselves are in `fulandewu`.
+#![tactic(auto)]
+
 mod blobs;
 mod fields;
 mod files;

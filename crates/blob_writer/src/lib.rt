@@ -1,4 +1,6 @@
 // Writing a blob from its kind, dims and body.
+#![tactic(auto)]
+
 mod checks;
 mod tail;
 
@@ -12,7 +14,7 @@ use tail::put_tail;
 use vector_types::{Dims, Refusal, VectorType};
 
 // A blob's length, or a refusal.
-#[derive(Drop)]
+#[derive(Clone, Copy)]
 pub enum WriteAnswer {
     Written(usize),
     Refused(Refusal),
@@ -24,7 +26,7 @@ fn put_blob(kind: VectorType, dims: Dims, body: &[u8], out: &mut [u8])
     requires body_in_bounds { length (blob_of kind dims.0 body.now) ≤ length out.old }
     ensures { out.new ≡ onto (blob_of kind dims.0 body.now) out.old }
 {
-    let size = bytes::copy(body, out);
+    let size = byte_slices::copy(body, out);
     put_tail(kind, dims, &mut out[size..]);
 }
 

@@ -5,14 +5,14 @@ ghost use Rattle.vector_types.specs.Layout.{max_dims, ceil};
 ghost use Rattle.bodies.specs.Elements.{scaled};
 ghost use Rattle.bodies.specs.Scale.{scale_in, wide};
 
-#[derive(Drop)]
+#[derive(Clone, Copy)]
 pub struct Scale {
     pub alpha: f32,
     pub shift: f32,
 }
 
 // The same in f64, which holds every f32.
-#[derive(Drop)]
+#[derive(Clone, Copy)]
 pub struct WideScale {
     pub alpha: f64,
     pub shift: f64,

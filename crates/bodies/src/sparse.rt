@@ -4,7 +4,7 @@ ghost use Rattle.bodies.specs.Entries.{stored_count, entries_of};
 ghost use Rattle.bodies.specs.Inner.Turns.{Next};
 
 // What comes next, with its values: an index of both bodies, of the first or of the second alone, or none.
-#[derive(Drop)]
+#[derive(Clone, Copy)]
 pub enum Turn {
     Both(f32, f32),
     Left(f32),

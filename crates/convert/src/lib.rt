@@ -1,4 +1,6 @@
 // Conversions between the five kinds: all twenty-five pairs.
+#![tactic(auto)]
+
 mod dispatch;
 
 ghost use Rattle.std.specs.Prelude.{◌≡◌, length};
@@ -15,7 +17,7 @@ use dispatch::{put_result, result_length, scratch_length};
 use vector_types::{Dims, Mode, ReadAnswer, Refusal, VectorType, View};
 
 // What was made, or a refusal.
-#[derive(Drop)]
+#[derive(Clone, Copy)]
 pub enum ConvertAnswer {
     Converted(View),
     Refused(Refusal),

@@ -1,4 +1,6 @@
 // Conversions from Float1Bit.
+#![tactic(auto)]
+
 mod dense;
 mod quantized;
 mod sparse;

@@ -1,4 +1,6 @@
 // Conversions from Float64Dense.
+#![tactic(auto)]
+
 mod bits;
 mod dense;
 mod quantized;

@@ -1,4 +1,6 @@
 // Conversions from Float8.
+#![tactic(auto)]
+
 mod bits;
 mod dense;
 mod sparse;

@@ -19,5 +19,5 @@ pub fn put_copy(body: &[u8], out: &mut [u8])
     requires { length body.now ≤ length out.old }
     ensures { out.new ≡ onto body.now out.old }
 {
-    let _ = bytes::copy(body, out);
+    let _ = byte_slices::copy(body, out);
 }

@@ -11,7 +11,7 @@ use crate::filling::put_zeros;
 use bodies::float8::Scale;
 
 // The least and the greatest element so far.
-#[derive(Drop)]
+#[derive(Clone, Copy)]
 pub struct Range {
     pub low: f32,
     pub high: f32,

@@ -1,4 +1,6 @@
 // Conversions from Float32Sparse: to 1-bit and Float8 through a dense body in scratch.
+#![tactic(auto)]
+
 mod dense;
 
 ghost use Rattle.std.specs.Prelude.{◌≡◌, cond, ◌*◌, ◌≤◌, length};

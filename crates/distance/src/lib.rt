@@ -1,4 +1,6 @@
 // The distances of two blobs: cosine, L2, dot and Jaccard.
+#![tactic(auto)]
+
 mod table;
 
 ghost use Rattle.std.specs.Prelude.{◌≡◌, true, ◌≤◌, length};
@@ -21,7 +23,7 @@ use jaccard::measure_jaccard;
 use table::exists;
 use vector_types::{Mode, ReadAnswer, Readings, Refusal, VectorType, View};
 
-#[derive(Drop)]
+#[derive(Clone, Copy)]
 pub enum Distance {
     Cos,
     L2,
@@ -30,7 +32,7 @@ pub enum Distance {
 }
 
 // Which of the two blobs a refusal is about.
-#[derive(Drop)]
+#[derive(Clone, Copy)]
 pub enum Which {
     First,
     Second,
@@ -38,21 +40,21 @@ pub enum Which {
 }
 
 // How many readings each of the two vectors holds.
-#[derive(Drop)]
+#[derive(Clone, Copy)]
 pub struct Counts {
     pub first: Readings,
     pub second: Readings,
 }
 
 // A distance, or why there is none. NaN is a distance: that of vectors which have no likeness to measure.
-#[derive(Drop)]
+#[derive(Clone, Copy)]
 pub enum DistanceAnswer {
     Measured(f64, Counts),
     Refused(Refusal, Which),
 }
 
 // Whether two vectors have the same dims and kind, so that they can be measured against each other.
-#[derive(Drop)]
+#[derive(Clone, Copy)]
 pub enum Pairing {
     Alike,
     Mismatched(Refusal),

@@ -1,4 +1,6 @@
 // Cosine distance.
+#![tactic(auto)]
+
 mod sums;
 
 ghost use Rattle.std.specs.Prelude.{◌≡◌, true, ◌+◌, ◌*◌, ◌≤◌, length};

@@ -6,14 +6,14 @@ ghost use Rattle.distance_sums.specs.Sparse.{products_rule, sparse_cosine};
 ghost use Rattle.distance_cos.specs.Inner.Sums.{products32, products64};
 
 // The running sums of a cosine: of products, and of the squares of each vector.
-#[derive(Drop)]
+#[derive(Clone, Copy)]
 pub struct CosSums32 {
     pub dot: f32,
     pub norm1: f32,
     pub norm2: f32,
 }
 
-#[derive(Drop)]
+#[derive(Clone, Copy)]
 pub struct CosSums64 {
     pub dot: f64,
     pub norm1: f64,

@@ -1,4 +1,6 @@
 // Dot distance: the negated sum of products.
+#![tactic(auto)]
+
 ghost use Rattle.std.specs.Prelude.{◌≡◌, true, ◌+◌, ◌*◌, ◌≤◌, length};
 ghost use Rattle.vector_types.specs.Layout.{max_dims, ceil, body_fits};
 ghost use Rattle.vector_types.specs.declared.VectorType.TheVariants.{Float32Dense, Float64Dense, Float1Bit, Float8};

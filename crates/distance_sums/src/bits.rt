@@ -3,7 +3,7 @@ ghost use Rattle.std.specs.Prelude.{◌≡◌, ◌*◌, ◌≤◌, length};
 ghost use Rattle.distance_sums.specs.OneBit.{differing as differingOf, overlap_of};
 
 // How many bits are set in both bodies, and in either.
-#[derive(Drop)]
+#[derive(Clone, Copy)]
 pub struct Overlap {
     pub both: u32,
     pub either: u32,

@@ -6,7 +6,7 @@ ghost use Rattle.distance_sums.specs.Float8.{totals_of, scaled_dot, scaled_norm}
 use bodies::float8::WideScale;
 
 // Sums of the bytes of each body, of their squares, and of the products: at most 65,025 * 65,536.
-#[derive(Drop)]
+#[derive(Clone, Copy)]
 pub struct Totals {
     pub sum1: u32,
     pub sum2: u32,

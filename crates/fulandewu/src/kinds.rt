@@ -7,7 +7,7 @@ ghost use Rattle.fulandewu.specs.Kinds.{chosen_of};
 use vector_types::{Named, Refusal, VectorType, kind_of_byte};
 
 // The kind that a byte names, or the reader's refusal of the byte.
-#[derive(Drop)]
+#[derive(Clone, Copy)]
 pub enum Chosen {
     Kind(VectorType),
     Refused(Refusal),

@@ -2,6 +2,8 @@
 // files of vectors.
 // Each export answers the number of a refusal (docs/RULES.md), 0 where there is none. It writes its values
 // into the fields of one lent answer, and leaves every other field as it was.
+#![tactic(auto)]
+
 mod converting;
 mod distances;
 mod kinds;

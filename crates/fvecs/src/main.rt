@@ -1,4 +1,6 @@
 // The vectors of an fvecs file, a line for each: reads standard input piece by piece, and writes the lines.
+#![tactic(auto)]
+
 ghost use Rattle.std.specs.Prelude.{◌≡◌, true, ◌+◌, ◌≤◌, ◌<◌, ◌^◌, length};
 ghost use Rattle.vecs_lines.specs.Inner.Rooms.{longest_vector, vector_line_room};
 ghost use Rattle.fvecs.specs.Inner.Stream.{ListsAll, ListsOn};
@@ -26,7 +28,7 @@ fn output_room() -> [u8; OUTPUT]
 
 // How far a text is listed: up to `at`, before which `before` vectors stand. `more` says that the listing
 // may go on: all lines were written, and nothing was refused.
-#[derive(Drop)]
+#[derive(Clone, Copy)]
 struct ListedText {
     at: usize,
     before: u64,

@@ -1,4 +1,6 @@
 // Jaccard distance: 1 - the sum of the lesser elements / the sum of the greater ones.
+#![tactic(auto)]
+
 mod sums;
 
 ghost use Rattle.std.specs.Prelude.{◌≡◌, true, ◌+◌, ◌*◌, ◌≤◌, length};

@@ -44,13 +44,13 @@ fn above_zero(x: f32) -> f32
 }
 
 // The running sums of a Jaccard: of the lesser and of the greater elements.
-#[derive(Drop)]
+#[derive(Clone, Copy)]
 pub struct JaccardSums32 {
     pub low: f32,
     pub high: f32,
 }
 
-#[derive(Drop)]
+#[derive(Clone, Copy)]
 pub struct JaccardSums64 {
     pub low: f64,
     pub high: f64,

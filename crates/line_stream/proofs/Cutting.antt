@@ -9,7 +9,7 @@ use borrow.Author.Tests.{lt-ltb}
 use lib.Dec.{eqb}
 use lib.ListN.{length, take, drop, length-append, length-drop, take-append-drop}
 use lib.Seq.{take_all, take-take, take-append-le, take-length, length-take-le}
-use Rattle.bytes.specs.Bytes.{index_of, index_after}
+use Rattle.byte_slices.specs.Bytes.{index_of, index_after}
 use Rattle.promises.proofs.Onto.{tail-lent}
 use Rattle.lines.specs.Text.{newline}
 use Rattle.lines.specs.Printed.{limited, numbered_replies}

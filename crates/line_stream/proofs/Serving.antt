@@ -12,7 +12,7 @@ use borrow.Rule.Slice.PartMut.{put_mid}
 use lib.Dec.{ltb}
 use lib.ListN.{length, take, drop, length-append, length-drop, take-append-drop}
 use lib.Seq.{length-take-le, take-add, drop-drop}
-use Rattle.bytes.specs.Bytes.{index_of, slice}
+use Rattle.byte_slices.specs.Bytes.{index_of, slice}
 use Rattle.promises.specs.Puts.{Puts}
 use Rattle.promises.proofs.Puts.{puts-within}
 use Rattle.lines.specs.Text.{newline}

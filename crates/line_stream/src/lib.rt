@@ -1,5 +1,7 @@
 // An input that comes in pieces. What is left of it stands at the start of a buffer, and the next piece
 // is read in behind it. Of an input that is cut into lines that is the line that no newline has ended yet.
+#![tactic(auto)]
+
 ghost use Rattle.std.specs.Prelude.{◌≡◌, ◌+◌, ◌≤◌, ◌<◌, min, length, take, drop};
 ghost use Rattle.promises.specs.Onto.{onto};
 ghost use Rattle.promises.specs.Puts.{Puts};
@@ -8,7 +10,7 @@ ghost use Rattle.line_stream.specs.Inner.Reading.{Reads, HoldsPiece, HoldsText};
 
 // The line that starts a text: how many of its bytes were looked at and hold no newline, and how many
 // lines came before it.
-#[derive(Drop)]
+#[derive(Clone, Copy)]
 pub struct HeldLine {
     pub count: usize,
     pub before: u64,
@@ -17,7 +19,7 @@ pub struct HeldLine {
 // The lines of a text that are answered: those up to `at`, where the next one starts, which `before`
 // lines come before. Their replies fill `filled` bytes, and `more` says that lines are left, for whose
 // replies there was no room.
-#[derive(Drop)]
+#[derive(Clone, Copy)]
 pub struct ServedLines {
     pub at: usize,
     pub before: u64,
@@ -27,7 +29,7 @@ pub struct ServedLines {
 
 // Where the last line of a text starts, which no newline ends, how many lines came before it, and
 // whether all replies were written.
-#[derive(Drop)]
+#[derive(Clone, Copy)]
 pub struct ServedText {
     pub at: usize,
     pub before: u64,
@@ -36,7 +38,7 @@ pub struct ServedText {
 
 // A text at the start of a buffer, up to `end`: the first `count` bytes are those that were kept. `left`
 // bytes may still be read; `more` says that the input may go on, and `failed` that a read failed.
-#[derive(Drop)]
+#[derive(Clone, Copy)]
 pub struct InputText {
     pub count: usize,
     pub end: usize,
@@ -46,7 +48,7 @@ pub struct InputText {
 }
 
 // What a read answers: how many bytes came, 0 at the end of the input, or that it failed.
-#[derive(Drop)]
+#[derive(Clone, Copy)]
 enum Piece {
     Bytes(usize),
     Failed,

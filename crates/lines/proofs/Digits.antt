@@ -10,7 +10,7 @@ use borrow.Author.Tests.{lt-ltb, le-ltb, ltb-true, eqb-true}
 use lib.Dec.{ltb, eqb}
 use lib.ListN.{length, get_or, drop, drop_of_length-le}
 use lib.Seq.{drop-cons}
-use Rattle.bytes.specs.Bytes.{index_of, index_after}
+use Rattle.byte_slices.specs.Bytes.{index_of, index_after}
 use Rattle.lines.specs.Hex.{digit_of, number_from, pattern_of}
 use Rattle.lines.specs.declared.hex.Parsed.{Parsed}
 use Rattle.lines.specs.declared.hex.Parsed.TheVariants.{Number, Nothing}

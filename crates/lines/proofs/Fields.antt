@@ -9,7 +9,7 @@ use borrow.Author.Tests.{eq-eqb, ne_eqb}
 use lib.Dec.{lit≤, eqb}
 use lib.ListN.{length, take, drop, length-drop}
 use lib.Seq.{take_at, drop_at, length-take-le}
-use Rattle.bytes.specs.Bytes.{index_of}
+use Rattle.byte_slices.specs.Bytes.{index_of}
 use Rattle.promises.specs.Puts.{Puts}
 use Rattle.promises.proofs.Onto.{tail-lent}
 use Rattle.promises.proofs.Puts.{puts-prefix}

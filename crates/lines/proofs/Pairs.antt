@@ -10,7 +10,7 @@ use borrow.Author.Tests.{lt-ltb, le-ltb, le-leb, lt-leb, ne_eqb, ltb-true}
 use lib.Dec.{ltb, lit<}
 use lib.ListN.{length, get_or, drop, length-drop, drop_of_length-le}
 use lib.Seq.{drop-cons}
-use Rattle.bytes.specs.Bytes.{index_of, index_after}
+use Rattle.byte_slices.specs.Bytes.{index_of, index_after}
 use Rattle.io.specs.Digits.{hex_digit_ascii}
 use Rattle.lines.specs.Hex.{digit_of, hex_pair, hex_bytes, hex_of}
 

@@ -9,7 +9,7 @@ use borrow.Author.Tests.{eqb-true}
 use lib.Dec.{eqb}
 use lib.ListN.{length, take, drop}
 use lib.Seq.{take-length}
-use Rattle.bytes.specs.Bytes.{index_of, index_after, slice}
+use Rattle.byte_slices.specs.Bytes.{index_of, index_after, slice}
 use Rattle.lines.specs.Parts.{parts_of, in_front}
 
 -- what `bytes::find` looks through from a on

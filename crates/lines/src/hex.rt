@@ -5,7 +5,7 @@ ghost use Rattle.lines.specs.Hex.{digit_of, number_from, pattern_of, hex_pair, h
 ghost use Rattle.promises.specs.Puts.{Puts};
 
 // A number that a text may be.
-#[derive(Drop)]
+#[derive(Clone, Copy)]
 pub enum Parsed {
     Number(u64),
     Nothing,
@@ -70,7 +70,7 @@ pub fn put_hex(width: usize, n: u64, out: &mut [u8]) -> usize
 {
     let mut text = [0u8; 16];
     let k = io::hex(n, width, &mut text);
-    bytes::copy(&text[..k], out)
+    byte_slices::copy(&text[..k], out)
 }
 
 // The byte that two digits are, or 256 where they are not both digits.

@@ -1,6 +1,6 @@
 // The fields of a line, and numbers in decimal.
 ghost use Rattle.std.specs.Prelude.{◌≡◌, ◌≤◌, length};
-ghost use Rattle.bytes.specs.Bytes.{index_of};
+ghost use Rattle.byte_slices.specs.Bytes.{index_of};
 ghost use Rattle.lines.specs.Text.{tab};
 ghost use Rattle.promises.specs.Puts.{Puts};
 ghost use Rattle.lines.specs.Decimal.{decimal_of, numeral_of};
@@ -16,7 +16,7 @@ pub fn field_end(s: &[u8]) -> usize
     ensures value { result ≡ index_of tab s.now }
     ensures upper_bound { result ≤ length s.now }
 {
-    bytes::scan::find(s, 0, s.len(), b'\t')
+    byte_slices::find(s, 0, s.len(), b'\t')
 }
 
 // The place of a field among words, which are separated by tabs: 0 for the first; where it is none of
@@ -28,7 +28,7 @@ pub fn word_place(words: &[u8], field: &[u8]) -> usize
     let mut place = 0;
     while at <= words.len() {
         let end = at + field_end(&words[at..]);
-        if check::same(field, &words[at..end]) {
+        if field == &words[at..end] {
             return place;
         }
         place += 1;
@@ -59,7 +59,7 @@ pub fn put_decimal(n: u64, out: &mut [u8]) -> usize
 {
     let mut digits = [0u8; 20];
     let k = io::decimal(n, &mut digits);
-    bytes::copy(&digits[..k], out)
+    byte_slices::copy(&digits[..k], out)
 }
 
 // Puts what stands before the reply to line number n at the start of out: n and a tab.
@@ -78,5 +78,5 @@ pub fn put_malformed(out: &mut [u8]) -> usize
     requires { 1 ≤ length out.old }
     ensures { Puts malformed out.old result out.new }
 {
-    bytes::copy(b"X", out)
+    byte_slices::copy(b"X", out)
 }

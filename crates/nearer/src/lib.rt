@@ -1,4 +1,6 @@
 // The nearer of two candidates to a probe, which is the first vector of each pair.
+#![tactic(auto)]
+
 ghost use Rattle.std.specs.Prelude.{◌≡◌, ◌++◌};
 ghost use Rattle.vector_types.specs.Answers.{first_given, unless};
 ghost use Rattle.vector_types.specs.Read.{read_of};
@@ -12,14 +14,14 @@ ghost use Rattle.nearer.specs.Nearer.{near, nearer_by, compared_of, nearer_of, p
 use distance::{Distance, DistanceAnswer, Pairing};
 use vector_types::{Mode, ReadAnswer, Readings, Refusal, View};
 
-#[derive(Drop)]
+#[derive(Clone, Copy)]
 pub enum Candidate {
     First,
     Second,
 }
 
 // A candidate, its distance from the probe, and how many readings it holds itself.
-#[derive(Drop)]
+#[derive(Clone, Copy)]
 pub struct Near {
     pub candidate: Candidate,
     pub distance: f64,
@@ -27,7 +29,7 @@ pub struct Near {
 }
 
 // Which of the three blobs a refusal is about.
-#[derive(Drop)]
+#[derive(Clone, Copy)]
 pub enum Among {
     Probe,
     First,
@@ -35,7 +37,7 @@ pub enum Among {
     Neither,
 }
 
-#[derive(Drop)]
+#[derive(Clone, Copy)]
 pub enum NearerAnswer {
     Nearer(Near),
     Refused(Refusal, Among),

@@ -7,7 +7,7 @@ use native.Mathlib.Omega.{arith}
 use lib.Dec.{eqb, ltb}
 use lib.ListN.{length, take}
 use borrow.Author.Tests.{lt-ltb, le-ltb, eqb-true}
-use Rattle.bytes.specs.Bytes.{index_of}
+use Rattle.byte_slices.specs.Bytes.{index_of}
 use Rattle.lines.specs.Text.{tab}
 use Rattle.lines.specs.Hex.{hex_bytes}
 use Rattle.lines.specs.Decimal.{numeral_of}

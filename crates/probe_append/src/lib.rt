@@ -1,4 +1,6 @@
 // The lines that append a blob to an fvecs file: append.
+#![tactic(auto)]
+
 ghost use Rattle.std.specs.Prelude.{◌≡◌, ◌*◌, ◌≤◌, length};
 ghost use Rattle.promises.specs.Puts.{Puts};
 ghost use Rattle.lines.specs.Parts.{fields_of};
@@ -18,7 +20,7 @@ fn put_filled(fill: usize, buffer: &[u8], out: &mut [u8]) -> usize
     requires reply_room_in_bounds { reply_room ≤ length out.old }
     ensures { Puts (filled_text fill buffer.now) out.old result out.new }
 {
-    let marked = bytes::copy(b"A\t", out);
+    let marked = byte_slices::copy(b"A\t", out);
     let head = marked + put_head(fill as u64, &mut out[marked..]);
     let digits = lines::hex::put_bytes(buffer, &mut out[head..]);
     head + digits

@@ -9,7 +9,7 @@ use lib.Seq.{take_at}
 use denote.Enum.Declared.{tag_of}
 use types.Run.{OneOf}
 use Rattle.promises.specs.Onto.{onto}
-use Rattle.bytes.specs.Bytes.{index_of}
+use Rattle.byte_slices.specs.Bytes.{index_of}
 use Rattle.lines.specs.Text.{tab}
 use Rattle.lines.specs.Parts.{fields_of}
 use Rattle.vector_types.specs.Layout.{max_blob_length}

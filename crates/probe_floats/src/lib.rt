@@ -1,4 +1,6 @@
 // The lines about one float: root, narrow, widen, trunc.
+#![tactic(auto)]
+
 ghost use Rattle.std.specs.Prelude.{◌≡◌, ◌≤◌, ◌<◌, ◌^◌, length};
 ghost use Rattle.promises.specs.Puts.{Puts};
 ghost use Rattle.lines.specs.Parts.{fields_of};
@@ -9,7 +11,7 @@ use lines::hex::Parsed;
 use lines::text::put_malformed;
 
 // What is asked of a float's pattern.
-#[derive(Drop)]
+#[derive(Clone, Copy)]
 pub enum Work {
     Root32,
     Root64,
@@ -19,7 +21,7 @@ pub enum Work {
 }
 
 // How many digits the pattern has, and how many the result.
-#[derive(Drop)]
+#[derive(Clone, Copy)]
 struct Digits {
     takes: usize,
     gives: usize,
@@ -84,7 +86,7 @@ fn put_float(width: usize, n: u64, out: &mut [u8]) -> usize
     requires in_bounds { 18 ≤ length out.old }
     ensures { Puts (float_text width n) out.old result out.new }
 {
-    let head = bytes::copy(b"F\t", out);
+    let head = byte_slices::copy(b"F\t", out);
     let digits = lines::hex::put_hex(width, n, &mut out[head..]);
     head + digits
 }
@@ -116,10 +118,10 @@ pub fn root_line(rest: &[u8], out: &mut [u8]) -> usize
     }
     let width = &rest[..end];
     let field = &rest[end + 1..];
-    if check::same(width, b"32") {
+    if width == b"32" {
         return float_line(Work::Root32, field, out);
     }
-    if check::same(width, b"64") {
+    if width == b"64" {
         return float_line(Work::Root64, field, out);
     }
     put_malformed(out)

@@ -3,7 +3,7 @@ use mathlib.Core.Path.{◌≡◌, refl}
 use mathlib.Core.List.{List, []}
 use Prim.Native.Nat.{ℕ, ◌<◌}
 use lib.ListN.{length, take}
-use Rattle.bytes.specs.Bytes.{index_of}
+use Rattle.byte_slices.specs.Bytes.{index_of}
 use Rattle.promises.proofs.Onto.{tail-lent}
 use Rattle.lines.specs.Text.{tab}
 use Rattle.lines.specs.Parts.{fields_of}

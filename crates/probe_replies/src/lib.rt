@@ -1,4 +1,6 @@
 // What vecprobe prints for the lines of a text: for each its number, a tab, the reply and a newline.
+#![tactic(auto)]
+
 ghost use Rattle.std.specs.Prelude.{◌≤◌, length};
 ghost use Rattle.promises.specs.Puts.{Puts};
 ghost use Rattle.lines.specs.Printed.{limited, numbered_reply};
@@ -8,7 +10,7 @@ ghost use Rattle.probe_lines.specs.Limits.{vecprobe_limit};
 ghost use Rattle.probe_lines.specs.Line.{vecprobe_reply};
 ghost use Rattle.probe_replies.specs.Inner.WorkRooms.{WorkRooms};
 
-use bytes::scan::find;
+use byte_slices::find;
 use line_stream::{HeldLine, ServedLines};
 use lines::text::{put_head, put_malformed};
 use probe_lines::LIMIT;

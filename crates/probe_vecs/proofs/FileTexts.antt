@@ -7,7 +7,7 @@ use lib.Dec.{lit≤}
 use lib.ListN.{length, take, drop}
 use lib.Seq.{take_at}
 use lib.Ieee.{binary32}
-use Rattle.bytes.specs.Bytes.{index_of}
+use Rattle.byte_slices.specs.Bytes.{index_of}
 use Rattle.promises.specs.Onto.{onto}
 use Rattle.lines.specs.Text.{tab}
 use Rattle.lines.specs.Decimal.{numeral_of}

@@ -1,4 +1,6 @@
 // The lines about a file of vectors: fvecs, bvecs.
+#![tactic(auto)]
+
 ghost use Rattle.std.specs.Prelude.{◌≡◌, ◌*◌, ◌≤◌, length};
 ghost use Rattle.promises.specs.Puts.{Puts};
 ghost use Rattle.lines.specs.Parts.{fields_of};
@@ -15,7 +17,7 @@ use reply_texts::{put_refusal, put_shown};
 use vecs::VecsAnswer;
 
 // Which of the two formats a file has.
-#[derive(Drop)]
+#[derive(Clone, Copy)]
 pub enum FileKind {
     Fvecs,
     Bvecs,
@@ -34,7 +36,7 @@ fn put_answer(answer: VecsAnswer, body: &[u8], out: &mut [u8]) -> usize
             let dims = found.dims;
             put_shown(b"I\t", next as u64, dims.0 as u64, body, out)
         }
-        VecsAnswer::End => bytes::copy(b"E", out),
+        VecsAnswer::End => byte_slices::copy(b"E", out),
         VecsAnswer::Refused(refusal) => put_refusal(refusal, out),
     }
 }

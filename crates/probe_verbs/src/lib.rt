@@ -1,4 +1,6 @@
 // What a line of vecprobe asks for.
+#![tactic(auto)]
+
 ghost use Rattle.std.specs.Prelude.{◌≡◌};
 ghost use Rattle.probe_verbs.specs.Verbs.{verb_of};
 
@@ -8,7 +10,7 @@ use probe_vecs::FileKind;
 use vector_types::Mode;
 
 // What a line asks for, by its first field.
-#[derive(Drop)]
+#[derive(Clone, Copy)]
 pub enum Verb {
     Root,
     Float(Work),

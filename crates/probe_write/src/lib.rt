@@ -1,4 +1,6 @@
 // The lines that write a blob: write.
+#![tactic(auto)]
+
 ghost use Rattle.std.specs.Prelude.{◌≡◌, ◌*◌, ◌≤◌, length};
 ghost use Rattle.promises.specs.Puts.{Puts};
 ghost use Rattle.lines.specs.Parts.{fields_of};
@@ -21,7 +23,7 @@ fn put_written(kind: VectorType, dims: usize, body: &[u8], made: &mut [u8], out:
 {
     match blob_writer::write(kind, Dims(dims), body, made) {
         WriteAnswer::Written(length) => {
-            let head = bytes::copy(b"W\t", out);
+            let head = byte_slices::copy(b"W\t", out);
             let digits = lines::hex::put_bytes(&made[..length], &mut out[head..]);
             head + digits
         }

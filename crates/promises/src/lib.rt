@@ -1,1 +1,2 @@
 // What the contracts of all crates share: determinism, and what a writer leaves of a buffer. There is no code here.
+#![tactic(auto)]

@@ -1,4 +1,6 @@
 // What replies of several lines are made of: refusals, and a vector shown.
+#![tactic(auto)]
+
 ghost use Rattle.std.specs.Prelude.{◌≡◌, ◌+◌, ◌*◌, ◌≤◌, length};
 ghost use Rattle.promises.specs.Puts.{Puts};
 ghost use Rattle.reply_texts.specs.Texts.{marked_text, field_text, detail_text, refusal_text, header_text, shown_text, counted_text};
@@ -13,7 +15,7 @@ fn put_marked(mark: &[u8], number: u64, out: &mut [u8]) -> usize
     ensures puts { Puts (marked_text mark.now number) out.old result out.new }
     ensures upper_bound { result ≤ 22 }
 {
-    let head = bytes::copy(mark, out);
+    let head = byte_slices::copy(mark, out);
     let digits = put_decimal(number, &mut out[head..]);
     head + digits
 }
@@ -60,7 +62,7 @@ fn put_header(mark: &[u8], first: u64, second: u64, out: &mut [u8]) -> usize
     ensures puts { Puts (header_text mark.now first second) out.old result out.new }
     ensures upper_bound { result ≤ 44 }
 {
-    let marked = bytes::copy(mark, out);
+    let marked = byte_slices::copy(mark, out);
     let end = marked + put_head(first, &mut out[marked..]);
     end + put_head(second, &mut out[end..])
 }

@@ -3,6 +3,8 @@
 // Each public function answers for every pattern, and has no `requires`. What is nearest is said by
 // comparing whole numbers (`specs/Nearest.antt`): no step of the code stands in what the contracts of
 // these functions name.
+#![tactic(auto)]
+
 mod narrowing;
 mod pattern;
 mod rooting;

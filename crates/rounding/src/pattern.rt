@@ -4,7 +4,7 @@ ghost use Rattle.rounding.specs.Inner.Pick.{digits_of};
 ghost use Rattle.rounding.specs.Inner.Parts.{IsNormalized};
 
 // m * 2^e.
-#[derive(Drop)]
+#[derive(Clone, Copy)]
 pub struct Scaled {
     pub m: u64,
     pub e: u64,

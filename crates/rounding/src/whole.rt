@@ -5,7 +5,7 @@ ghost use Rattle.rounding.specs.Inner.Parts.{IsWholeRoot};
 ghost use Rattle.rounding.specs.Inner.Digits.{next_root, next_rest, first_pairs};
 
 // The whole part of a number's root, and what the number has above its square.
-#[derive(Drop)]
+#[derive(Clone, Copy)]
 pub struct RootAndRest {
     pub root: u64,
     pub rest: u64,

@@ -1,4 +1,6 @@
 // A view of a sparse blob, that holds a reference to its body: taken apart by thin functions over plain ones.
+#![tactic(auto)]
+
 mod halves;
 
 ghost use Rattle.std.specs.Prelude.{◌≡◌};
@@ -10,7 +12,7 @@ ghost use Rattle.sparse_view.specs.Halves.{SparseBody, FirstHalf, SecondHalf};
 use halves::{back, front, sparse_body};
 
 // The body of a sparse blob: its values, then as many indices.
-#[derive(Drop)]
+#[derive(Clone, Copy)]
 pub struct SparseView<'a> {
     pub body: &'a [u8],
 }

@@ -1,4 +1,6 @@
 // Distances of two blobs, line by line: reads standard input piece by piece, and writes the replies.
+#![tactic(auto)]
+
 mod serving;
 
 ghost use Rattle.std.specs.Prelude.{◌≡◌, true, ◌*◌, ◌/◌, ◌≤◌, length};

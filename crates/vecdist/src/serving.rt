@@ -7,7 +7,7 @@ ghost use Rattle.line_stream.specs.Inner.Serving.{TextReady, Serves};
 ghost use Rattle.vecdist_lines.specs.Limits.{vecdist_limit, vecdist_room};
 ghost use Rattle.vecdist.specs.Printed.{reply_to};
 
-use bytes::scan::find;
+use byte_slices::find;
 use line_stream::{HeldLine, ServedLines};
 use lines::text::{put_head, put_malformed};
 use vecdist_lines::{LIMIT, ROOM};

@@ -1,4 +1,6 @@
 // What vecdist replies to a line.
+#![tactic(auto)]
+
 ghost use Rattle.std.specs.Prelude.{◌≡◌, ◌+◌, ◌*◌, ◌≤◌, length};
 ghost use Rattle.promises.specs.Puts.{Puts};
 ghost use Rattle.vecdist_lines.specs.Limits.{vecdist_room};
@@ -16,7 +18,7 @@ pub const LIMIT: usize = 32768;
 pub const ROOM: usize = 45;
 
 // The distance that a field names, if any.
-#[derive(Drop)]
+#[derive(Clone, Copy)]
 pub enum Asked {
     Known(Distance),
     Unknown,
@@ -42,7 +44,7 @@ pub fn put_value(mark: &[u8], x: f64, out: &mut [u8]) -> usize
     ensures puts { Puts (value_text mark.now x) out.old result out.new }
     ensures upper_bound { result ≤ 20 }
 {
-    let head = bytes::copy(mark, out);
+    let head = byte_slices::copy(mark, out);
     head + lines::hex::put_hex(16, little_endian::bits64(x), &mut out[head..])
 }
 
@@ -53,9 +55,9 @@ pub fn put_named_refusal(refusal: Refusal, name: &[u8], out: &mut [u8]) -> usize
     requires vecdist_room_in_bounds { vecdist_room ≤ length out.old }
     ensures { Puts (named_refusal_text refusal name.now) out.old result out.new }
 {
-    let head = bytes::copy(b"R\t", out);
+    let head = byte_slices::copy(b"R\t", out);
     let end = head + lines::text::put_head(refusal.number as u64, &mut out[head..]);
-    let named = end + bytes::copy(name, &mut out[end..]);
+    let named = end + byte_slices::copy(name, &mut out[end..]);
     let detail = refusal.detail;
     named + put_detail(detail, &mut out[named..])
 }

@@ -1,5 +1,7 @@
 // Replies to the lines of standard input, for service staff and for differential runs: reads it piece
 // by piece, and writes the replies.
+#![tactic(auto)]
+
 ghost use Rattle.std.specs.Prelude.{◌≡◌, true, ◌≤◌, length};
 ghost use Rattle.line_stream.specs.Inner.Rooms.{numbered_room, input_room};
 ghost use Rattle.line_stream.specs.Inner.Serving.{TextReady, ServesAll};

@@ -24,7 +24,7 @@ fn put_vector(dims: Dims, body: &[u8], out: &mut [u8])
     ensures { out.new ≡ onto (vector_bytes dims.0 body.now) out.old }
 {
     little_endian::put_u32(out, 0, dims.0 as u32);
-    let _ = bytes::copy(body, &mut out[4..]);
+    let _ = byte_slices::copy(body, &mut out[4..]);
 }
 
 // Appends a blob that the reader accepts.

@@ -1,4 +1,6 @@
 // Files of vectors, fvecs and bvecs, in a slice: what stands at a place, its elements, and appending to one.
+#![tactic(auto)]
+
 mod appending;
 mod reading;
 
@@ -7,7 +9,7 @@ pub use reading::{bvecs_at, fvecs_at, fvecs_part};
 use vector_types::{Dims, Refusal};
 
 // A vector of a file: its elements stand from `start` up to `next`, where the next vector starts.
-#[derive(Drop)]
+#[derive(Clone, Copy)]
 pub struct Found {
     pub dims: Dims,
     pub start: usize,
@@ -15,7 +17,7 @@ pub struct Found {
 }
 
 // What stands at a place of a file: a vector, or its end.
-#[derive(Drop)]
+#[derive(Clone, Copy)]
 pub enum VecsAnswer {
     Vector(Found),
     End,
@@ -23,7 +25,7 @@ pub enum VecsAnswer {
 }
 
 // Up to where the buffer is filled, or a refusal.
-#[derive(Drop)]
+#[derive(Clone, Copy)]
 pub enum AppendAnswer {
     Filled(usize),
     Refused(Refusal),

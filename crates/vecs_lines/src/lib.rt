@@ -1,4 +1,6 @@
 // What fvecs prints for a file: for each vector its number, a tab, what is shown of it and a newline.
+#![tactic(auto)]
+
 ghost use Rattle.std.specs.Prelude.{◌≡◌, ◌+◌, ◌*◌, ◌≤◌, ◌<◌, ◌^◌, length};
 ghost use Rattle.promises.specs.Puts.{Puts};
 ghost use Rattle.lines.specs.Printed.{numbered_reply};
@@ -22,7 +24,7 @@ pub const VECTOR_LINE: usize = 23 + 8 * MAX_DIMS + 22;
 // The vectors of a text that are listed: those up to `at`, where the next one starts, which `before`
 // vectors come before. Their lines fill `filled` bytes, and `more` says that whole vectors are left, for
 // whose lines there was no room.
-#[derive(Drop)]
+#[derive(Clone, Copy)]
 pub struct ListedVectors {
     pub at: usize,
     pub before: u64,
@@ -47,7 +49,7 @@ fn put_whole(vector: &[u8], out: &mut [u8]) -> usize
     requires vector_in_bounds { 23 + 2 * length vector.now ≤ length out.old + 8 }
     ensures { Puts (whole_reply vector.now) out.old result out.new }
 {
-    let mark = bytes::copy(b"V\t", out);
+    let mark = byte_slices::copy(b"V\t", out);
     let dims = little_endian::u32_at(vector, 0);
     let head = mark + put_head(dims as u64, &mut out[mark..]);
     head + put_bytes(&vector[4..], &mut out[head..])

@@ -1,4 +1,6 @@
 // Blobs: the five kinds, answers, reading in a mode, and the parts of a blob.
+#![tactic(auto)]
+
 mod kinds;
 mod parts;
 mod reading;
@@ -12,7 +14,7 @@ pub use parts::{body, indices, values};
 pub use reading::{align4, first_outside, read};
 
 // The kinds of vectors, in the order of the Rust.
-#[derive(Drop)]
+#[derive(Clone, Copy)]
 pub enum VectorType {
     Float32Dense,
     Float64Dense,
@@ -22,7 +24,7 @@ pub enum VectorType {
 }
 
 // What a type byte names: a kind, one of the two kinds that are not supported, or nothing known.
-#[derive(Drop)]
+#[derive(Clone, Copy)]
 pub enum Named {
     Kind(VectorType),
     Unsupported,
@@ -30,24 +32,24 @@ pub enum Named {
 }
 
 // How many elements a vector has.
-#[derive(Drop)]
+#[derive(Clone, Copy)]
 pub struct Dims(pub usize);
 
 // How many bits of a 1-bit blob, its type byte apart, stand for no element.
-#[derive(Drop)]
+#[derive(Clone, Copy)]
 pub struct TrailingBits(pub usize);
 
 // How many bytes of a Float8 body stand between its elements and alpha.
-#[derive(Drop)]
+#[derive(Clone, Copy)]
 pub struct TrailingBytes(pub usize);
 
 // How many readings a vector holds. They are not its dims: of a sparse vector only stored entries count.
-#[derive(Drop)]
+#[derive(Clone, Copy)]
 pub struct Readings(pub usize);
 
 // What an accepted blob shows: its body is its first `length` bytes. The fields stand in the order in
 // which an answer is made fastest (docs/SPEED.md).
-#[derive(Drop)]
+#[derive(Clone, Copy)]
 pub struct View {
     pub dims: Dims,
     pub kind: VectorType,
@@ -84,7 +86,7 @@ impl View {
 }
 
 // Why something is refused: the number of the rules, and what they have it carry.
-#[derive(Drop)]
+#[derive(Clone, Copy)]
 pub struct Refusal {
     pub number: u8,
     pub detail: Detail,
@@ -93,7 +95,7 @@ pub struct Refusal {
 // Needs: how many bytes a buffer that is too short would have to have. Starts: the place in a file where
 // the vector starts inside which the file ends. Entry: which entry of a sparse vector is wrong, counted
 // from 0.
-#[derive(Drop)]
+#[derive(Clone, Copy)]
 pub enum Detail {
     Nothing,
     Needs(usize),
@@ -145,13 +147,13 @@ impl Refusal {
 
 // How a blob is read. Plain: as the Rust reads it. Strict: besides, each sparse index has to be above the
 // one before it, and unused bits have to be zero.
-#[derive(Drop)]
+#[derive(Clone, Copy)]
 pub enum Mode {
     Plain,
     Strict,
 }
 
-#[derive(Drop)]
+#[derive(Clone, Copy)]
 pub enum ReadAnswer {
     Accepted(View),
     Refused(Refusal),

@@ -5,7 +5,7 @@ use Prim.Native.Nat.{ℕ}
 use lib.Arith.{lt_of_le-ne}
 use lib.ListN.{length, take}
 use lib.Seq.{length-take-le}
-use Rattle.bytes.specs.Bytes.{index_of}
+use Rattle.byte_slices.specs.Bytes.{index_of}
 use Rattle.lines.specs.Text.{tab}
 use Rattle.lines.specs.Parts.{fields_of}
 use Rattle.lines.specs.Fields.{exactly}

@@ -6,7 +6,7 @@ use native.Mathlib.Omega.{arith}
 use lib.Arith.{lt_of_le-ne}
 use lib.ListN.{length, take}
 use lib.Seq.{length-take-le}
-use Rattle.bytes.specs.Bytes.{index_of}
+use Rattle.byte_slices.specs.Bytes.{index_of}
 use Rattle.promises.proofs.Puts.{puts-same}
 use Rattle.lines.specs.Text.{tab}
 use Rattle.lines.specs.Parts.{fields_of}

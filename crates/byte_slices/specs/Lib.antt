@@ -1,0 +1,2 @@
+-- What the contracts of the functions on bytes name.
+pub mod Bytes
