@@ -118,10 +118,10 @@ pub fn root_line(rest: &[u8], out: &mut [u8]) -> usize
     }
     let width = &rest[..end];
     let field = &rest[end + 1..];
-    if width == b"32" {
+    if width == b"32".as_slice() {
         return float_line(Work::Root32, field, out);
     }
-    if width == b"64" {
+    if width == b"64".as_slice() {
         return float_line(Work::Root64, field, out);
     }
     put_malformed(out)
