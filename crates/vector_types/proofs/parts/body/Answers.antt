@@ -1,0 +1,25 @@
+-- The answer read tells how long the part is that is shown.
+use mathlib.Core.Path.{refl, sym, ◌∙◌}
+use native.Mathlib.Omega.{arith}
+use lib.ListN.{length-take}
+use Rattle.vector_types.specs.Parts.{body_of}
+use Rattle.vector_types.proofs.Views.{view-facts}
+use borrow.Author.Rules.{rules}
+use Rattle.vector_types.proofs.parts.body.Goals as goal
+
+pub slice_bounds-result-end : goal.slice_bounds-result-end
+slice_bounds-result-end c =
+    let e = sym c.read.ensures ∙ c.view.given.1 in
+    simp length-take (omega (arith, (view-facts _ _ e).within))
+
+pub returns-in-Accepted : goal.returns-in-Accepted
+unfolding body_of
+returns-in-Accepted c =
+    let e = sym c.read.ensures ∙ c.view.given.1 in
+    record { result_value = rw e; ref_ptr_value = refl }
+
+pub returns-in-Refused : goal.returns-in-Refused
+unfolding body_of
+returns-in-Refused c =
+    let e = sym c.read.ensures ∙ c.enum_told.given.1 in
+    record { result_value = rw e; ref_ptr_value = refl }

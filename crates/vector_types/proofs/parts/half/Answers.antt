@@ -1,0 +1,17 @@
+-- The half is that of the view read, and two of it lie within the body.
+use mathlib.Core.Path.{sym, ap, ◌∙◌}
+use native.Mathlib.Omega.{arith}
+use Rattle.vector_types.specs.Parts.{shown_half}
+use Rattle.vector_types.proofs.Views.{half-within}
+use borrow.Author.Rules.{rules}
+use Rattle.vector_types.proofs.parts.half.Goals as goal
+
+pub returns-in-Accepted : goal.returns-in-Accepted
+returns-in-Accepted c =
+    let e = sym c.read.ensures ∙ c.view-1.given.1 in
+    record { value = c.half_of_lem.ensures ∙ ap shown_half (sym e); result_in_bounds = rw c.half_of_lem.ensures (half-within _ _ e) }
+
+pub returns-in-Refused : goal.returns-in-Refused
+returns-in-Refused c =
+    let e = sym c.read.ensures ∙ c.enum_told-1.given.1 in
+    record { value = ap shown_half (sym e); result_in_bounds = omega arith }

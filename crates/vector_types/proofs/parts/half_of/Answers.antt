@@ -1,0 +1,6 @@
+-- Each arm has its row of `half_of`.
+use borrow.Author.Rules.{rules}
+use Rattle.vector_types.proofs.parts.half_of.Goals as goal
+
+pub returns-in-Float32Sparse : goal.returns-in-Float32Sparse
+returns-in-Float32Sparse c = rw c.enum_told-1.given.1
