@@ -9,17 +9,17 @@ use Rattle.vector_types.proofs.parts.body.Goals as goal
 
 pub slice_bounds-result-end : goal.slice_bounds-result-end
 slice_bounds-result-end c =
-    let e = sym c.read.ensures ∙ c.view.given.1 in
+    let e = sym c.read.ensures ∙ c.in-Accepted.is in
     simp length-take (omega (arith, (view-facts _ _ e).within))
 
 pub returns-in-Accepted : goal.returns-in-Accepted
 unfolding body_of
 returns-in-Accepted c =
-    let e = sym c.read.ensures ∙ c.view.given.1 in
+    let e = sym c.read.ensures ∙ c.in-Accepted.is in
     record { result_value = rw e; ref_ptr_value = refl }
 
 pub returns-in-Refused : goal.returns-in-Refused
 unfolding body_of
 returns-in-Refused c =
-    let e = sym c.read.ensures ∙ c.enum_told.given.1 in
+    let e = sym c.read.ensures ∙ c.in-Refused.is in
     record { result_value = rw e; ref_ptr_value = refl }

@@ -8,10 +8,10 @@ use Rattle.vector_types.proofs.parts.half.Goals as goal
 
 pub returns-in-Accepted : goal.returns-in-Accepted
 returns-in-Accepted c =
-    let e = sym c.read.ensures ∙ c.view-1.given.1 in
-    record { value = c.half_of_lem.ensures ∙ ap shown_half (sym e); result_in_bounds = rw c.half_of_lem.ensures (half-within _ _ e) }
+    let e = sym c.read.ensures ∙ c.in-Accepted.is in
+    record { value = c.half_of.ensures ∙ ap shown_half (sym e); result_in_bounds = rw c.half_of.ensures (half-within _ _ e) }
 
 pub returns-in-Refused : goal.returns-in-Refused
 returns-in-Refused c =
-    let e = sym c.read.ensures ∙ c.enum_told-1.given.1 in
+    let e = sym c.read.ensures ∙ c.in-Refused.is in
     record { value = ap shown_half (sym e); result_in_bounds = omega arith }

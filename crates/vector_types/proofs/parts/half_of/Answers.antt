@@ -3,4 +3,4 @@ use borrow.Author.Rules.{rules}
 use Rattle.vector_types.proofs.parts.half_of.Goals as goal
 
 pub returns-in-Float32Sparse : goal.returns-in-Float32Sparse
-returns-in-Float32Sparse c = rw c.enum_told-1.given.1
+returns-in-Float32Sparse c = rw c.in-Float32Sparse.is

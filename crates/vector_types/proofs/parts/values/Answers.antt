@@ -11,4 +11,4 @@ slice_bounds-result-end c = simp length-take (omega arith)
 
 pub returns : goal.returns
 unfolding values_of
-returns c = record { result_value = rw (← c.half.ensures.0); ref_ptr_value = refl }
+returns c = record { result_value = rw (← c.half-size.ensures.value); ref_ptr_value = refl }

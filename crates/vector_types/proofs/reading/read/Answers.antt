@@ -6,15 +6,15 @@ use borrow.Author.Rules.{rules}
 use Rattle.vector_types.proofs.reading.read.Goals as goal
 
 pub check_strict-requires : goal.check_strict-requires
-check_strict-requires c = sym c.read_by_row-in-Strict.ensures ∙ c.view-1.given.1
+check_strict-requires c = sym c.read_by_row-in-Strict.ensures ∙ c.in-Accepted.is
 
 pub returns-in-Plain : goal.returns-in-Plain
-returns-in-Plain c = rw c.enum_told-1.given.1 c.read_by_row.ensures
+returns-in-Plain c = rw c.in-Plain.is c.read_by_row.ensures
 
 pub returns-in-Accepted : goal.returns-in-Accepted
-returns-in-Accepted c = rw c.enum_told-in-Strict-1.given.1 c.check_strict.ensures
+returns-in-Accepted c = rw c.in-Strict.is c.check_strict.ensures
 
 pub returns-in-Refused : goal.returns-in-Refused
 returns-in-Refused c =
-    let plain = sym c.read_by_row-in-Strict.ensures ∙ c.refusal-1.given.1 in
-    rw c.enum_told-in-Strict-1.given.1 (sym (refused-in-every-mode Strict _ _ plain))
+    let plain = sym c.read_by_row-in-Strict.ensures ∙ c.in-Refused.is in
+    rw c.in-Strict.is (sym (refused-in-every-mode Strict _ _ plain))

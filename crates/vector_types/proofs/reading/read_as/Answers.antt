@@ -7,20 +7,20 @@ use borrow.Author.Rules.{rules}
 use Rattle.vector_types.proofs.reading.read_as.Goals as goal
 
 pub sparse-requires : goal.sparse-requires
-sparse-requires c = record { blob_len_bound = c.requires.blob_len_bound; blob_value = c.requires.blob_value ∙ ap Kind c.enum_told-in-Float32Sparse-1.given.1 }
+sparse-requires c = record { blob_len_bound = c.requires.blob_len_bound; blob_value = c.requires.blob_value ∙ ap Kind c.in-Float32Sparse.is }
 
 pub one_bit-requires : goal.one_bit-requires
-one_bit-requires c = record { blob_len_bound = c.requires.blob_len_bound; blob_value = c.requires.blob_value ∙ ap Kind c.enum_told-in-Float1Bit-1.given.1 }
+one_bit-requires c = record { blob_len_bound = c.requires.blob_len_bound; blob_value = c.requires.blob_value ∙ ap Kind c.in-Float1Bit.is }
 
 pub float8-requires : goal.float8-requires
-float8-requires c = record { blob_len_bound = c.requires.blob_len_bound; blob_value = c.requires.blob_value ∙ ap Kind c.enum_told-in-Float8-1.given.1 }
+float8-requires c = record { blob_len_bound = c.requires.blob_len_bound; blob_value = c.requires.blob_value ∙ ap Kind c.in-Float8.is }
 
 pub returns-in-Float32Dense : goal.returns-in-Float32Dense
 returns-in-Float32Dense c =
-    let kind = c.enum_told-1.given.1 in
+    let kind = c.in-Float32Dense.is in
     c.dense.ensures ∙ rw kind (sym (read-dense32 _ c.requires.blob_len_bound _ (c.requires.blob_value ∙ ap Kind kind) (before-type _)))
 
 pub returns-in-Float64Dense : goal.returns-in-Float64Dense
 returns-in-Float64Dense c =
-    let kind = c.enum_told-in-Float64Dense-1.given.1 in
+    let kind = c.in-Float64Dense.is in
     c.dense-in-Float64Dense.ensures ∙ rw kind (sym (read-dense64 _ c.requires.blob_len_bound _ (c.requires.blob_value ∙ ap Kind kind) (before-type _)))

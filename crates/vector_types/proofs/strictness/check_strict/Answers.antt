@@ -46,36 +46,36 @@ pub returns-then-wrong-count : goal.returns-then-wrong-count
 returns-then-wrong-count c =
     ap refused c.naming.ensures
     ∙ sym
-    (by_order _ _ c.requires c.enum_told-1.given.1 true _
+    (by_order _ _ c.requires c.in-Float32Sparse.is true _
     c.first_not_above_previous-wrong.ensures (lt-ltb _ _ c.if-wrong-count.true))
 
 pub unused_set-requires : goal.unused_set-requires
-unused_set-requires c = bits-within _ _ c.requires c.enum_told-in-Float1Bit-1.given.1
+unused_set-requires c = bits-within _ _ c.requires c.in-Float1Bit.is
 
 pub returns-then-unused_set : goal.returns-then-unused_set
 returns-then-unused_set c =
     c.refuse.ensures
     ∙ sym
-    (by_bits _ _ c.requires c.enum_told-in-Float1Bit-1.given.1 true
+    (by_bits _ _ c.requires c.in-Float1Bit.is true
     (sym c.unused_set.ensures ∙ c.if-unused_set.true))
 
 pub returns-else-wrong-count : goal.returns-else-wrong-count
 returns-else-wrong-count c =
     sym
-    (by_order _ _ c.requires c.enum_told-1.given.1 false _
+    (by_order _ _ c.requires c.in-Float32Sparse.is false _
     c.first_not_above_previous-wrong.ensures (le-ltb _ _ c.if-wrong-count.false))
 
 pub returns-else-unused_set : goal.returns-else-unused_set
 returns-else-unused_set c =
     sym
-    (by_bits _ _ c.requires c.enum_told-in-Float1Bit-1.given.1 false
+    (by_bits _ _ c.requires c.in-Float1Bit.is false
     (sym c.unused_set.ensures ∙ c.if-unused_set.false))
 
 pub returns-in-Float32Dense : goal.returns-in-Float32Dense
-returns-in-Float32Dense c = sym (strict-other _ _ c.requires (ap (has_byte 9) c.enum_told-in-Float32Dense-1.given.1) (ap (has_byte 3) c.enum_told-in-Float32Dense-1.given.1))
+returns-in-Float32Dense c = sym (strict-other _ _ c.requires (ap (has_byte 9) c.in-Float32Dense.is) (ap (has_byte 3) c.in-Float32Dense.is))
 
 pub returns-in-Float64Dense : goal.returns-in-Float64Dense
-returns-in-Float64Dense c = sym (strict-other _ _ c.requires (ap (has_byte 9) c.enum_told-in-Float64Dense-1.given.1) (ap (has_byte 3) c.enum_told-in-Float64Dense-1.given.1))
+returns-in-Float64Dense c = sym (strict-other _ _ c.requires (ap (has_byte 9) c.in-Float64Dense.is) (ap (has_byte 3) c.in-Float64Dense.is))
 
 pub returns-in-Float8 : goal.returns-in-Float8
-returns-in-Float8 c = sym (strict-other _ _ c.requires (ap (has_byte 9) c.enum_told-in-Float8-1.given.1) (ap (has_byte 3) c.enum_told-in-Float8-1.given.1))
+returns-in-Float8 c = sym (strict-other _ _ c.requires (ap (has_byte 9) c.in-Float8.is) (ap (has_byte 3) c.in-Float8.is))
