@@ -110,7 +110,7 @@ overflow_add-result-2 c =
     omega (arith, (format-bounds c.requires.widths).lead)
 
 pub overflow_add-result-3 : goal.overflow_add-result-3
-overflow_add-result-3 c = record { fits = pattern_lt (answered (goal.at.overflow_add-result-3 c).After-root_digits-r (normalized (goal.at.overflow_add-result-3 c).After-normalize-y)) }
+overflow_add-result-3 c = omega (arith, pattern_lt (answered (goal.at.overflow_add-result-3 c).After-root_digits-r (normalized (goal.at.overflow_add-result-3 c).After-normalize-y)))
 
 pub returns : goal.returns
 returns c = answered (goal.at.returns c).After-root_digits-r (normalized (goal.at.returns c).After-normalize-y)
