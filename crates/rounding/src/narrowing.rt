@@ -37,8 +37,8 @@ pub fn narrow_bits(b: u64) -> u32
 // f32's smallest normal value up to what rounds to infinity: an exponent less by 896 and 29 digits fewer,
 // and a carry goes on into the exponent.
 fn narrow_normal(b: u64) -> u64
-    requires fact_1 { 0x3810_0000_0000_0000 ≤ b }
-    requires fact_2 { b < 0x47ef_ffff_f000_0000 }
+    requires b_normal { 0x3810_0000_0000_0000 ≤ b }
+    requires b_bound { b < 0x47ef_ffff_f000_0000 }
     ensures { IsNarrowedPattern b result }
 {
     nearest_quotient(b - 0x3800_0000_0000_0000, 0x1000_0000)
@@ -46,7 +46,7 @@ fn narrow_normal(b: u64) -> u64
 
 // The same outside of that.
 fn narrow_edge(b: u64) -> u64
-    requires fact { (b < 0x3810_0000_0000_0000) ⊎ (0x47ef_ffff_f000_0000 ≤ b) }
+    requires outside_normal { (b < 0x3810_0000_0000_0000) ⊎ (0x47ef_ffff_f000_0000 ≤ b) }
     requires b_bound { b ≤ 0x7ff0_0000_0000_0000 }
     ensures { IsNarrowedPattern b result }
 {
@@ -73,9 +73,9 @@ fn narrow_small(b: u64) -> u64
 // q / (2 * half) to the nearest whole number, a tie to the even one: half, less one where the quotient
 // is even, is added before the cut.
 fn nearest_quotient(q: u64, half: u64) -> u64
-    requires fact_1 { 0 < half }
-    requires fact_2 { half ≤ 2 ^ 61 }
-    requires fact_3 { q < 2 ^ 63 }
+    requires half_positive { 0 < half }
+    requires half_bound { half ≤ 2 ^ 61 }
+    requires q_bound { q < 2 ^ 63 }
     ensures { result ≡ closest q (2 * half) }
 {
     let d = half * 2;

@@ -13,8 +13,8 @@ pub struct Scaled {
 // What the pattern b, without its sign, stands for in smallest values: its digits, and its
 // exponent's field less one. hid is the field's weight.
 pub fn decode(b: u64, hid: u64) -> Scaled
-    requires fact_1 { 0 < hid }
-    requires fact_2 { hid ≤ 2 ^ 62 }
+    requires hid_positive { 0 < hid }
+    requires hid_bound { hid ≤ 2 ^ 62 }
     ensures { (result.m ≡ digits_of hid b) × (result.e ≡ b / hid - 1) }
 {
     let field = b / hid;
@@ -29,10 +29,10 @@ pub fn decode(b: u64, hid: u64) -> Scaled
 
 // m * 2^e with m shifted up to hid or more.
 pub fn normalize(m: u64, e: u64, hid: u64) -> Scaled
-    requires fact_1 { 0 < m }
-    requires fact_2 { m < 2 * hid }
-    requires fact_3 { hid ≤ 2 ^ 62 }
-    requires fact_4 { hid ≤ 2 ^ e }
+    requires m_positive { 0 < m }
+    requires m_bound { m < 2 * hid }
+    requires hid_bound { hid ≤ 2 ^ 62 }
+    requires e_enough { hid ≤ 2 ^ e }
     ensures { IsNormalized m e hid result.m result.e }
 {
     let mut a = m;

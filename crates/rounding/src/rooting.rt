@@ -47,9 +47,9 @@ pub fn root64(x: f64) -> f64
 // up to twice the format's digits and one or two more; its whole root has then one digit more than the
 // format keeps, and half of that, rounded up, is nearest.
 fn root_pattern(b: u64, prec: u64, hid: u64, low: u64) -> u64
-    requires fact_1 { Widths (format_of prec) prec hid low }
-    requires fact_2 { 0 < b }
-    requires fact_3 { b < ones (format_of prec) * hid }
+    requires widths { Widths (format_of prec) prec hid low }
+    requires b_positive { 0 < b }
+    requires b_finite { b < ones (format_of prec) * hid }
     ensures { IsRootPattern (format_of prec) b result }
 {
     let x = pattern::decode(b, hid);

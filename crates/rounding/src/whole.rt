@@ -14,8 +14,8 @@ pub struct RootAndRest {
 // The whole root of the number that the first n pairs of a's 54 binary digits spell, one digit for
 // each pair. When the pairs of a are used up, 00 is brought down.
 pub fn root_digits(a: u64, n: u64) -> RootAndRest
-    requires fact_1 { a < 2 ^ 54 }
-    requires fact_2 { n ≤ 54 }
+    requires a_bound { a < 2 ^ 54 }
+    requires n_bound { n ≤ 54 }
     ensures { IsWholeRoot (first_pairs a n) result.root result.rest }
 {
     let mut r = RootAndRest { root: 0, rest: 0 };
@@ -32,9 +32,9 @@ pub fn root_digits(a: u64, n: u64) -> RootAndRest
 // One turn: the root and the rest with one pair more brought down. The digit is a number and a factor:
 // an `if` that makes both results is a branch, mispredicted half of the time.
 fn one_digit(r: RootAndRest, pair: u64) -> RootAndRest
-    requires fact_1 { r.root < 2 ^ 60 }
-    requires fact_2 { r.rest < 2 ^ 60 }
-    requires fact_3 { pair < 4 }
+    requires root_bound { r.root < 2 ^ 60 }
+    requires rest_bound { r.rest < 2 ^ 60 }
+    requires pair_bound { pair < 4 }
     ensures { (result.root ≡ next_root r.root r.rest pair) × (result.rest ≡ next_rest r.root r.rest pair) }
 {
     let have = 4 * r.rest + pair;

@@ -23,7 +23,7 @@ by-pattern c r e =
 pub nearest_quotient-requires : goal.nearest_quotient-requires
 nearest_quotient-requires c =
     let k = c.decode-x.result.e in
-    rw (one_shl (924 - k) (omega arith)) record { fact_1 = pow_pos (924 - k); fact_2 = pow_mono {i = 924 - k} {j = 61} (omega arith); fact_3 = omega (arith, digits-few (goal.at.nearest_quotient-requires c).After-decode-x) }
+    rw (one_shl (924 - k) (omega arith)) record { half_positive = pow_pos (924 - k); half_bound = pow_mono {i = 924 - k} {j = 61} (omega arith); q_bound = omega (arith, digits-few (goal.at.nearest_quotient-requires c).After-decode-x) }
 
 pub returns-then-x-lt871 : goal.returns-then-x-lt871
 returns-then-x-lt871 c = by-pattern (goal.at.returns-then-x-lt871 c).After-decode-x 0 (narrow_pattern-tiny c.decode-x.result.m c.decode-x.result.e (digits-few (goal.at.returns-then-x-lt871 c).After-decode-x) (omega arith))

@@ -4,4 +4,4 @@ use Rattle.std.proofs.Common.{rules}
 use Rattle.rounding.proofs.narrowing.nearest_quotient.Goals as goal
 
 pub returns : goal.returns
-returns c = closest-by-division c.args.q c.args.half c.requires.fact_1
+returns c = closest-by-division c.args.q c.args.half c.requires.half_positive

@@ -16,7 +16,7 @@ pub loop-a-init : goal.loop-a-init
 loop-a-init c = (refl, search rules, search rules)
 
 pub overflow_sub-d : goal.overflow_sub-d
-overflow_sub-d c = let l = c.loop-a in exponent-pos l.a l.d c.args.m c.args.e c.args.hid l.invariant.0 c.requires.fact_1 c.requires.fact_4 c.loop-a-test.true
+overflow_sub-d c = let l = c.loop-a in exponent-pos l.a l.d c.args.m c.args.e c.args.hid l.invariant.0 c.requires.m_positive c.requires.e_enough c.loop-a-test.true
 
 pub loop-a-smaller : goal.loop-a-smaller
 loop-a-smaller c = let p = overflow_sub-d c in omega arith

@@ -9,7 +9,7 @@ pub float_to_bits-b : goal.float_to_bits-b
 float_to_bits-b c = above-number binary32 c.args.x c.if-x.true
 
 pub root_pattern-requires : goal.root_pattern-requires
-root_pattern-requires c = record { fact_1 = record { digits = refl; lead = refl; least = refl }; fact_2 = bits_pos binary32 c.args.x c.if-x.true (search rules); fact_3 = search rules }
+root_pattern-requires c = record { widths = record { digits = refl; lead = refl; least = refl }; b_positive = bits_pos binary32 c.args.x c.if-x.true (search rules); b_finite = search rules }
 
 pub float_from_bits-result : goal.float_from_bits-result
 float_from_bits-result c = not-nan-bits binary32 c.root_pattern.result (le_of_lt c.root_pattern.ensures.finite)

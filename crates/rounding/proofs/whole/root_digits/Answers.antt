@@ -22,7 +22,7 @@ one_digit-r-requires c =
     let few : 2 ^ i ≤ 2 ^ 54 = pow_mono {i = i} {j = 54} (omega arith) in
     let small = (turns-whole-root a i (omega arith)).small in
     let less = turns-root-lt a i (omega arith) in
-    (omega arith, (omega arith, omega arith))
+    record { root_bound = omega arith; rest_bound = omega arith; pair_bound = omega arith }
 
 pub loop-i-preserved : goal.loop-i-preserved
 loop-i-preserved c =
