@@ -1,6 +1,7 @@
 -- Determinism of the public contracts: stated over each contract's own reading, so it changes with the contract.
 use mathlib.Core.Path.{◌∙◌, sym}
 use Rattle.promises.specs.Determined.{Determined}
+use Rattle.bodies.specs.Entries.{entries_of}
 use Rattle.bodies.proofs.Merging.{next-unique}
 use Rattle.bodies.proofs.bits.bit_at.Reads as bit_at
 use Rattle.bodies.proofs.bits.element.Reads as bit-element
@@ -29,4 +30,4 @@ pub wide-element-determined : (κs : _) (a : _) → Determined (wide-element.Pos
 wide-element-determined κs a r r' x x' p q = p ∙ sym q
 
 pub next-turn-determined : (κs : _) (a : _) → Determined (next-turn.Post κs a) (λ r x. r)
-next-turn-determined κs a r r' x x' p q = next-unique _ _ _ _ r r' p q
+next-turn-determined κs a r r' x x' p q = next-unique (entries_of a.0.now) (entries_of a.1.1.1.0.now) a.1.1.0 a.1.1.1.1.1.0 r r' p q
