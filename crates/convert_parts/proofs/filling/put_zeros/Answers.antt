@@ -1,0 +1,17 @@
+-- The loop fills, byte by byte.
+use mathlib.Core.Path.{refl}
+use mathlib.Core.List.{[], ◌∷◌}
+use Prim.Native.Nat.{◌-◌}
+use borrow.Author.Rules.{rules}
+use Rattle.convert_parts.specs.Pieces.{pieces}
+use Rattle.convert_parts.proofs.Pieces.{FilledSoFar, fill_none, fill-byte, fill-all, pieces-zeros}
+use Rattle.convert_parts.proofs.filling.put_zeros.Goals as goal
+
+pub loop-i-init : goal.loop-i-init
+loop-i-init c = fill_none _ _ _
+
+pub loop-i-preserved : goal.loop-i-preserved
+loop-i-preserved c = fill-byte (λ _. 0) c.loop-i.invariant c.loop-i-test.true c.requires _ refl
+
+pub returns : goal.returns
+returns c = rw pieces-zeros at (fill-all c.loop-i.invariant c.loop-i-test.false)
