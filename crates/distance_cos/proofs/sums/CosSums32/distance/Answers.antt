@@ -1,0 +1,30 @@
+-- Each way out is a case of the definition.
+use mathlib.Core.Path.{◌≡◌, ◌∙◌}
+use mathlib.Core.Bool.{false, ◌&&◌}
+use mathlib.Core.Logic.{⊎_elim}
+use borrow.Author.Rules.{rules}
+use lib.Ieee.{binary32, of_bits}
+use Rattle.distance_sums.specs.Dense.{is_zero}
+use Rattle.distance_cos.specs.Inner.Sums.{products32}
+use Rattle.distance_cos.proofs.Cosines.{dense-zero, dense-one, dense-angle}
+use Rattle.distance_cos.proofs.sums.CosSums32.distance.Goals as goal
+use Rattle.distance_cos.proofs.sums.CosSums32.distance.Goals.{Joined-self}
+
+-- after the tests of the norms
+not-both : (c : Joined-self) → let s = c.args.self in (is_zero s.norm1 && is_zero s.norm2) ≡ false
+unfolding of_bits
+not-both c = ⊎_elim (λ w. rw (w.0.true, w.2.left)) (λ w. rw w.left) c.if-self.branch
+
+pub returns-then-self-2 : goal.returns-then-self-2
+unfolding of_bits
+returns-then-self-2 c = dense-zero binary32 (products32 c.args.self) (rw (c.if-self.true, c.if-self-2.true))
+
+pub returns-then-self-3 : goal.returns-then-self-3
+unfolding of_bits
+returns-then-self-3 c =
+    dense-one binary32 (products32 c.args.self) (not-both (goal.at.returns-then-self-3 c).Joined-self) c.if-self-3.true
+
+pub returns : goal.returns
+unfolding of_bits
+returns c =
+    c.widen.ensures ∙ c.angle.ensures ∙ dense-angle binary32 (products32 c.args.self) (not-both (goal.at.returns c).Joined-self) c.if-self-3.false

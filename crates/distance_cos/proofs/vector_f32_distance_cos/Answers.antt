@@ -1,0 +1,27 @@
+-- The loop adds one pair a turn.
+use mathlib.Core.Path.{◌≡◌, ap, ◌∙◌}
+use Prim.Native.Nat.{◌-◌, ◌≤◌}
+use native.Mathlib.Omega.{arith}
+use borrow.Author.Rules.{rules}
+use lib.Ieee.{binary32}
+use Rattle.bodies.specs.Elements.{dense_element}
+use Rattle.distance_sums.specs.Dense.{products, dense_cosine}
+use Rattle.distance_cos.specs.Inner.Sums.{products32}
+use Rattle.distance_sums.specs.Values.{cosine_of}
+use Rattle.distance_sums.proofs.Sums.{products-none, products-more}
+use Rattle.distance_cos.proofs.vector_f32_distance_cos.Goals as goal
+
+pub loop-i-init : goal.loop-i-init
+loop-i-init c = (omega arith, c.new-sums.ensures ∙ products-none _ _ _)
+
+pub loop-i-preserved : goal.loop-i-preserved
+loop-i-preserved c =
+    let l = c.loop-i in
+    (omega arith, products-more _ _ l.i _ _ c.f32_at.ensures c.f32_at-in-loop-i.ensures binary32 _ _ l.invariant.1 c.step-sums.ensures)
+
+pub returns : goal.returns
+unfolding cosine_of
+returns c =
+    let l = c.loop-i in
+    let all : l.i ≡ c.args.dims = omega arith in
+    c.distance.ensures ∙ ap (dense_cosine binary32) (rw all at l.invariant.1)
