@@ -12,7 +12,7 @@ use borrow.Author.Rules.{rules}
 use Rattle.lines.proofs.text.word_place.Given as goal
 
 abbrev pub invariant-loop-at : goal.invariant-loop-at
-invariant-loop-at l = WordsPassed l.words l.t-2 l.initial.place l.at
+invariant-loop-at l = WordsPassed l.words l.field l.at l.place
 
 abbrev pub decreases-loop-at : goal.decreases-loop-at
-decreases-loop-at l = length l.words + 1 - l.initial.place
+decreases-loop-at l = length l.words + 1 - l.at
