@@ -7,6 +7,7 @@ use Rattle.byte_slices.specs.Bytes.{index_of}
 use Rattle.promises.proofs.Onto.{tail-lent}
 use Rattle.lines.specs.Text.{tab}
 use Rattle.lines.proofs.Parting.{index-le}
+use Rattle.lines.proofs.Same.{eq-tested}
 use Rattle.lines.proofs.Words.{WordsPassed, no-word-passed, word-found, word-passed, all-passed}
 use borrow.Author.Rules.{rules}
 use Rattle.lines.proofs.text.word_place.Goals as goal
@@ -27,11 +28,11 @@ word-lent c = omega arith
 
 pub returns-then-eq : goal.returns-then-eq
 returns-then-eq c =
-    word-found c.loop-at.invariant c.loop-at-test.true (end-found (goal.at.returns-then-eq c).After-field_end) (let h = c.eq.ensures in ?) c.if-eq.true
+    word-found c.loop-at.invariant c.loop-at-test.true (end-found (goal.at.returns-then-eq c).After-field_end) (eq-tested (rw (word-lent (goal.at.returns-then-eq c).After-field_end) at c.eq.ensures)) c.if-eq.true
 
 pub loop-at-preserved : goal.loop-at-preserved
 loop-at-preserved c =
-    word-passed c.loop-at.invariant c.loop-at-test.true (end-found (goal.at.loop-at-preserved c).After-field_end) (rw (word-lent (goal.at.loop-at-preserved c).After-field_end) at c.same.ensures) c.if-eq.false
+    word-passed c.loop-at.invariant c.loop-at-test.true (end-found (goal.at.loop-at-preserved c).After-field_end) (eq-tested (rw (word-lent (goal.at.loop-at-preserved c).After-field_end) at c.eq.ensures)) c.if-eq.false
 
 pub loop-at-init : goal.loop-at-init
 loop-at-init c = no-word-passed _ _
