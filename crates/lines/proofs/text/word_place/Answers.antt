@@ -8,8 +8,7 @@ use Rattle.promises.proofs.Onto.{tail-lent}
 use Rattle.lines.specs.Text.{tab}
 use Rattle.lines.proofs.Parting.{index-le}
 use Rattle.lines.proofs.Same.{eq-tested}
-use Rattle.lines.proofs.Words.{WordsPassed, no-word-passed, word-found, word-passed, all-passed}
-use borrow.Author.Rules.{rules}
+use Rattle.lines.proofs.Words.{no-word-passed, word-found, word-passed, all-passed}
 use Rattle.lines.proofs.text.word_place.Goals as goal
 use Rattle.lines.proofs.text.word_place.Goals.{After-field_end}
 
