@@ -2,20 +2,19 @@
 use mathlib.Core.Path.{◌≡◌, refl, ap, ◌∙◌}
 use mathlib.Core.Bool.{Bool, true, false, cond}
 use mathlib.Core.List.{List, [], ◌∷◌, ◌++◌}
-use Prim.Native.Nat.{ℕ, suc, ◌+◌, ◌<◌, ◌≤◌}
+use Prim.Native.Nat.{ℕ, suc, ◌+◌, ◌-◌, ◌<◌, ◌≤◌}
 use native.Mathlib.Omega.{arith}
 use native.Mathlib.Numerals.{add-one}
 use borrow.Author.Tests.{eqb-true}
 use lib.Dec.{eqb}
-use lib.ListN.{length, take, drop}
-use lib.Seq.{take-length}
+use lib.ListN.{length, take, drop, length-drop}
+use lib.Seq.{take_all}
 use Rattle.byte_slices.specs.Bytes.{index_of, index_after, slice}
 use Rattle.lines.specs.Parts.{parts_of, in_front}
 
--- what `bytes::find` looks through from a on
+-- what `byte_slices::find` looks through from a on
 pub slice-from : (a : ℕ) (s : List ℕ) → slice a (length s) s ≡ drop a s
-unfolding slice
-slice-from a s = ap (drop a) (take-length s)
+slice-from a s = take_all (length s - a) (drop a s) (omega (arith, length-drop a s))
 
 after-le : (t : Bool) (k n : ℕ) → k ≤ n → index_after t k ≤ suc n
 unfolding index_after

@@ -1,10 +1,11 @@
--- `same` says whether two texts are equal, as `check::same` does.
+-- `same` says whether two texts are equal, as `==` does on slices of bytes.
 use mathlib.Core.Path.{◌≡◌, refl, sym, ap₂}
 use mathlib.Core.Bool.{Bool, true, false, ◌&&◌, false≢true}
 use mathlib.Core.List.{List, [], ◌∷◌}
 use Prim.Native.Nat.{ℕ}
 use borrow.Author.Tests.{eq-eqb, eqb-true}
 use lib.Dec.{eqb}
+use lib.Pointwise.{pointwise, bytes_decides}
 use Rattle.lines.specs.Text.{same}
 
 same_self : (a : List ℕ) → same a a ≡ true
@@ -31,3 +32,7 @@ same-tested false a b h = go (same a b) refl
     go : (t : Bool) → same a b ≡ t → t ≡ false
     go true e = sym (h.1 (same-eq a b e))
     go false e = refl
+
+-- what `a == b` answers at slices of bytes is true exactly if they are equal
+pub eq-tested : {r : Bool} {a b : List ℕ} → r ≡ pointwise eqb a b → (r ≡ true → a ≡ b) × (a ≡ b → r ≡ true)
+eq-tested {r} {a} {b} e = rw e (bytes_decides a b)

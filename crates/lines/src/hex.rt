@@ -1,6 +1,6 @@
 // Numbers and bytes in lower-case hexadecimal, the highest digit first.
 ghost use Rattle.std.specs.Prelude.{◌≡◌, ◌*◌, ◌/◌, ◌≤◌, ◌<◌, ◌^◌, length};
-ghost use Rattle.io.specs.Digits.{last_digits, hex_digit_ascii as Digits·glyph};
+ghost use Rattle.io.specs.Digits.{last_digits, hex_digit_ascii};
 ghost use Rattle.lines.specs.Hex.{digit_of, number_from, pattern_of, hex_pair, hex_bytes, hex_of};
 ghost use Rattle.promises.specs.Puts.{Puts};
 
@@ -112,7 +112,7 @@ pub fn bytes(s: &[u8], out: &mut [u8]) -> usize
 // The digit of a number below 16.
 fn glyph(d: u8) -> u8
     requires { d < 16 }
-    ensures { result ≡ Digits·glyph d }
+    ensures { result ≡ hex_digit_ascii d }
 {
     if d < 10 { b'0' + d } else { b'a' + (d - 10) }
 }

@@ -21,7 +21,7 @@ puts-same {l = l} e p = record { size = p.size ∙ ap length e; left = p.left �
 pub puts_none : (l : List ℕ) → Puts [] l 0 l
 puts_none l = record { size = refl; left = refl }
 
--- what `bytes::copy` leaves of t, of which it is known that it is t'
+-- what a copy of t to the front leaves, of which it is known that it is t'
 pub puts-copy : {t t' l o : List ℕ} {r : ℕ} → t ≡ t' → (r ≡ length t) × (o ≡ take (length t) t ++ drop (length t) l) → Puts t' l r o
 puts-copy {t} {t'} {l} {o} {r} e p = let q = copied t t' l o r e p.0 p.1 in record { size = q.0; left = q.1 }
 

@@ -1,11 +1,7 @@
 -- `hex::bytes` meets its contract. The loop's invariant: the bytes of the pairs passed are written, and those of the others are to come.
 use mathlib.Core.Path.{refl}
-use Prim.Native.Nat.{◌-◌, ◌*◌, ◌/◌}
 use native.Mathlib.Omega.{arith}
-use borrow.Author.Rules.{rules}
-use lib.ListN.{length, drop}
-use Rattle.lines.specs.Hex.{hex_bytes}
-use Rattle.lines.proofs.Writing.{Writing, write-none, write-next, write-all}
+use Rattle.lines.proofs.Writing.{write-none, write-next, write-all}
 use Rattle.lines.proofs.Pairs.{hex_bytes-pair, hex_bytes-no-pair, hex_bytes-end, length-hex_bytes}
 use Rattle.lines.proofs.hex.bytes.Goals as goal
 

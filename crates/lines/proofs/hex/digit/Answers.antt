@@ -1,6 +1,5 @@
 -- `hex::digit` meets its contract: each way out is one case of `digit_of`.
 use native.Mathlib.Omega.{arith}
-use borrow.Author.Rules.{rules}
 use borrow.Author.Tests.{le-leb, lt-leb}
 use Rattle.lines.specs.Hex.{digit_of}
 use Rattle.lines.proofs.hex.digit.Goals as goal

@@ -1,6 +1,5 @@
 -- `hex::glyph` meets its contract: each way out is one case of the kit's.
 use native.Mathlib.Omega.{arith}
-use borrow.Author.Rules.{rules}
 use borrow.Author.Tests.{lt-ltb, le-ltb}
 use Rattle.lines.proofs.hex.glyph.Goals as goal
 

@@ -1,10 +1,9 @@
 -- `hex::number` meets its contract. The loop's invariant: n has the digits passed, and the number that s is goes on from n.
-use mathlib.Core.Path.{◌≡◌, refl, sym, ◌∙◌}
-use Prim.Native.Nat.{◌+◌, ◌-◌, ◌*◌, ◌^◌, ◌≤◌, ◌<◌}
+use mathlib.Core.Path.{refl, sym, ◌∙◌}
+use Prim.Native.Nat.{◌+◌, ◌*◌, ◌^◌, ◌≤◌, ◌<◌}
 use native.Mathlib.Omega.{arith}
 use native.Mathlib.Nat.{pow-zero, pow-le-pow_right}
-use lib.ListN.{length, drop}
-use Rattle.lines.specs.Hex.{number_from}
+use lib.ListN.{length}
 use Rattle.lines.proofs.Digits.{number-digit, number-no-digit, number-end, digit-below}
 use Rattle.lines.proofs.hex.number.Goals as goal
 use Rattle.lines.proofs.hex.number.Goals.{Else-base-d}

@@ -1,11 +1,8 @@
 -- `hex::number` meets its contract. The loop's invariant: n has the digits passed, and the number that s is goes on from n.
-use mathlib.Core.Path.{◌≡◌, refl, sym, ◌∙◌}
-use Prim.Native.Nat.{◌+◌, ◌-◌, ◌*◌, ◌^◌, ◌≤◌, ◌<◌}
-use native.Mathlib.Omega.{arith}
-use native.Mathlib.Nat.{pow-zero, pow-le-pow_right}
+use mathlib.Core.Path.{◌≡◌}
+use Prim.Native.Nat.{◌-◌, ◌^◌, ◌<◌}
 use lib.ListN.{length, drop}
 use Rattle.lines.specs.Hex.{number_from}
-use Rattle.lines.proofs.Digits.{number-digit, number-no-digit, number-end, digit-below}
 use Rattle.lines.proofs.hex.number.Given as goal
 
 abbrev pub invariant-loop-i : goal.invariant-loop-i

@@ -1,5 +1,4 @@
 -- `hex::pair` meets its contract: each way out is one case of `hex_pair`.
-use borrow.Author.Rules.{rules}
 use borrow.Author.Tests.{lt-ltb, le-ltb}
 use Rattle.lines.specs.Hex.{hex_pair}
 use Rattle.lines.proofs.hex.pair.Goals as goal

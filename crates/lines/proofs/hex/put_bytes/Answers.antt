@@ -1,11 +1,10 @@
 -- `hex::put_bytes` meets its contract. The loop's invariant: the digits of the bytes passed are written, and those of the others are to come.
 use mathlib.Core.Path.{refl, sym}
-use Prim.Native.Nat.{◌-◌, ◌*◌, ◌≤◌}
+use Prim.Native.Nat.{◌≤◌}
 use native.Mathlib.Omega.{arith}
-use borrow.Author.Rules.{rules}
-use lib.ListN.{length, drop, length-set}
+use lib.ListN.{length, length-set}
 use Rattle.lines.specs.Hex.{hex_of}
-use Rattle.lines.proofs.Writing.{Writing, write-none, write-next, write-all}
+use Rattle.lines.proofs.Writing.{write-none, write-next, write-all}
 use Rattle.lines.proofs.Pairs.{hex_of-byte, hex_of-end, length-hex_of}
 use Rattle.lines.proofs.hex.put_bytes.Goals as goal
 

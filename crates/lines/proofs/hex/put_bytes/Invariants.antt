@@ -1,12 +1,8 @@
 -- `hex::put_bytes` meets its contract. The loop's invariant: the digits of the bytes passed are written, and those of the others are to come.
-use mathlib.Core.Path.{refl, sym}
-use Prim.Native.Nat.{◌-◌, ◌*◌, ◌≤◌}
-use native.Mathlib.Omega.{arith}
-use borrow.Author.Rules.{rules}
-use lib.ListN.{length, drop, length-set}
+use Prim.Native.Nat.{◌-◌, ◌*◌}
+use lib.ListN.{length, drop}
 use Rattle.lines.specs.Hex.{hex_of}
-use Rattle.lines.proofs.Writing.{Writing, write-none, write-next, write-all}
-use Rattle.lines.proofs.Pairs.{hex_of-byte, hex_of-end, length-hex_of}
+use Rattle.lines.proofs.Writing.{Writing}
 use Rattle.lines.proofs.hex.put_bytes.Given as goal
 
 abbrev pub invariant-loop-i : goal.invariant-loop-i

@@ -2,10 +2,9 @@
 use mathlib.Core.Path.{◌≡◌, ◌∙◌, ap}
 use Prim.Native.Nat.{ℕ, ◌≤◌, min, max}
 use native.Mathlib.Omega.{arith}
-use borrow.Author.Rules.{rules}
 use lib.Dec.{lit<}
 use Rattle.io.specs.Digits.{last_digits}
-use Rattle.promises.proofs.Puts.{puts-copy}
+use Rattle.promises.proofs.Puts.{puts-same}
 use Rattle.lines.proofs.Decimal.{length_digits, fewest-most}
 use Rattle.lines.proofs.hex.put_hex.Goals as goal
 use Rattle.lines.proofs.hex.put_hex.Goals.{After-hex-k}
@@ -16,7 +15,7 @@ wide c =
     let a = c.args in
     let w = min (max a.width 1) 16 in
     let same : w ≡ a.width = omega arith in
-    let f = c.hex-k.ensures.1.0 in
+    let f = c.hex-k.ensures.len in
     let most : c.hex-k.result ≤ a.width
     = fewest-most 16 w a.n c.hex-k.result a.width (lit< tt) (omega arith) c.requires.n_bound f in
     omega (arith, f.0)
@@ -27,6 +26,6 @@ copy-requires c = omega (arith, wide (goal.at.copy-requires c).After-hex-k)
 pub returns : goal.returns
 returns c =
     let a = c.args in
-    let e = c.hex-k.ensures.1.1 ∙ ap (λ (k : ℕ). last_digits 16 k a.n) (wide (goal.at.returns c).After-hex-k) in
-    let p = puts-copy e c.copy.ensures in
+    let e = c.hex-k.ensures.digits ∙ ap (λ (k : ℕ). last_digits 16 k a.n) (wide (goal.at.returns c).After-hex-k) in
+    let p = puts-same e c.copy.ensures in
     record { puts = p; value = p.size ∙ length_digits 16 a.width a.n }

@@ -1,4 +1,4 @@
--- `text::field_end` meets its contract: it is `bytes::find` over the whole slice.
+-- `text::field_end` meets its contract: it is `byte_slices::find` over the whole slice.
 use mathlib.Core.Path.{◌∙◌}
 use native.Mathlib.Nat.{zero-add}
 use borrow.Author.Rules.{rules}

@@ -2,7 +2,6 @@
 use native.Mathlib.Omega.{arith}
 use Rattle.lines.specs.Text.{tab}
 use Rattle.promises.proofs.Puts.{puts-byte}
-use borrow.Author.Rules.{rules}
 use Rattle.lines.proofs.text.put_head.Goals as goal
 
 pub returns : goal.returns

@@ -7,10 +7,10 @@ use Rattle.byte_slices.specs.Bytes.{index_of}
 use Rattle.promises.proofs.Onto.{tail-lent}
 use Rattle.lines.specs.Text.{tab}
 use Rattle.lines.proofs.Parting.{index-le}
-use Rattle.lines.proofs.Words.{WordsPassed, no-word-passed, word-found, word-passed, all-passed}
-use borrow.Author.Rules.{rules}
+use Rattle.lines.proofs.Same.{eq-tested}
+use Rattle.lines.proofs.Words.{no-word-passed, word-found, word-passed, all-passed}
 use Rattle.lines.proofs.text.word_place.Goals as goal
-use Rattle.lines.proofs.text.word_place.Goals.{After-eq-arg-1, After-field_end}
+use Rattle.lines.proofs.text.word_place.Goals.{After-field_end}
 
 end-found : (c : After-field_end) → c.field_end.result ≡ index_of tab (drop c.loop-at.at c.args.words.now)
 end-found c = rw tail-lent at c.field_end.ensures.value
@@ -27,11 +27,11 @@ word-lent c = omega arith
 
 pub returns-then-eq : goal.returns-then-eq
 returns-then-eq c =
-    word-found c.loop-at.invariant c.loop-at-test.true (end-found (goal.at.returns-then-eq c).After-eq-arg-1) (rw (word-lent (goal.at.returns-then-eq c).After-eq-arg-1) at c.same.ensures) c.if-eq.true
+    word-found c.loop-at.invariant c.loop-at-test.true (end-found (goal.at.returns-then-eq c).After-field_end) (eq-tested (rw (word-lent (goal.at.returns-then-eq c).After-field_end) at c.eq.ensures)) c.if-eq.true
 
 pub loop-at-preserved : goal.loop-at-preserved
 loop-at-preserved c =
-    word-passed c.loop-at.invariant c.loop-at-test.true (end-found (goal.at.loop-at-preserved c).After-eq-arg-1) (rw (word-lent (goal.at.loop-at-preserved c).After-eq-arg-1) at c.same.ensures) c.if-eq.false
+    word-passed c.loop-at.invariant c.loop-at-test.true (end-found (goal.at.loop-at-preserved c).After-field_end) (eq-tested (rw (word-lent (goal.at.loop-at-preserved c).After-field_end) at c.eq.ensures)) c.if-eq.false
 
 pub loop-at-init : goal.loop-at-init
 loop-at-init c = no-word-passed _ _
@@ -40,13 +40,13 @@ pub overflow_add-end : goal.overflow_add-end
 overflow_add-end c = omega (arith, end-within c, c.well_formed)
 
 pub overflow_add-place : goal.overflow_add-place
-overflow_add-place c = omega (arith, c.loop-at.invariant.few, end-within (goal.at.overflow_add-place c).After-eq-arg-1, c.well_formed)
+overflow_add-place c = omega (arith, c.loop-at.invariant.few, end-within (goal.at.overflow_add-place c).After-field_end, c.well_formed)
 
 pub overflow_add-at : goal.overflow_add-at
-overflow_add-at c = omega (arith, end-within (goal.at.overflow_add-at c).After-eq-arg-1, c.well_formed)
+overflow_add-at c = omega (arith, end-within (goal.at.overflow_add-at c).After-field_end, c.well_formed)
 
 pub loop-at-smaller : goal.loop-at-smaller
-loop-at-smaller c = omega (arith, end-within (goal.at.loop-at-smaller c).After-eq-arg-1)
+loop-at-smaller c = omega (arith, end-within (goal.at.loop-at-smaller c).After-field_end)
 
 pub returns : goal.returns
 returns c = all-passed c.loop-at.invariant (omega (arith, c.loop-at-test.false))
