@@ -17,17 +17,17 @@ use Rattle.float_laws.proofs.Zero.{minus_zero-terms, add-plus_zero, add-minus_ze
 -- ---- one step
 module _ (f : Format) where
   pub plus_zero-from_zero : FromZero f plus_zero
-  plus_zero-from_zero = record { fitting = zero-fits f false; not_minusZero = λ e. false≢true (ap sign e) }
+  plus_zero-from_zero = record { fitting = zero-fits f false; not_minus_zero = λ e. false≢true (ap sign e) }
 
   pub add-from_zero : (x y : Float) → FromZero f x → T (fits f y) → FromZero f (add f x y)
   add-from_zero x y z h = record {
     fitting = add-fits f x y;
-    not_minusZero = λ e. z.not_minusZero (minus_zero-terms f x y z.fitting h e).0;
+    not_minus_zero = λ e. z.not_minus_zero (minus_zero-terms f x y z.fitting h e).0;
   }
 
   pub add-zero-term : (x : Float) (s : Bool) → FromZero f x → add f x (signed_zero s) ≡ x
   add-zero-term x true z = add-minus_zero f x z.fitting
-  add-zero-term x false z = add-plus_zero f x z.fitting z.not_minusZero
+  add-zero-term x false z = add-plus_zero f x z.fitting z.not_minus_zero
 
   pub add-mul-zero : (x y : Float) (s : Bool) → FromZero f x → T (finite y) → add f x (mul f y (signed_zero s)) ≡ x
   add-mul-zero x y s z h = rw (mul-signed_zero f y s h) (add-zero-term x (unlike (sign y) s) z)

@@ -21,4 +21,4 @@ sign (fin s m e) = s
 -- a value of the format that is not -0
 pub record FromZero (f : Format) (x : Float) : Type 0 where
   pub fitting : T (fits f x)
-  pub not_minusZero : x ≢ minus_zero
+  pub not_minus_zero : x ≢ minus_zero

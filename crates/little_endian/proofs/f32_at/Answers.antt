@@ -1,5 +1,4 @@
 -- `little_endian::f32_at` meets its contract: the float of the number at the offset.
-use borrow.Author.Rules.{rules}
 use Rattle.little_endian.proofs.f32_at.Goals as goal
 
 pub returns : goal.returns

@@ -1,5 +1,4 @@
 -- `little_endian::put_f32` meets its contract: the bytes of the float's pattern.
-use borrow.Author.Rules.{rules}
 use Rattle.little_endian.proofs.put_f32.Goals as goal
 
 pub returns : goal.returns

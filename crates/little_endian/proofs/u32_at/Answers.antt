@@ -1,5 +1,4 @@
 -- `little_endian::u32_at` meets its contract: the bytes are joined one after another (`join-next`).
-use borrow.Author.Rules.{rules}
 use Rattle.little_endian.specs.Bytes.{AreBytes}
 use Rattle.little_endian.proofs.Numbers.{join_first, join-next}
 use Rattle.little_endian.proofs.u32_at.Goals as goal

@@ -1,5 +1,5 @@
 -- `rounding::narrowing::narrow_small` meets its contract: the law of a small f32 (`narrow-small`). Below 2 ^ 871 of an f64's smallest values the answer is 0.
-use Rattle.std.proofs.Common.{◌≡◌, ℕ, ◌-◌, ◌*◌, ◌/◌, ◌^◌, ◌<◌, sym, ap, ◌∙◌, subst, div-lt_iff_lt-mul, arith, pow_pos, pow_mono, rules}
+use Rattle.std.proofs.Common.{◌≡◌, ℕ, ◌-◌, ◌*◌, ◌/◌, ◌^◌, ◌<◌, sym, ap, ◌∙◌, subst, div-lt_iff_lt-mul, arith, pow_pos, pow_mono}
 use lib.Ieee.Nearest.{closest}
 use Rattle.rounding.specs.Inner.Parts.{IsNarrowedPattern}
 use Rattle.rounding.proofs.Powers.{one_shl}

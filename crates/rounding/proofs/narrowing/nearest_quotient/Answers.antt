@@ -1,6 +1,5 @@
 -- `rounding::narrowing::nearest_quotient` meets its contract: it is the division of `closest-by-division`.
 use Rattle.rounding.proofs.Closest.{closest-by-division}
-use Rattle.std.proofs.Common.{rules}
 use Rattle.rounding.proofs.narrowing.nearest_quotient.Goals as goal
 
 pub returns : goal.returns

@@ -1,5 +1,5 @@
 -- `rounding::rooting::root_pattern` meets its contract: each number fits, and the law of the root (`root-pattern-is`) gives the pattern.
-use Rattle.std.proofs.Common.{ℕ, ◌+◌, ◌-◌, ◌*◌, ◌/◌, ◌^◌, ◌<◌, ◌≤◌, sym, subst, le_trans, le-add_right, lt_of_le_of_lt, div-lt_iff_lt-mul, le-add_left, arith, pow_mono, rules}
+use Rattle.std.proofs.Common.{ℕ, ◌+◌, ◌-◌, ◌*◌, ◌/◌, ◌^◌, ◌<◌, ◌≤◌, sym, subst, le_trans, le-add_right, lt_of_le_of_lt, div-lt_iff_lt-mul, le-add_left, arith, pow_mono}
 use lib.Ieee.{ones}
 use Rattle.std.specs.Float.{Format}
 use Rattle.rounding.specs.Inner.Pick.{digits_of}

@@ -1,7 +1,7 @@
 -- `rounding::whole::one_digit` meets its contract: the digit is that of the definition, by its test, and every number fits, since what is taken away is there.
-use Rattle.std.proofs.Common.{◌≡◌, ℕ, ◌+◌, ◌*◌, ◌<◌, ◌≤◌, sym, refl, ◌∙◌, arith}
-use Rattle.rounding.specs.Inner.Digits.{next_digit, have, need}
-use Rattle.rounding.proofs.Digits.{digit-one, digit-zero, digit-le, taken-le}
+use Rattle.std.proofs.Common.{◌≡◌, sym, refl, ◌∙◌, arith}
+use Rattle.rounding.specs.Inner.Digits.{next_digit}
+use Rattle.rounding.proofs.Digits.{digit-one, digit-zero}
 use Rattle.rounding.proofs.whole.one_digit.Goals as goal
 use Rattle.rounding.proofs.whole.one_digit.Goals.{then-need-have, else-need-have}
 

@@ -1,7 +1,6 @@
 -- `rounding::whole::root_digits` meets its contract. The invariant: root and rest are those after i turns, and the last 54 digits of left follow the first i pairs. What the turns make is the root (`turns-whole-root`).
-use Rattle.std.proofs.Common.{◌≡◌, ℕ, suc, ◌-◌, ◌%◌, ◌^◌, ◌≤◌, refl, add-one, arith, pow_mono}
-use Rattle.rounding.specs.Inner.Digits.{next_root, next_rest, digits_left, next_pair, turns}
-use Rattle.rounding.proofs.Digits.{turns-whole-root, turns-root-lt, digits-left-next}
+use Rattle.std.proofs.Common.{◌≡◌, ◌-◌, ◌%◌, ◌^◌, ◌≤◌}
+use Rattle.rounding.specs.Inner.Digits.{digits_left, turns}
 use Rattle.rounding.proofs.whole.root_digits.Given as goal
 
 abbrev pub invariant-loop-i : goal.invariant-loop-i
