@@ -1,0 +1,27 @@
+-- The loop adds one squared difference a turn.
+use mathlib.Core.Path.{◌≡◌}
+use Prim.Native.Nat.{◌-◌, ◌≤◌}
+use native.Mathlib.Omega.{arith}
+use borrow.Author.Rules.{rules}
+use lib.Ieee.{binary32, of_bits}
+use Rattle.bodies.specs.Elements.{dense_element}
+use Rattle.distance_sums.specs.Dense.{squares}
+use Rattle.distance_sums.specs.Values.{l2_of}
+use Rattle.distance_sums.proofs.Sums.{squares-none, squares-more}
+use Rattle.distance_l2.proofs.vector_f32_distance_l2.Goals as goal
+
+pub loop-i-init : goal.loop-i-init
+unfolding of_bits
+loop-i-init c = (omega arith, squares-none _ _ binary32)
+
+pub loop-i-preserved : goal.loop-i-preserved
+loop-i-preserved c =
+    let p = c.f32_at-x.ensures in
+    let q = c.f32_at-y.ensures in
+    (omega arith, squares-more _ _ _ _ _ p q binary32 _ _ c.loop-i.invariant.1 c.l2_step32-sum.ensures)
+
+pub returns : goal.returns
+unfolding l2_of
+returns c =
+    let e : c.loop-i.i ≡ c.args.dims = omega arith in
+    rw (c.root_of.ensures, c.widen.ensures, c.loop-i.invariant.1, e)

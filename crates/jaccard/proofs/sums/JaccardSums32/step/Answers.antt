@@ -1,0 +1,7 @@
+-- By the test the first is a number, or NaN.
+use borrow.Author.Rules.{rules}
+use Rattle.jaccard.proofs.Tested.{nan-value}
+use Rattle.jaccard.proofs.sums.JaccardSums32.step.Goals as goal
+
+pub returns-else-x : goal.returns-else-x
+returns-else-x c = rw (nan-value _ c.if-x.false) c.with_nan.ensures

@@ -1,0 +1,9 @@
+-- By the definition: a NaN does not equal itself.
+use mathlib.Core.Path.{refl}
+use lib.Ieee.{eq}
+use Rattle.distance_sums.specs.Extremes.{lesser, greater}
+use Rattle.distance_sums.specs.Dense.{shares_with}
+use Rattle.jaccard.proofs.sums.JaccardSums32.with_nan.Goals as goal
+
+pub returns : goal.returns
+returns c = refl

@@ -1,0 +1,9 @@
+-- Each branch is a case of the definition.
+use lib.Ieee.{of_bits}
+use Rattle.jaccard.proofs.sums.above_zero.Goals as goal
+
+pub returns-then-x : goal.returns-then-x
+returns-then-x c = rw c.if-x.true
+
+pub returns-else-x : goal.returns-else-x
+returns-else-x c = rw c.if-x.false

@@ -1,0 +1,9 @@
+-- Each branch is a case of the definition.
+use Rattle.distance_sums.specs.Extremes.{lesser}
+use Rattle.jaccard.proofs.sums.lesser64.Goals as goal
+
+pub returns-then-y-x : goal.returns-then-y-x
+returns-then-y-x c = rw (c.requires, c.if-y-x.true)
+
+pub returns-else-y-x : goal.returns-else-y-x
+returns-else-y-x c = rw (c.requires, c.if-y-x.false)
