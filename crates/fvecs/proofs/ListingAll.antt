@@ -9,7 +9,7 @@ use lib.ListN.{length, drop, length-append}
 use lib.Seq.{drop-drop}
 use Rattle.line_stream.proofs.Answering.{no_lines, answered-first, some-answered}
 use Rattle.line_stream.proofs.InputRead.{length-flatten}
-use Rattle.line_stream.proofs.ServingAll.{stopped, turn-shorter}
+use Rattle.line_stream.proofs.ServingAll.{turn-shorter}
 use Rattle.vecs_lines.specs.Inner.Rooms.{vector_line_room}
 use Rattle.lines.specs.Text.{newline}
 use Rattle.lines.specs.Printed.{head_of, numbered_reply}
@@ -68,14 +68,14 @@ module _ (text rest : List ℕ) (at : ℕ) (lent : rest ≡ drop at text) {out o
   sum : length (vectors_of rest) ≡ length new + length others
   sum = ap length parted ∙ length-append new others
 
-  -- where the loop stops for want of vectors, none is left
-  pub none_ahead : (written : Bool) → r.more && written ≡ false → written ≡ true → vectors_of (drop (at + r.at) text) ≡ []
-  none_ahead written e w =
-      let all = ltb-false (length new) (length (vectors_of rest)) (sym s.more ∙ stopped r.more written e w) in
+  -- where the loop stops, no vector is left
+  pub none_ahead : r.more ≡ false → vectors_of (drop (at + r.at) text) ≡ []
+  none_ahead e =
+      let all = ltb-false (length new) (length (vectors_of rest)) (sym s.more ∙ e) in
       ahead ∙ no_lines others (omega (arith, all, sum))
 
-  pub listing-shorter : (written : Bool) → vector_line_room ≤ length out → at + r.at ≤ length text → length text - (at + r.at) + cond (r.more && written) 1 0 < length text - at + 1
-  listing-shorter written fits le = turn-shorter (length text) at r.at r.more written some le
+  pub listing-shorter : vector_line_room ≤ length out → at + r.at ≤ length text → length text - (at + r.at) + cond r.more 1 0 < length text - at + 1
+  listing-shorter fits le = turn-shorter (length text) at r.at r.more some le
     where
       some : r.more ≡ true → 0 < r.at
       some e =

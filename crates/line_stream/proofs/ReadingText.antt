@@ -1,6 +1,6 @@
 -- Laws of the text that is read next: bytes that came behind what was kept, or at the end of the input the newline of a line.
 use mathlib.Core.Path.{◌≡◌, refl, sym, ◌∙◌, subst}
-use mathlib.Core.Bool.{Bool, true, false, cond, not, ◌&&◌, false≢true}
+use mathlib.Core.Bool.{Bool, true, false, cond, not, false≢true}
 use mathlib.Core.List.{List, [], ◌∷◌, ◌++◌}
 use Prim.Native.Nat.{ℕ, ◌+◌, ◌-◌, ◌<◌, ◌≤◌}
 use native.Mathlib.Omega.{arith}
@@ -14,7 +14,6 @@ use Rattle.line_stream.specs.Inner.Reading.{PieceFits, HoldsInput, HoldsPiece, H
 use Rattle.line_stream.specs.declared.Piece.{Piece}
 use Rattle.line_stream.specs.declared.Piece.TheVariants.{Bytes}
 use Rattle.line_stream.specs.declared.InputText.{InputText}
-use Rattle.line_stream.proofs.ServingAll.{goes_on}
 
 -- no more comes
 module _ {kept ending buffer : List ℕ} {count : ℕ} (end left : ℕ) (failed : Bool) (size : count ≡ length kept) (front : take count buffer ≡ kept) where
@@ -88,10 +87,8 @@ module _ {line buffer : List ℕ} {left : ℕ} {t : InputText} (h : HoldsPiece l
   pub text-failed : t.failed ≡ true → HoldsText line left buffer t
   text-failed fails = with-ending (λ _. fails)
 
--- the loop over texts goes on while the input may and all replies are written, and it ends: fewer bytes are left each time
-pub left-fewer : {kept ending buffer : List ℕ} {left : ℕ} {t : InputText} → HoldsInput kept ending left buffer t → (written : Bool) → cond (t.more && written) (t.left + 1) 0 < left + 1
-left-fewer {left = left} {t} h written = go (t.more && written) refl
-  where
-    go : (on : Bool) → t.more && written ≡ on → cond on (t.left + 1) 0 < left + 1
-    go true e = let more = (goes_on t.more written e).0 in omega (arith, h.some more, h.fewer more)
-    go false e = omega arith
+-- a loop over texts that goes on only while the input may ends: fewer bytes are left each time
+pub left-fewer : {kept ending buffer : List ℕ} {left : ℕ} {t : InputText} → HoldsInput kept ending left buffer t → (on : Bool) → (on ≡ true → t.more ≡ true)
+    → cond on (t.left + 1) 0 < left + 1
+left-fewer h true may = omega (arith, h.some (may refl), h.fewer (may refl))
+left-fewer h false may = omega arith

@@ -41,22 +41,15 @@ rest-ready {text} {before} {at} {held} p fits = record {
   numbers = omega (arith, p.numbered, count-le [] (take at text), length-take-le at text p.within, rest-lent at text, p.within, fits);
 }
 
--- a loop goes on while there is more and all replies are written
-pub goes_on : (more written : Bool) → more && written ≡ true → (more ≡ true) × (written ≡ true)
-goes_on true written e = (refl, e)
-goes_on false written e = absurd (false≢true e)
+-- what goes on while two tests hold
+pub goes_on : (more other : Bool) → more && other ≡ true → (more ≡ true) × (other ≡ true)
+goes_on true other e = (refl, e)
+goes_on false other e = absurd (false≢true e)
 
-pub stopped : (more written : Bool) → more && written ≡ false → written ≡ true → more ≡ false
-stopped true written e w = absurd (false≢true (sym e ∙ w))
-stopped false written e w = refl
-
--- and it ends: a turn passes bytes, or it is the last
-pub turn-shorter : (size at passed : ℕ) (more written : Bool) → (more ≡ true → 0 < passed) → at + passed ≤ size → size - (at + passed) + cond (more && written) 1 0 < size - at + 1
-turn-shorter size at passed more written some le = go (more && written) refl
-  where
-    go : (on : Bool) → more && written ≡ on → size - (at + passed) + cond on 1 0 < size - at + 1
-    go true e = omega (arith, some (goes_on more written e).0)
-    go false e = omega arith
+-- a loop that goes on while there is more ends: a turn passes bytes, or it is the last
+pub turn-shorter : (size at passed : ℕ) (more : Bool) → (more ≡ true → 0 < passed) → at + passed ≤ size → size - (at + passed) + cond more 1 0 < size - at + 1
+turn-shorter size at passed true some le = omega (arith, some refl)
+turn-shorter size at passed false some le = omega arith
 
 module _ (text : List ℕ) (at : ℕ) {reply : List ℕ → List ℕ} {longest : ℕ} {out out' : List ℕ} {b : ℕ} {r : ServedLines}
     (s : Serves reply longest (take (length text - at) (drop at text)) b out out' r) where
@@ -78,15 +71,15 @@ module _ (text : List ℕ) (at : ℕ) {reply : List ℕ → List ℕ} {longest :
         line = refl;
       }
 
-  -- the loop goes on while there are lines and their replies are written: where it stops for want of lines, none is left
-  pub none_left : (written : Bool) → r.more && written ≡ false → written ≡ true → ended_lines [] (drop (at + r.at) text) ≡ []
-  none_left written e w = rw (← drop-drop r.at at text, ← tail-lent at text) (serves-no-more reply longest s (stopped r.more written e w))
+  -- the loop goes on while there are lines: where it stops, none is left
+  pub none_left : r.more ≡ false → ended_lines [] (drop (at + r.at) text) ≡ []
+  none_left e = rw (← drop-drop r.at at text, ← tail-lent at text) (serves-no-more reply longest s e)
 
-  pub rest-shorter : (written : Bool) → longest ≤ length out → at + r.at ≤ length text → length text - (at + r.at) + cond (r.more && written) 1 0 < length text - at + 1
-  rest-shorter written fits le = turn-shorter (length text) at r.at r.more written (serves-some reply longest s fits) le
+  pub rest-shorter : longest ≤ length out → at + r.at ≤ length text → length text - (at + r.at) + cond r.more 1 0 < length text - at + 1
+  rest-shorter fits le = turn-shorter (length text) at r.at r.more (serves-some reply longest s fits) le
 
-pub all-served : {text : List ℕ} {before at : ℕ} {held : HeldLine} {written : Bool} → TextServedUpTo text before at held → ended_lines [] (drop at text) ≡ []
-    → ServesAll text before (record { at = at; before = held.before; written = written })
+pub all-served : {text : List ℕ} {before at : ℕ} {held : HeldLine} → TextServedUpTo text before at held → ended_lines [] (drop at text) ≡ []
+    → ServesAll text before (record { at = at; before = held.before })
 all-served {text} {before} {at} {held} p none =
     let t = drop at text in
     let rest : unfinished_line [] (take at text ++ t) ≡ t = unfinished-append [] (take at text) t ∙ rw p.start (unfinished-whole [] t none) in

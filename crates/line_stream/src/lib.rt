@@ -2,11 +2,15 @@
 // is read in behind it. Of an input that is cut into lines that is the line that no newline has ended yet.
 #![tactic(auto)]
 
+pub mod ending;
+
 ghost use Rattle.std.specs.Prelude.{◌≡◌, ◌+◌, ◌≤◌, ◌<◌, min, length, take, drop};
 ghost use Rattle.promises.specs.Onto.{onto};
 ghost use Rattle.promises.specs.Puts.{Puts};
 ghost use Rattle.line_stream.specs.Inner.Stream.{kept_of};
 ghost use Rattle.line_stream.specs.Inner.Reading.{Reads, HoldsPiece, HoldsText};
+
+use std::io::Read;
 
 // The line that starts a text: how many of its bytes were looked at and hold no newline, and how many
 // lines came before it.
@@ -27,13 +31,12 @@ pub struct ServedLines {
     pub more: bool,
 }
 
-// Where the last line of a text starts, which no newline ends, how many lines came before it, and
-// whether all replies were written.
+// Where the last line of a text starts, which no newline ends, and how many lines came before it, for
+// all of which the replies were written.
 #[derive(Clone, Copy)]
 pub struct ServedText {
     pub at: usize,
     pub before: u64,
-    pub written: bool,
 }
 
 // A text at the start of a buffer, up to `end`: the first `count` bytes are those that were kept. `left`
@@ -54,21 +57,19 @@ enum Piece {
     Failed,
 }
 
-// Reads a piece of standard input in behind the first `count` bytes of the buffer. Where fewer bytes
-// are left than the buffer has, none come.
-fn read_behind(buffer: &mut [u8], count: usize, left: u64) -> Piece
+// Reads a piece of the input in behind the first `count` bytes of the buffer. Where fewer bytes are
+// left than the buffer has, none come.
+fn read_behind<R: Read>(input: &mut R, buffer: &mut [u8], count: usize, left: u64) -> Piece
     requires { count ≤ length buffer.old }
     ensures { Reads count left buffer.old buffer.new result }
 {
     if left < buffer.len() as u64 {
         return Piece::Bytes(0);
     }
-    let got = libc::read(libc::STDIN_FILENO, &mut buffer[count..]);
-    if got < 0 {
-        return Piece::Failed;
+    match input.read(&mut buffer[count..]) {
+        Ok(n) => Piece::Bytes(n),
+        Err(_) => Piece::Failed,
     }
-    let n = io::count(got, &buffer[count..]);
-    Piece::Bytes(n)
 }
 
 fn least(a: usize, b: usize) -> usize
@@ -106,13 +107,20 @@ fn keep(buffer: &mut [u8], from: usize, end: usize, most: usize) -> usize
 }
 
 // Keeps the bytes from `at` up to `end`, at most `most` of them, and reads the input on behind them.
-pub fn next_piece(buffer: &mut [u8], at: usize, end: usize, most: usize, left: u64) -> InputText
+pub fn next_piece<R: Read>(
+    input: &mut R,
+    buffer: &mut [u8],
+    at: usize,
+    end: usize,
+    most: usize,
+    left: u64,
+) -> InputText
     requires at_le_end { at ≤ end }
     requires end_in_bounds { end ≤ length buffer.old }
     ensures { HoldsPiece (kept_of most (drop at (take end buffer.old))) left buffer.new result }
 {
     let count = keep(buffer, at, end, most);
-    let piece = read_behind(buffer, count, left);
+    let piece = read_behind(input, buffer, count, left);
     let Piece::Bytes(n) = piece else {
         return InputText {
             count,
@@ -154,13 +162,20 @@ fn last_text(buffer: &mut [u8], count: usize, left: u64) -> InputText
 
 // The next piece behind the line that stands from `at` up to `end`, of which at most `most` bytes are
 // kept; at the end of the input the line's newline.
-pub fn next_text(buffer: &mut [u8], at: usize, end: usize, most: usize, left: u64) -> InputText
+pub fn next_text<R: Read>(
+    input: &mut R,
+    buffer: &mut [u8],
+    at: usize,
+    end: usize,
+    most: usize,
+    left: u64,
+) -> InputText
     requires at_le_end { at ≤ end }
     requires end_in_bounds { end ≤ length buffer.old }
     requires most_in_bounds { most < length buffer.old }
     ensures { HoldsText (kept_of most (drop at (take end buffer.old))) left buffer.new result }
 {
-    let text = next_piece(buffer, at, end, most, left);
+    let text = next_piece(input, buffer, at, end, most, left);
     if text.more {
         return text;
     }

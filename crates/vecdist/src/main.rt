@@ -3,13 +3,16 @@
 
 mod serving;
 
-ghost use Rattle.std.specs.Prelude.{◌≡◌, true, ◌*◌, ◌/◌, ◌≤◌, length};
+ghost use Rattle.std.specs.Prelude.{◌≡◌, ◌*◌, ◌/◌, ◌≤◌, length, IfOk};
 ghost use Rattle.line_stream.specs.Inner.Rooms.{numbered_room, input_room};
 ghost use Rattle.line_stream.specs.Inner.Serving.{TextReady, ServesAll};
 ghost use Rattle.vecdist_lines.specs.Limits.{vecdist_limit, vecdist_room};
 
+use line_stream::ending::exit_code;
 use line_stream::{HeldLine, ServedText, next_text};
 use serving::serve;
+use std::io::{self, Read, Write};
+use std::process::ExitCode;
 use vecdist_lines::LIMIT;
 
 // As many bytes of a line as are kept: one more than it may have, so that a longer one is seen.
@@ -33,57 +36,57 @@ fn decoded_room() -> [u8; DECODED]
     [0; DECODED]
 }
 
-fn cannot_read() {
-    io::write_all(
-        libc::STDERR_FILENO,
-        b"vecdist: standard input cannot be read\n",
-    );
-}
+// Room for replies that are not written yet.
+const OUTPUT: usize = 65536;
 
-// Writes replies, and answers whether all of them were written.
-fn write_replies(replies: &[u8]) -> bool {
-    if io::write_all(libc::STDOUT_FILENO, replies) {
-        return true;
-    }
-    io::write_all(
-        libc::STDERR_FILENO,
-        b"vecdist: standard output cannot be written\n",
-    );
-    false
+fn output_room() -> [u8; OUTPUT]
+    ensures { 65536 ≡ length result }
+{
+    [0; OUTPUT]
 }
 
 // Serves all lines of a text that starts with the line held, and writes the replies.
-fn serve_all(text: &[u8], held: HeldLine, decoded: &mut [u8], out: &mut [u8]) -> ServedText
+fn serve_all<W: Write>(
+    text: &[u8],
+    held: HeldLine,
+    decoded: &mut [u8],
+    out: &mut [u8],
+    stdout: &mut W,
+) -> io::Result<ServedText>
     requires text_ready { TextReady text.now held }
     requires vecdist_limit_bound { vecdist_limit ≤ 2 * length decoded.old }
     requires vecdist_room_in_bounds { numbered_room vecdist_room ≤ length out.old }
-    ensures { result.written ≡ true → ServesAll text.now held.before result }
+    ensures { IfOk result (ServesAll text.now held.before) }
 {
     let mut line = held;
     let mut at = 0;
     let mut more = true;
-    let mut written = true;
     while more {
         let served = serve(&text[at..], line, decoded, out);
         let filled = served.filled;
-        written = write_replies(&out[..filled]);
+        stdout.write_all(&out[..filled])?;
         at += served.at;
         line = HeldLine {
             count: 0,
             before: served.before,
         };
-        more = served.more & written;
+        more = served.more;
     }
-    ServedText {
+    Ok(ServedText {
         at,
         before: line.before,
-        written,
-    }
+    })
 }
 
 // Reads standard input piece by piece to its end, serves its lines, and answers whether it could be
 // read.
-fn run(input: &mut [u8], decoded: &mut [u8], out: &mut [u8]) -> bool
+fn run<R: Read, W: Write>(
+    stdin: &mut R,
+    stdout: &mut W,
+    input: &mut [u8],
+    decoded: &mut [u8],
+    out: &mut [u8],
+) -> io::Result<bool>
     requires input_len { length input.old ≡ input_room vecdist_limit }
     requires vecdist_limit_bound { vecdist_limit ≤ 2 * length decoded.old }
     requires vecdist_room_in_bounds { numbered_room vecdist_room ≤ length out.old }
@@ -96,27 +99,32 @@ fn run(input: &mut [u8], decoded: &mut [u8], out: &mut [u8]) -> bool
     let mut more = true;
     let mut failed = false;
     while more {
-        let text = next_text(input, at, end, MOST_KEPT, left);
+        let text = next_text(stdin, input, at, end, MOST_KEPT, left);
         end = text.end;
         let held = HeldLine {
             count: text.count,
             before,
         };
-        let served = serve_all(&input[..end], held, decoded, out);
+        let served = serve_all(&input[..end], held, decoded, out, stdout)?;
         at = served.at;
         before = served.before;
         left = text.left;
-        more = text.more & served.written;
+        more = text.more;
         failed = text.failed;
     }
-    !failed
+    Ok(!failed)
 }
 
-fn main() {
+fn main(rt: HostRuntime) -> ExitCode {
     let mut input = input_room();
     let mut decoded = decoded_room();
-    let mut out = io::large_buffer();
-    if !run(&mut input, &mut decoded, &mut out) {
-        cannot_read();
-    }
+    let mut out = output_room();
+    let ran = run(
+        &mut rt.stdin(),
+        &mut rt.stdout(),
+        &mut input,
+        &mut decoded,
+        &mut out,
+    );
+    exit_code(&rt, "vecdist", ran)
 }

@@ -2,7 +2,7 @@
 // by piece, and writes the replies.
 #![tactic(auto)]
 
-ghost use Rattle.std.specs.Prelude.{◌≡◌, true, ◌≤◌, length};
+ghost use Rattle.std.specs.Prelude.{◌≡◌, ◌≤◌, length, IfOk};
 ghost use Rattle.line_stream.specs.Inner.Rooms.{numbered_room, input_room};
 ghost use Rattle.line_stream.specs.Inner.Serving.{TextReady, ServesAll};
 ghost use Rattle.probe_blobs.specs.Limits.{scratch_room, blob_room};
@@ -10,9 +10,12 @@ ghost use Rattle.probe_lines.specs.Limits.{vecprobe_limit, decoded_room};
 ghost use Rattle.probe_replies.specs.Inner.WorkRooms.{WorkRooms};
 ghost use Rattle.vecprobe.specs.Inner.Rooms.{output_room};
 
+use line_stream::ending::exit_code;
 use line_stream::{HeldLine, ServedText, next_text};
 use probe_lines::{BLOB, DECODED, LIMIT, SCRATCH};
 use probe_replies::{NUMBERED_REPLY, serve};
+use std::io::{self, Read, Write};
+use std::process::ExitCode;
 
 // As many bytes of a line as are kept: one more than it may have, so that a longer one is seen.
 const MOST_KEPT: usize = LIMIT + 1;
@@ -54,70 +57,52 @@ fn output_room() -> [u8; OUTPUT]
     [0; OUTPUT]
 }
 
-fn cannot_read() {
-    io::write_all(
-        libc::STDERR_FILENO,
-        b"vecprobe: standard input cannot be read\n",
-    );
-}
-
-// Writes replies, and answers whether all of them were written.
-fn write_replies(replies: &[u8]) -> bool {
-    if io::write_all(libc::STDOUT_FILENO, replies) {
-        return true;
-    }
-    io::write_all(
-        libc::STDERR_FILENO,
-        b"vecprobe: standard output cannot be written\n",
-    );
-    false
-}
-
 // Serves all lines of a text that starts with the line held, and writes the replies.
-fn serve_all(
+fn serve_all<W: Write>(
     text: &[u8],
     held: HeldLine,
     decoded: &mut [u8],
     scratch: &mut [u8],
     made: &mut [u8],
     out: &mut [u8],
-) -> ServedText
+    stdout: &mut W,
+) -> io::Result<ServedText>
     requires text_ready { TextReady text.now held }
     requires work_rooms { WorkRooms decoded.old scratch.old made.old }
     requires vecprobe_limit_in_bounds { numbered_room vecprobe_limit ≤ length out.old }
-    ensures { result.written ≡ true → ServesAll text.now held.before result }
+    ensures { IfOk result (ServesAll text.now held.before) }
 {
     let mut line = held;
     let mut at = 0;
     let mut more = true;
-    let mut written = true;
     while more {
         let served = serve(&text[at..], line, decoded, scratch, made, out);
         let filled = served.filled;
-        written = write_replies(&out[..filled]);
+        stdout.write_all(&out[..filled])?;
         at += served.at;
         line = HeldLine {
             count: 0,
             before: served.before,
         };
-        more = served.more & written;
+        more = served.more;
     }
-    ServedText {
+    Ok(ServedText {
         at,
         before: line.before,
-        written,
-    }
+    })
 }
 
 // Reads standard input piece by piece to its end, serves its lines, and answers whether it could be
 // read.
-fn run(
+fn run<R: Read, W: Write>(
+    stdin: &mut R,
+    stdout: &mut W,
     input: &mut [u8],
     decoded: &mut [u8],
     scratch: &mut [u8],
     made: &mut [u8],
     out: &mut [u8],
-) -> bool
+) -> io::Result<bool>
     requires input_len { length input.old ≡ input_room vecprobe_limit }
     requires work_rooms { WorkRooms decoded.old scratch.old made.old }
     requires vecprobe_limit_in_bounds { numbered_room vecprobe_limit ≤ length out.old }
@@ -130,29 +115,36 @@ fn run(
     let mut more = true;
     let mut failed = false;
     while more {
-        let text = next_text(input, at, end, MOST_KEPT, left);
+        let text = next_text(stdin, input, at, end, MOST_KEPT, left);
         end = text.end;
         let held = HeldLine {
             count: text.count,
             before,
         };
-        let served = serve_all(&input[..end], held, decoded, scratch, made, out);
+        let served = serve_all(&input[..end], held, decoded, scratch, made, out, stdout)?;
         at = served.at;
         before = served.before;
         left = text.left;
-        more = text.more & served.written;
+        more = text.more;
         failed = text.failed;
     }
-    !failed
+    Ok(!failed)
 }
 
-fn main() {
+fn main(rt: HostRuntime) -> ExitCode {
     let mut input = input_room();
     let mut decoded = decoded_room();
     let mut scratch = scratch_room();
     let mut made = blob_room();
     let mut out = output_room();
-    if !run(&mut input, &mut decoded, &mut scratch, &mut made, &mut out) {
-        cannot_read();
-    }
+    let ran = run(
+        &mut rt.stdin(),
+        &mut rt.stdout(),
+        &mut input,
+        &mut decoded,
+        &mut scratch,
+        &mut made,
+        &mut out,
+    );
+    exit_code(&rt, "vecprobe", ran)
 }
