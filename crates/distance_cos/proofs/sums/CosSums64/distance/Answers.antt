@@ -8,12 +8,12 @@ use Rattle.distance_sums.specs.Dense.{is_zero}
 use Rattle.distance_cos.specs.Inner.Sums.{products64}
 use Rattle.distance_cos.proofs.Cosines.{dense-zero, dense-one, dense-angle}
 use Rattle.distance_cos.proofs.sums.CosSums64.distance.Goals as goal
-use Rattle.distance_cos.proofs.sums.CosSums64.distance.Goals.{Joined-self, then-self, else-self}
+use Rattle.distance_cos.proofs.sums.CosSums64.distance.Goals.{Joined-self, then-self+else-self-2, else-self}
 
 -- after the tests of the norms
 not-both : (c : Joined-self) → let s = c.args.self in (is_zero s.norm1 && is_zero s.norm2) ≡ false
 unfolding of_bits
-not-both c = elim c.if-self.branch [ then-self w ↦ rw (w.if-self.true, w.if-self-2.false) | else-self w ↦ rw w.if-self.false ]
+not-both c = elim c.if-self.branch [ then-self+else-self-2 w ↦ rw (w.if-self.true, w.if-self-2.false) | else-self w ↦ rw w.if-self.false ]
 
 pub returns-then-self-2 : goal.returns-then-self-2
 unfolding of_bits

@@ -6,4 +6,5 @@ use Rattle.distance_sums.specs.Dense.{shares_with}
 use Rattle.jaccard.proofs.sums.JaccardSums32.with_nan.Goals as goal
 
 pub returns : goal.returns
+unfolding shares_with lesser greater eq
 returns c = refl
