@@ -114,8 +114,8 @@ impl JaccardSums32 {
     // One element more that only one vector has; the other's is 0.0. A zero changes no sum that starts
     // from 0.0, and a NaN is passed over.
     pub(crate) fn alone(self, x: f32) -> Self
-        requires from_zero { FromZero binary32 self.low }
-        requires from_zero_2 { FromZero binary32 self.high }
+        requires low_from_zero { FromZero binary32 self.low }
+        requires high_from_zero { FromZero binary32 self.high }
         ensures { shares32 result ≡ shares_with lesser greater binary32 (shares32 self) x plus_zero }
     {
         if x < 0.0 {

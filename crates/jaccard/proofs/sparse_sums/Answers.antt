@@ -31,10 +31,10 @@ unfolding sparse_shares_by
 returns-in-Done c = merging-done c.loop-sums.invariant.0 c.next_turn.ensures c.in-Done.is
 
 pub alone-sums-requires : goal.alone-sums-requires
-alone-sums-requires c = c.loop-sums.invariant.1
+alone-sums-requires c = let i = c.loop-sums.invariant.1 in record { low_from_zero = i.0; high_from_zero = i.1 }
 
 pub alone-sums-requires-in-Right : goal.alone-sums-requires-in-Right
-alone-sums-requires-in-Right c = c.loop-sums.invariant.1
+alone-sums-requires-in-Right c = let i = c.loop-sums.invariant.1 in record { low_from_zero = i.0; high_from_zero = i.1 }
 
 pub loop-sums-preserved-in-Both : goal.loop-sums-preserved-in-Both
 loop-sums-preserved-in-Both c =

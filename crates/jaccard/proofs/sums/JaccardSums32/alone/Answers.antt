@@ -6,9 +6,9 @@ use Rattle.jaccard.proofs.sums.JaccardSums32.alone.Goals as goal
 
 pub returns-then-x : goal.returns-then-x
 unfolding of_bits
-returns-then-x c = alone-less binary32 _ c.requires _ (search rules) c.if-x.true
+returns-then-x c = alone-less binary32 _ (c.requires.low_from_zero, c.requires.high_from_zero) _ (search rules) c.if-x.true
 
 pub returns-else-x : goal.returns-else-x
 unfolding of_bits
 returns-else-x c =
-    rw c.above_zero.ensures (alone-else binary32 _ c.requires _ (search rules) c.if-x.false)
+    rw c.above_zero.ensures (alone-else binary32 _ (c.requires.low_from_zero, c.requires.high_from_zero) _ (search rules) c.if-x.false)
