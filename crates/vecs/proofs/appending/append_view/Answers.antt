@@ -21,7 +21,7 @@ use Rattle.vecs.specs.Append.{append_refused, vector_length, append_leaving}
 use Rattle.vecs.specs.declared.AppendAnswer.TheVariants.{Filled}
 use Rattle.vecs.proofs.Appended.{append-other, append-short, append-fits, length-vector, body-long, put-part}
 use Rattle.vecs.proofs.appending.append_view.Goals as goal
-use Rattle.vecs.proofs.appending.append_view.Goals.{After-is_same_kind, After-room_after, Else-not-is_same_kind, Else-room_after-need, Start}
+use Rattle.vecs.proofs.appending.append_view.Goals.{After-is_same_kind, Else-not-is_same_kind, Else-room_after-need}
 
 read : (c : After-is_same_kind) → read_of Plain c.args.blob.now ≡ Accepted c.args.view
 read c = c.requires
@@ -30,14 +30,14 @@ few : (c : After-is_same_kind) → c.args.view.dims.0 ≤ max_dims
 few c = (view-facts c.args.blob.now c.args.view (read c)).few
 
 dense : (c : Else-not-is_same_kind) → has_byte 1 c.args.view.kind ≡ true
-dense c = sym c.is_same_kind.ensures ∙ not-false _ c.if-not-is_same_kind.false
+dense c = sym c.is_same_kind.ensures ∙ c.if-not-is_same_kind.false
 
 room : (c : Else-room_after-need) → vector_length c.args.view.dims.0 ≤ length c.args.out.now - c.args.fill
-room c = rw c.Room-after.ensures at c.if-room_after-need.false
+room c = rw c.room_after.ensures at c.if-room_after-need.false
 
 pub returns-then-not-is_same_kind : goal.returns-then-not-is_same_kind
 returns-then-not-is_same_kind c =
-    let other = sym c.is_same_kind.ensures ∙ not-true _ c.if-not-is_same_kind.true in
+    let other = sym c.is_same_kind.ensures ∙ c.if-not-is_same_kind.true in
     ap (λ (r : Refusal). append_leaving (append_refused r) c.args.out.now) c.by_number.ensures
     ∙ sym (append-other c.args.blob.now c.args.out.now c.args.fill c.args.view (read (goal.at.returns-then-not-is_same_kind c).After-is_same_kind) other)
 
@@ -50,20 +50,20 @@ overflow_add-need c = omega (arith, few (goal.at.overflow_add-need c).After-is_s
 pub returns-then-room_after-need : goal.returns-then-room_after-need
 returns-then-room_after-need c =
     ap (λ (r : Refusal). append_leaving (append_refused r) c.args.out.now) c.needing.ensures
-    ∙ sym (append-short c.args.blob.now c.args.out.now c.args.fill c.args.view (read (goal.at.returns-then-room_after-need c).After-is_same_kind) (dense (goal.at.returns-then-room_after-need c).Else-not-is_same_kind) (rw c.Room-after.ensures at c.if-room_after-need.true))
+    ∙ sym (append-short c.args.blob.now c.args.out.now c.args.fill c.args.view (read (goal.at.returns-then-room_after-need c).After-is_same_kind) (dense (goal.at.returns-then-room_after-need c).Else-not-is_same_kind) (rw c.room_after.ensures at c.if-room_after-need.true))
 
 pub slice_bounds-put_vector-end : goal.slice_bounds-put_vector-end
 slice_bounds-put_vector-end c =
-    sym (length-take-le c.args.view.length c.args.blob.now (view-facts c.args.blob.now c.args.view (read (goal.at.slice_bounds-put_vector-end c).Start)).within)
+    sym (length-take-le c.args.view.length c.args.blob.now (view-facts c.args.blob.now c.args.view (read (goal.at.slice_bounds-put_vector-end c).After-is_same_kind)).within)
 
 pub put_vector-requires : goal.put_vector-requires
 put_vector-requires c =
-    let body = body_is c.args.blob.now c.args.view (read (goal.at.put_vector-requires c).Start) in
-    record { dims_le_max_dims = few (goal.at.put_vector-requires c).Start; body_in_bounds = rw (← body, length-vector, tail-lent, length-drop) (omega (arith, room (goal.at.put_vector-requires c).After-room_after, body-long c.args.blob.now c.args.view (read (goal.at.put_vector-requires c).Start) (dense (goal.at.put_vector-requires c).After-is_same_kind))) }
+    let body = body_is c.args.blob.now c.args.view (read (goal.at.put_vector-requires c).After-is_same_kind) in
+    record { dims_le_max_dims = few (goal.at.put_vector-requires c).After-is_same_kind; body_in_bounds = rw (← body, length-vector, tail-lent, length-drop) (omega (arith, room (goal.at.put_vector-requires c).Else-room_after-need, body-long c.args.blob.now c.args.view (read (goal.at.put_vector-requires c).After-is_same_kind) (dense (goal.at.put_vector-requires c).Else-not-is_same_kind))) }
 
 pub returns : goal.returns
 returns c =
-    let body = body_is c.args.blob.now c.args.view (read (goal.at.returns c).Start) in
+    let body = body_is c.args.blob.now c.args.view (read (goal.at.returns c).After-is_same_kind) in
     let put = put-part c.args.fill c.args.out.now _ _ (rw (← body) at c.put_vector.ensures) in
     ap (append_leaving (Filled (c.args.fill + vector_length c.args.view.dims.0))) put
-    ∙ sym (append-fits c.args.blob.now c.args.out.now c.args.fill c.args.view (read (goal.at.returns c).Start) (dense (goal.at.returns c).After-is_same_kind) (room (goal.at.returns c).After-room_after))
+    ∙ sym (append-fits c.args.blob.now c.args.out.now c.args.fill c.args.view (read (goal.at.returns c).After-is_same_kind) (dense (goal.at.returns c).Else-not-is_same_kind) (room (goal.at.returns c).Else-room_after-need))

@@ -29,9 +29,8 @@ copy-requires c =
 pub returns : goal.returns
 returns c =
     let head = length-bytes_of 4 c.args.dims.0 in
-    let copy = copied c.args.body.now c.args.body.now _ c.copy.new.out c.copy.result refl c.copy.ensures.size c.copy.ensures.left in
     onto-then (bytes_of 4 c.args.dims.0) c.args.body.now c.args.out.now c.put_u32.new.out c.copy.new.out 4
-    (c.put_u32.ensures ∙ put_front c.args.out.now (bytes_of 4 c.args.dims.0)) head copy.1
+    (c.put_u32.ensures ∙ put_front c.args.out.now (bytes_of 4 c.args.dims.0)) head c.copy.ensures.left
 
 pub slice_bounds-copy-start : goal.slice_bounds-copy-start
-slice_bounds-copy-start c = slice_bounds-copy-count (c)
+slice_bounds-copy-start c = slice_bounds-copy-count c

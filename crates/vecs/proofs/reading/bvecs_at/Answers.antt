@@ -35,11 +35,11 @@ returns-then-out-need c =
 pub slice_bounds-put_floats-count : goal.slice_bounds-put_floats-count
 slice_bounds-put_floats-count c = let v = facts (goal.at.slice_bounds-put_floats-count c).In-Vector in rw v.is (omega (arith, v.within))
 
-pub slice-bounds-put-floats-start : goal.slice-bounds-put-floats-start
-slice-bounds-put-floats-start c = let v = facts c.before.before.before in rw v.is (omega (arith, v.within))
+pub slice_bounds-put_floats-start : goal.slice_bounds-put_floats-start
+slice_bounds-put_floats-start c = let v = facts (goal.at.slice_bounds-put_floats-start c).In-Vector in rw v.is (omega (arith, v.within))
 
-pub slice-bounds-put-floats-end : goal.slice-bounds-put-floats-end
-slice-bounds-put-floats-end c = let v = facts c.before.before.before in rw v.is (omega (arith, v.within))
+pub slice_bounds-put_floats-end : goal.slice_bounds-put_floats-end
+slice_bounds-put_floats-end c = let v = facts (goal.at.slice_bounds-put_floats-end c).In-Vector in rw v.is (omega (arith, v.within))
 
 pub put_floats-requires : goal.put_floats-requires
 put_floats-requires c =
@@ -59,9 +59,3 @@ pub returns-in-Refused : goal.returns-in-Refused
 returns-in-Refused c =
     let a = c.args in
     sym (bvecs-outcome a.file.now a.place a.out.now _ (sym c.vector_at.ensures ∙ c.in-Refused.is))
-
-pub slice_bounds-put_floats-start : goal.slice_bounds-put_floats-start
-slice_bounds-put_floats-start c = slice-bounds-put-floats-start (c)
-
-pub slice_bounds-put_floats-end : goal.slice_bounds-put_floats-end
-slice_bounds-put_floats-end c = slice-bounds-put-floats-end (c)

@@ -20,14 +20,14 @@ facts c = let a = c.args in vector-facts 4 a.file.now a.place _ (shown c)
 
 pub slice_bounds-result-count : goal.slice_bounds-result-count
 slice_bounds-result-count c =
-    let v = facts (goal.at.slice_bounds-result-count c).In-Vector in
+    let v = facts c in
     rw v.is (omega (arith, v.within))
 
-pub slice-bounds-result-start : goal.slice-bounds-result-start
-slice-bounds-result-start c = let v = facts c.before in rw v.is (omega (arith, v.within))
+pub slice_bounds-result-start : goal.slice_bounds-result-start
+slice_bounds-result-start c = let v = facts c in rw v.is (omega (arith, v.within))
 
-pub slice-bounds-result-end : goal.slice-bounds-result-end
-slice-bounds-result-end c = let v = facts c.before in rw v.is (omega (arith, v.within))
+pub slice_bounds-result-end : goal.slice_bounds-result-end
+slice_bounds-result-end c = let v = facts c in rw v.is (omega (arith, v.within))
 
 pub returns-in-Vector : goal.returns-in-Vector
 unfolding elements_at
@@ -44,9 +44,3 @@ unfolding elements_at
 returns-in-Refused c =
     let e = sym c.vector_at.ensures ∙ c.in-Refused.is in
     record { result_value = rw e; ref_ptr_value = rw (e, zero-add) }
-
-pub slice_bounds-result-start : goal.slice_bounds-result-start
-slice_bounds-result-start c = slice-bounds-result-start (c)
-
-pub slice_bounds-result-end : goal.slice_bounds-result-end
-slice_bounds-result-end c = slice-bounds-result-end (c)

@@ -1,0 +1,22 @@
+-- The loop fills, pattern by pattern, each narrowed.
+use Prim.Native.Nat.{◌-◌}
+use borrow.Author.Rules.{rules}
+use lib.Ieee.{binary32, binary64}
+use Rattle.rounding.specs.Narrow.{narrowed}
+use Rattle.bodies.specs.Elements.{dense_element}
+use Rattle.convert_parts.specs.Dense.{floats_of}
+use Rattle.convert_parts.specs.Result.{result_of}
+use Rattle.convert_parts.proofs.Pieces.{FilledSoFar, fill_none, fill-pattern, fill-all}
+use Rattle.convert_f64.proofs.dense.put_singles.Goals as goal
+
+pub loop-i-preserved : goal.loop-i-preserved
+loop-i-preserved c =
+    let bits = rw c.u64_at.ensures at c.narrow_bits-bits.ensures in
+    fill-pattern binary32 _ c.loop-i.invariant c.loop-i-test.true c.requires.dims_in_bounds _ _ bits c.put_u32.ensures
+
+pub returns : goal.returns
+unfolding result_of
+returns c = fill-all c.loop-i.invariant c.loop-i-test.false
+
+pub loop-i-init : goal.loop-i-init
+loop-i-init c = fill_none _ _ _

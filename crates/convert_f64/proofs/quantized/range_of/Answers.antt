@@ -1,0 +1,25 @@
+-- The loop's invariant: the range of the elements passed.
+use Prim.Native.Nat.{◌-◌}
+use native.Mathlib.Omega.{arith}
+use borrow.Author.Rules.{rules}
+use lib.Ieee.{binary64}
+use Rattle.rounding.specs.Narrow.{narrowed}
+use Rattle.bodies.specs.Elements.{dense_element}
+use Rattle.convert_parts.proofs.RangeSoFar.{RangeSoFar, range_none, range-next, range_all}
+use Rattle.convert_f64.proofs.quantized.range_of.Goals as goal
+
+pub loop-i-preserved : goal.loop-i-preserved
+loop-i-preserved c =
+    range-next _ c.loop-i.invariant c.loop-i-test.true c.narrow_at-x.ensures c.wider-found.ensures
+
+pub no_range-found-requires : goal.no_range-found-requires
+no_range-found-requires c = tt
+
+pub loop-i-init : goal.loop-i-init
+loop-i-init c = range_none _ _ c.no_range-found.ensures
+
+pub wider-found-requires : goal.wider-found-requires
+wider-found-requires c = tt
+
+pub returns : goal.returns
+returns c = range_all _ c.loop-i.invariant c.loop-i-test.false
