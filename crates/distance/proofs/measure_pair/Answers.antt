@@ -15,33 +15,20 @@ returns-then-not-exists c =
 
 pub slice_bounds-a-end : goal.slice_bounds-a-end
 slice_bounds-a-end c =
-    let s = c.before.before.before.before.before.before in
-    sym (body-length s.args.first.now s.args.v s.requires.0)
+    sym (body-length c.args.first.now c.args.v c.requires.first_value)
 
 pub slice_bounds-b-end : goal.slice_bounds-b-end
 slice_bounds-b-end c =
-    let s = c.before.before.before.before.before.before.before in
-    sym (body-length s.args.second.now s.args.w s.requires.1.0)
+    sym (body-length c.args.second.now c.args.w c.requires.second_value)
 
 pub measure-x-requires : goal.measure-x-requires
 measure-x-requires c =
-    let s = c.before.before.before in
-    let first = s.args.first.now in
-    let v = s.args.v in
-    let w = s.args.w in (
-      (view-facts first v s.requires.0).few,
-      (
-        body-fits first v s.requires.0,
-        (
-          other_fits s.args.second.now v w s.requires.1.0 (alike_same v w s.requires.1.1),
-          sym c.exists.ensures ∙ c.if-not-exists.false,
-        ),
-      ),
-    )
+    let first = c.args.first.now in
+    let v = c.args.v in
+    let w = c.args.w in record { dims_le_max_dims = (view-facts first v c.requires.first_value).few; a_value = body-fits first v c.requires.first_value; b_value = other_fits c.args.second.now v w c.requires.second_value (alike_same v w c.requires.w_value); kind_value = sym c.exists.ensures ∙ c.if-not-exists.false }
 
 pub returns : goal.returns
 returns c =
-    let s = c.before.before.before.before.before.before.before.before in
-    let first = body_is s.args.first.now s.args.v s.requires.0 in
-    let second = body_is s.args.second.now s.args.w s.requires.1.0 in
+    let first = body_is c.args.first.now c.args.v c.requires.first_value in
+    let second = body_is c.args.second.now c.args.w c.requires.second_value in
     rw (first, second, ← c.measure-x.ensures, c.counts_of.ensures)

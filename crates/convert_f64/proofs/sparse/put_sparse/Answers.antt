@@ -16,7 +16,7 @@ use Rattle.convert_f64.proofs.sparse.put_sparse.Goals as goal
 
 pub put_narrowed-n-requires : goal.put_narrowed-n-requires
 put_narrowed-n-requires c =
-    (omega (arith, c.requires.dims_le_max_dims, c.loop-i-test.true), (laying-room _ _ _ _ _ (length-value _ _) c.requires.count_value c.requires.count_in_bounds c.loop-i.invariant c.loop-i-test.true _ (nonzero-tested binary64 _ _ _ c.u64_at-bits.ensures), search rules))
+    record { i_lt_max_dims = omega (arith, c.requires.dims_le_max_dims, c.loop-i-test.true); i_bound = laying-room _ _ _ _ _ (length-value _ _) c.requires.count_value c.requires.count_in_bounds c.loop-i.invariant c.loop-i-test.true _ (nonzero-tested binary64 _ _ _ c.u64_at-bits.ensures); count_in_bounds = search rules }
 
 pub loop-i-preserved : goal.loop-i-preserved
 loop-i-preserved c =

@@ -7,19 +7,13 @@ use Rattle.distance.proofs.table.exists.Goals as goal
 pub offset_bounds-d : goal.offset_bounds-d
 offset_bounds-d c = omega (arith, c.row-d.ensures, row_below c.args.distance)
 
-pub bounds-1-result : goal.bounds-1-result
-bounds-1-result c = omega (arith, c.before.row.ensures, row_below c.before.before.args.distance)
+pub bounds-d : goal.bounds-d
+bounds-d c = omega (arith, c.row-d.ensures, row_below c.args.distance)
 
-pub bounds-2-result : goal.bounds-2-result
-bounds-2-result c = omega (arith, c.column.ensures, column-below c.before.before.args.kind)
+pub bounds-k : goal.bounds-k
+bounds-k c = omega (arith, c.column-k.ensures, column-below c.args.kind)
 
 pub returns : goal.returns
 returns c =
     let a = c.args in
     rw (c.row-d.ensures, c.column-k.ensures) (cell a.distance a.kind)
-
-pub bounds-d : goal.bounds-d
-bounds-d c = bounds-1-result (c)
-
-pub bounds-k : goal.bounds-k
-bounds-k c = bounds-2-result (c)

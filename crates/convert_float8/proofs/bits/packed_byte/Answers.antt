@@ -1,0 +1,22 @@
+-- The loop's invariant: the byte is made up of its first bits, and the weight is that of the next.
+use Prim.Native.Nat.{◌-◌}
+use native.Mathlib.Omega.{arith}
+use borrow.Author.Rules.{rules}
+use lib.Ieee.{binary32}
+use Rattle.bodies.specs.Elements.{float8_element}
+use Rattle.convert_parts.specs.Bits.{is_positive}
+use Rattle.convert_parts.proofs.Packed.{Packing, pack-none, pack-next, pack-all}
+use Rattle.convert_float8.proofs.bits.packed_byte.Goals as goal
+
+pub loop-j-preserved : goal.loop-j-preserved
+loop-j-preserved c =
+    pack-next c.loop-j.invariant c.loop-j-test.true c.is_positive.ensures c.weighed-byte.ensures
+
+pub overflow_add-byte : goal.overflow_add-byte
+overflow_add-byte c = let more = loop-j-preserved c in omega arith
+
+pub loop-j-init : goal.loop-j-init
+loop-j-init c = pack-none _ _ _
+
+pub returns : goal.returns
+returns c = pack-all c.loop-j.invariant c.loop-j-test.false

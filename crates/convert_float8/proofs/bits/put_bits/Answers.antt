@@ -1,0 +1,22 @@
+-- The loop fills, byte by byte.
+use mathlib.Core.List.{[], ◌∷◌}
+use Prim.Native.Nat.{◌-◌}
+use native.Mathlib.Omega.{arith}
+use borrow.Author.Rules.{rules}
+use lib.Ieee.{binary32}
+use Rattle.bodies.specs.Elements.{float8_element}
+use Rattle.convert_parts.specs.Pieces.{pieces}
+use Rattle.convert_parts.specs.Bits.{is_positive, packed_byte, packed_bits}
+use Rattle.convert_parts.proofs.Pieces.{FilledSoFar, fill_none, fill-byte, fill-all}
+use Rattle.convert_float8.proofs.Scaled.{packed-elements}
+use Rattle.convert_float8.proofs.bits.put_bits.Goals as goal
+
+pub loop-m-preserved : goal.loop-m-preserved
+loop-m-preserved c = fill-byte _ c.loop-m.invariant (omega arith) (omega arith) c.packed_byte.result c.packed_byte.ensures
+
+pub returns : goal.returns
+unfolding packed_bits
+returns c = rw (packed-elements _ _) (fill-all c.loop-m.invariant c.loop-m-test.false)
+
+pub loop-m-init : goal.loop-m-init
+loop-m-init c = fill_none _ _ _
