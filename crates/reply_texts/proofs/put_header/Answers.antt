@@ -12,5 +12,5 @@ within h k n size e two first second = omega arith
 
 pub returns : goal.returns
 returns c =
-    let put = puts_then (puts_then (puts-copy {t = c.args.mark.now} refl c.copy-marked.ensures) c.put_head.ensures.puts) c.put_head-2.ensures.puts in
+    let put = puts_then (puts_then (c.copy-marked.ensures) c.put_head.ensures.puts) c.put_head-2.ensures.puts in
     record { puts = put; upper_bound = within c.copy-marked.result c.put_head.result c.put_head-2.result _ c.copy-marked.ensures.size c.requires.mark_len c.put_head.ensures.upper_bound c.put_head-2.ensures.upper_bound }

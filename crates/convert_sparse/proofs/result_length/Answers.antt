@@ -1,0 +1,24 @@
+-- Each arm tells the length of its row of `result_of`.
+use mathlib.Core.Path.{sym}
+use native.Mathlib.Omega.{arith}
+use borrow.Author.Rules.{rules}
+use Rattle.vector_types.specs.declared.VectorType.TheVariants.{Float32Sparse}
+use Rattle.convert_parts.specs.Result.{result_of}
+use Rattle.convert_parts.proofs.Lengths.{length-float32, length-float64, length-one-bit, length-float8}
+use Rattle.convert_sparse.proofs.result_length.Goals as goal
+
+pub returns-in-Float32Dense : goal.returns-in-Float32Dense
+returns-in-Float32Dense c = rw c.in-Float32Dense.is (sym (length-float32 _ _ Float32Sparse c.requires))
+
+pub returns-in-Float64Dense : goal.returns-in-Float64Dense
+returns-in-Float64Dense c = rw c.in-Float64Dense.is (sym (length-float64 _ _ Float32Sparse c.requires))
+
+pub returns-in-Float32Sparse : goal.returns-in-Float32Sparse
+unfolding result_of
+returns-in-Float32Sparse c = rw c.in-Float32Sparse.is
+
+pub returns-in-Float1Bit : goal.returns-in-Float1Bit
+returns-in-Float1Bit c = rw c.in-Float1Bit.is (sym (length-one-bit _ _ Float32Sparse c.requires))
+
+pub returns-in-Float8 : goal.returns-in-Float8
+returns-in-Float8 c = rw c.in-Float8.is (omega (arith, length-float8 _ _ Float32Sparse c.requires))
