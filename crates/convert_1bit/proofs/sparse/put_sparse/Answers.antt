@@ -16,7 +16,7 @@ put_entry-n-requires c =
     let body = c.args.body.now in
     let d = c.args.dims in
     let less = c.loop-i-test.true in
-    (omega (arith, c.requires.dims_le_max_dims), (laying-room _ _ _ _ _ (length-value body d) (sym (all-stored body d)) c.requires.dims_in_bounds c.loop-i.invariant less _ (bit-nonzero body _), search rules))
+    record { i_lt_max_dims = omega (arith, c.requires.dims_le_max_dims); i_bound = laying-room _ _ _ _ _ (length-value body d) (sym (all-stored body d)) c.requires.dims_in_bounds c.loop-i.invariant less _ (bit-nonzero body _); count_in_bounds = search rules }
 
 pub loop-i-preserved : goal.loop-i-preserved
 loop-i-preserved c =
