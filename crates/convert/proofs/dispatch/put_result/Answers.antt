@@ -16,10 +16,14 @@ asked : (c : Start) (u : VectorType) → let a = c.args in a.kind ≡ u
 asked c u e = (rw e at c.requires.fitting, (rw e at c.requires.size_value, c.requires.size_in_bounds))
 
 pub put_result-requires : goal.put_result-requires
-put_result-requires c = asked (goal.at.put_result-requires c).Start _ c.in-Float32Dense.is
+put_result-requires c =
+    let (fit, (size, room)) = asked (goal.at.put_result-requires c).Start _ c.in-Float32Dense.is in
+    record { fitting = fit; size_value = size; size_in_bounds = room }
 
 pub put_result-requires-in-Float64Dense : goal.put_result-requires-in-Float64Dense
-put_result-requires-in-Float64Dense c = asked (goal.at.put_result-requires-in-Float64Dense c).Start _ c.in-Float64Dense.is
+put_result-requires-in-Float64Dense c =
+    let (fit, (size, room)) = asked (goal.at.put_result-requires-in-Float64Dense c).Start _ c.in-Float64Dense.is in
+    record { fitting = fit; size_value = size; size_in_bounds = room }
 
 pub put_result-requires-in-Float32Sparse : goal.put_result-requires-in-Float32Sparse
 put_result-requires-in-Float32Sparse c =
@@ -33,7 +37,9 @@ put_result-requires-in-Float1Bit c =
     record { fitting = fit; body_in_bounds = omega arith }
 
 pub put_result-requires-in-Float8 : goal.put_result-requires-in-Float8
-put_result-requires-in-Float8 c = asked (goal.at.put_result-requires-in-Float8 c).Start _ c.in-Float8.is
+put_result-requires-in-Float8 c =
+    let (fit, (size, room)) = asked (goal.at.put_result-requires-in-Float8 c).Start _ c.in-Float8.is in
+    record { fitting = fit; size_value = size; size_in_bounds = room }
 
 pub returns-in-Float32Dense : goal.returns-in-Float32Dense
 unfolding scratch_body
