@@ -1,8 +1,8 @@
 /* Fulandewu: vector blobs read, written, converted, measured and compared, and files of vectors read and
  * filled, each by a proved function.
  *
- * Link with libfulandewu.a. There is one for 64-bit Linux on x86-64 (`embed/build x86-64` makes it, and so does
- * `rt staticlib fulandewu`) and one on aarch64 (`embed/build aarch64`):
+ * Link with libfulandewu.a. There is one for 64-bit Linux on x86-64 (`embed/build x86-64` makes it) and one on
+ * aarch64 (`embed/build aarch64`):
  *
  *     cc -I include program.c target/staticlib/libfulandewu.a
  *     cc -I include program.c target/aarch64/libfulandewu.a

@@ -1,4 +1,4 @@
-/* For Rust programs under an emulator: the kit's ends when a program reads /proc/self/maps. The
+/* For Rust programs under an emulator, which may end when a program reads /proc/self/maps. The
  * Rust's runtime does that at its start, through this function of the C library, to be able to tell a
  * stack overflow from another fault; where it gets nothing it only tells less. */
 #include <errno.h>

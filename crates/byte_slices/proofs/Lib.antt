@@ -1,2 +1,3 @@
 -- The laws of what the contracts of the functions on bytes name.
 pub mod Slices
+pub mod Determined

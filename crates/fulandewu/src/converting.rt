@@ -21,8 +21,7 @@ fn convert_as(blob: &[u8], kind: u8, scratch: &mut [u8], out: &mut [u8]) -> Conv
 
 // Puts the body of the kind that a type byte names at the start of out, and reports its dims and length;
 // where scratch (17) or out (15) is too short, how long it would have to be.
-#[unsafe(no_mangle)]
-pub extern "C" fn fulandewu_convert(
+pub fn fulandewu_convert(
     blob: &[u8],
     kind: u8,
     scratch: &mut [u8],

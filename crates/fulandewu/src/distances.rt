@@ -16,33 +16,25 @@ fn measure(asked: Distance, first: &[u8], second: &[u8], answer: &mut Answer) ->
     report_distance(found, answer)
 }
 
-#[unsafe(no_mangle)]
-pub extern "C" fn fulandewu_distance_cos(first: &[u8], second: &[u8], answer: &mut Answer) -> u32
+pub fn fulandewu_distance_cos(first: &[u8], second: &[u8], answer: &mut Answer) -> u32
     ensures { export_outcome result answer.new [] ≡ distance_export (distance_of Cos first.now second.now) answer.old }
 {
     measure(Distance::Cos, first, second, answer)
 }
 
-#[unsafe(no_mangle)]
-pub extern "C" fn fulandewu_distance_l2(first: &[u8], second: &[u8], answer: &mut Answer) -> u32
+pub fn fulandewu_distance_l2(first: &[u8], second: &[u8], answer: &mut Answer) -> u32
     ensures { export_outcome result answer.new [] ≡ distance_export (distance_of L2 first.now second.now) answer.old }
 {
     measure(Distance::L2, first, second, answer)
 }
 
-#[unsafe(no_mangle)]
-pub extern "C" fn fulandewu_distance_dot(first: &[u8], second: &[u8], answer: &mut Answer) -> u32
+pub fn fulandewu_distance_dot(first: &[u8], second: &[u8], answer: &mut Answer) -> u32
     ensures { export_outcome result answer.new [] ≡ distance_export (distance_of Dot first.now second.now) answer.old }
 {
     measure(Distance::Dot, first, second, answer)
 }
 
-#[unsafe(no_mangle)]
-pub extern "C" fn fulandewu_distance_jaccard(
-    first: &[u8],
-    second: &[u8],
-    answer: &mut Answer,
-) -> u32
+pub fn fulandewu_distance_jaccard(first: &[u8], second: &[u8], answer: &mut Answer) -> u32
     ensures { export_outcome result answer.new [] ≡ distance_export (distance_of Jaccard first.now second.now) answer.old }
 {
     measure(Distance::Jaccard, first, second, answer)

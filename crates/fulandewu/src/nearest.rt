@@ -16,44 +16,25 @@ fn compare(asked: Distance, probe: &[u8], first: &[u8], second: &[u8], answer: &
     report_nearer(found, answer)
 }
 
-#[unsafe(no_mangle)]
-pub extern "C" fn fulandewu_nearer_cos(
-    probe: &[u8],
-    first: &[u8],
-    second: &[u8],
-    answer: &mut Answer,
-) -> u32
+pub fn fulandewu_nearer_cos(probe: &[u8], first: &[u8], second: &[u8], answer: &mut Answer) -> u32
     ensures { export_outcome result answer.new [] ≡ nearer_export (nearer_of Cos probe.now first.now second.now) answer.old }
 {
     compare(Distance::Cos, probe, first, second, answer)
 }
 
-#[unsafe(no_mangle)]
-pub extern "C" fn fulandewu_nearer_l2(
-    probe: &[u8],
-    first: &[u8],
-    second: &[u8],
-    answer: &mut Answer,
-) -> u32
+pub fn fulandewu_nearer_l2(probe: &[u8], first: &[u8], second: &[u8], answer: &mut Answer) -> u32
     ensures { export_outcome result answer.new [] ≡ nearer_export (nearer_of L2 probe.now first.now second.now) answer.old }
 {
     compare(Distance::L2, probe, first, second, answer)
 }
 
-#[unsafe(no_mangle)]
-pub extern "C" fn fulandewu_nearer_dot(
-    probe: &[u8],
-    first: &[u8],
-    second: &[u8],
-    answer: &mut Answer,
-) -> u32
+pub fn fulandewu_nearer_dot(probe: &[u8], first: &[u8], second: &[u8], answer: &mut Answer) -> u32
     ensures { export_outcome result answer.new [] ≡ nearer_export (nearer_of Dot probe.now first.now second.now) answer.old }
 {
     compare(Distance::Dot, probe, first, second, answer)
 }
 
-#[unsafe(no_mangle)]
-pub extern "C" fn fulandewu_nearer_jaccard(
+pub fn fulandewu_nearer_jaccard(
     probe: &[u8],
     first: &[u8],
     second: &[u8],

@@ -20,8 +20,7 @@ fn mode_of(byte: u8) -> Mode
 
 // What a blob shows in a mode: its type byte (1, 2, 3, 4 or 9), its dims, and how many of its first bytes
 // are its body.
-#[unsafe(no_mangle)]
-pub extern "C" fn fulandewu_read(mode: u8, blob: &[u8], answer: &mut Answer) -> u32
+pub fn fulandewu_read(mode: u8, blob: &[u8], answer: &mut Answer) -> u32
     ensures { export_outcome result answer.new [] ≡ read_export (read_of (mode_of mode) blob.now) answer.old }
 {
     let found = vector_types::read(mode_of(mode), blob);

@@ -22,8 +22,7 @@ fn write_as(kind: u8, dims: usize, body: &[u8], out: &mut [u8]) -> WriteAnswer
 
 // Puts the blob of a type byte, dims and a body at the start of out, and reports its length; where out
 // is too short, how long it would have to be.
-#[unsafe(no_mangle)]
-pub extern "C" fn fulandewu_write(
+pub fn fulandewu_write(
     kind: u8,
     dims: usize,
     body: &[u8],
