@@ -1,7 +1,6 @@
 -- Each arm tells the length of its row of `result_of`.
 use mathlib.Core.Path.{sym}
 use native.Mathlib.Omega.{arith}
-use borrow.Author.Rules.{rules}
 use Rattle.vector_types.specs.declared.VectorType.TheVariants.{Float1Bit}
 use Rattle.convert_parts.specs.Result.{result_of}
 use Rattle.convert_parts.proofs.Lengths.{length-float32, length-float64, length-float8}

@@ -1,7 +1,6 @@
 -- Each arm tells the length of its row of `result_of`.
 use mathlib.Core.Path.{refl, sym}
 use native.Mathlib.Omega.{arith}
-use borrow.Author.Rules.{rules}
 use lib.Ieee.{binary32}
 use Rattle.vector_types.specs.declared.VectorType.TheVariants.{Float32Dense}
 use Rattle.bodies.specs.Elements.{dense_element}

@@ -4,7 +4,6 @@ use Prim.Native.Nat.{◌*◌}
 use native.Mathlib.Omega.{arith}
 use lib.ListN.{take, length-take}
 use lib.Ieee.{binary32}
-use borrow.Author.Rules.{rules}
 use Rattle.bodies.proofs.Lengths.{sparse-length}
 use Rattle.convert_parts.specs.Spread.{spread_body}
 use Rattle.convert_sparse.proofs.Steps.{dense-fitting, dense-front}

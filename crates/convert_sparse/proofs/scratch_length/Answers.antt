@@ -1,5 +1,4 @@
 -- Each arm by its kind.
-use borrow.Author.Rules.{rules}
 use Rattle.convert_sparse.proofs.scratch_length.Goals as goal
 
 pub returns-in-Float1Bit : goal.returns-in-Float1Bit

@@ -1,7 +1,5 @@
 -- Each return is what the tests have found.
 use mathlib.Core.Path.{sym, ap, ◌∙◌}
-use borrow.Author.Tests.{not-true, not-false}
-use borrow.Author.Rules.{rules}
 use Rattle.distance.specs.declared.Pairing.TheVariants.{Mismatched}
 use Rattle.distance.proofs.Paired.{dims-differ, kinds-differ, both-same}
 use Rattle.distance.proofs.check_pair.Goals as goal

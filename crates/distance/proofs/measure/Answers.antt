@@ -5,7 +5,6 @@ use Rattle.distance.specs.Values.{value_of}
 use Rattle.distance.specs.Inner.Table.{exists_for}
 use Rattle.distance.specs.declared.Distance.{Distance}
 use Rattle.distance.proofs.Existing.{l2-exists}
-use borrow.Author.Rules.{rules}
 use Rattle.distance.proofs.measure.Goals as goal
 
 pub measure_l2-requires : goal.measure_l2-requires

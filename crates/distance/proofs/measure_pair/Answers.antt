@@ -1,7 +1,5 @@
 -- A distance that the table does not have is none of the definition's; the two bodies fit what is measured.
 use mathlib.Core.Path.{sym, ◌∙◌}
-use borrow.Author.Tests.{not-true, not-false}
-use borrow.Author.Rules.{rules}
 use Rattle.vector_types.proofs.Views.{view-facts}
 use Rattle.vector_types.proofs.Bodies.{body_is}
 use Rattle.distance.proofs.Existing.{absent}

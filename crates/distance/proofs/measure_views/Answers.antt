@@ -1,6 +1,5 @@
 -- The distance by what the check of the pair says (`answer-by-pairing`).
 use mathlib.Core.Path.{sym, ◌∙◌}
-use borrow.Author.Rules.{rules}
 use Rattle.distance.specs.Values.{value_of}
 use Rattle.distance.proofs.Paired.{answer-by-pairing}
 use Rattle.distance.proofs.measure_views.Goals as goal

@@ -1,7 +1,6 @@
 -- The answers of the two reads decide: views are measured, the first refusal handed on.
 use mathlib.Core.Path.{sym, ◌∙◌}
 use Rattle.distance.specs.Answer.{distance_of}
-use borrow.Author.Rules.{rules}
 use Rattle.distance.proofs.vector_distance.Goals as goal
 
 pub measure_views-requires : goal.measure_views-requires

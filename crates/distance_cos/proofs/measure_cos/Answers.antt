@@ -1,7 +1,6 @@
 -- Each arm is the distance of its kind, and the body is as long as the kind has it.
 use Rattle.bodies.proofs.Lengths.{float32-length, float64-length, one-bit-length, float8-length}
 use Rattle.distance_sums.specs.Values.{cosine_of}
-use borrow.Author.Rules.{rules}
 use Rattle.distance_cos.proofs.measure_cos.Goals as goal
 
 pub vector_f32_distance_cos-requires : goal.vector_f32_distance_cos-requires

@@ -1,13 +1,7 @@
 -- Each turn of the loop is a turn of the merge.
-use Prim.Native.Nat.{◌+◌, ◌-◌}
 use native.Mathlib.Omega.{arith}
-use borrow.Author.Rules.{rules}
-use lib.Ieee.{binary32}
-use Rattle.bodies.specs.Entries.{stored_count, entries_of}
-use Rattle.distance_sums.specs.Dense.{no_products}
-use Rattle.distance_sums.specs.Sparse.{products_rule, sparse_products}
-use Rattle.distance_cos.specs.Inner.Sums.{products32}
-use Rattle.bodies.proofs.Merging.{Merging, merging-none, merging-done, merging-both, merging-left, merging-right}
+use Rattle.distance_sums.specs.Sparse.{sparse_products}
+use Rattle.bodies.proofs.Merging.{merging-none, merging-done, merging-both, merging-left, merging-right}
 use Rattle.distance_cos.proofs.sparse_sums.Goals as goal
 
 pub loop-sums-init : goal.loop-sums-init

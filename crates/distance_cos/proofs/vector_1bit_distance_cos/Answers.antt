@@ -1,5 +1,4 @@
 -- The count of the whole bytes of dims, as a float.
-use borrow.Author.Rules.{rules}
 use Rattle.distance_sums.specs.OneBit.{bit_cosine}
 use Rattle.distance_sums.specs.Values.{cosine_of}
 use Rattle.distance_cos.proofs.vector_1bit_distance_cos.Goals as goal

@@ -1,14 +1,10 @@
 -- The loop adds one pair a turn.
-use mathlib.Core.Path.{◌≡◌, ap, ◌∙◌}
+use mathlib.Core.Path.{◌≡◌}
 use Prim.Native.Nat.{◌-◌, ◌≤◌}
-use native.Mathlib.Omega.{arith}
-use borrow.Author.Rules.{rules}
 use lib.Ieee.{binary32}
 use Rattle.bodies.specs.Elements.{dense_element}
-use Rattle.distance_sums.specs.Dense.{products, dense_cosine}
+use Rattle.distance_sums.specs.Dense.{products}
 use Rattle.distance_cos.specs.Inner.Sums.{products32}
-use Rattle.distance_sums.specs.Values.{cosine_of}
-use Rattle.distance_sums.proofs.Sums.{products-none, products-more}
 use Rattle.distance_cos.proofs.vector_f32_distance_cos.Given as goal
 
 abbrev pub invariant-loop-i : goal.invariant-loop-i

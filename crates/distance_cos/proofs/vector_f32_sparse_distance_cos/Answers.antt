@@ -1,6 +1,5 @@
 -- The distance of the merge's sums.
 use mathlib.Core.Path.{ap, ◌∙◌}
-use borrow.Author.Rules.{rules}
 use Rattle.distance_sums.specs.Sparse.{sparse_cosine}
 use Rattle.distance_cos.proofs.vector_f32_sparse_distance_cos.Goals as goal
 

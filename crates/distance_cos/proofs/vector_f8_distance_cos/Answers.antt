@@ -1,5 +1,4 @@
 -- By what each call ensures.
-use borrow.Author.Rules.{rules}
 use lib.Ieee.{binary64, mul, of_bits}
 use Rattle.rounding.proofs.RootLaw.{root-unique}
 use Rattle.distance_sums.specs.Float8.{scaled_cosine}

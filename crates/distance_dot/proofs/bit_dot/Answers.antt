@@ -2,7 +2,6 @@
 use mathlib.Core.Path.{◌≡◌, refl}
 use Prim.Native.Nat.{◌*◌}
 use native.Mathlib.Omega.{arith}
-use borrow.Author.Rules.{rules}
 use lib.Count.{count_trailing_zeros}
 use lib.IntN.{pos}
 use lib.Ieee.{binary64, of_int, of_bits, round, units, odd, size, span, climb}

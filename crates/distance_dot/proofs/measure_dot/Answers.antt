@@ -1,7 +1,6 @@
 -- Each arm is the distance of its kind, and the body is as long as the kind has it.
 use Rattle.bodies.proofs.Lengths.{float32-length, float64-length, one-bit-length, float8-length}
 use Rattle.distance_sums.specs.Values.{dot_of}
-use borrow.Author.Rules.{rules}
 use Rattle.distance_dot.proofs.measure_dot.Goals as goal
 
 pub vector_f32_distance_dot-requires : goal.vector_f32_distance_dot-requires

@@ -1,13 +1,9 @@
 -- Each turn of the loop is a turn of the merge.
 use mathlib.Core.Path.{refl}
-use Prim.Native.Nat.{◌+◌, ◌-◌}
 use native.Mathlib.Omega.{arith}
-use borrow.Author.Rules.{rules}
 use lib.Ieee.{of_bits}
-use Rattle.float_laws.specs.Zero.{plus_zero}
-use Rattle.bodies.specs.Entries.{stored_count, entries_of}
-use Rattle.distance_sums.specs.Sparse.{dots_rule, sparse_dots}
-use Rattle.bodies.proofs.Merging.{Merging, merging-none, merging-done, merging-both, merging-left, merging-right}
+use Rattle.distance_sums.specs.Sparse.{sparse_dots}
+use Rattle.bodies.proofs.Merging.{merging-none, merging-done, merging-both, merging-left, merging-right}
 use Rattle.distance_dot.proofs.sparse_sum.Goals as goal
 
 pub loop-x-init : goal.loop-x-init

@@ -1,7 +1,6 @@
 -- The count of the whole bytes of dims, which is at most how many bits these have.
 use Prim.Native.Nat.{◌*◌}
 use native.Mathlib.Omega.{arith}
-use borrow.Author.Rules.{rules}
 use lib.ListN.{length}
 use Rattle.distance_sums.specs.OneBit.{differing}
 use Rattle.distance_sums.specs.Values.{dot_of}

@@ -1,11 +1,8 @@
 -- The loop adds one pair a turn.
 use mathlib.Core.Path.{◌≡◌, ap}
-use Prim.Native.Nat.{◌-◌, ◌≤◌}
 use native.Mathlib.Omega.{arith}
-use borrow.Author.Rules.{rules}
-use lib.Ieee.{binary32, of_bits}
-use Rattle.bodies.specs.Elements.{dense_element}
-use Rattle.distance_sums.specs.Dense.{dots, dot_by}
+use lib.Ieee.{of_bits}
+use Rattle.distance_sums.specs.Dense.{dot_by}
 use Rattle.distance_sums.specs.Values.{dot_of}
 use Rattle.distance_sums.proofs.Sums.{dots-none, dots-more}
 use Rattle.distance_dot.proofs.vector_f32_distance_dot.Goals as goal

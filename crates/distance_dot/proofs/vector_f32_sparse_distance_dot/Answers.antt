@@ -1,6 +1,5 @@
 -- The merge's sum, negated.
 use mathlib.Core.Path.{ap}
-use borrow.Author.Rules.{rules}
 use Rattle.distance_sums.specs.Dense.{dot_by}
 use Rattle.distance_dot.proofs.vector_f32_sparse_distance_dot.Goals as goal
 

@@ -1,13 +1,9 @@
 -- The loop adds one pair a turn.
-use mathlib.Core.Path.{◌≡◌, ap}
+use mathlib.Core.Path.{◌≡◌}
 use Prim.Native.Nat.{◌-◌, ◌≤◌}
-use native.Mathlib.Omega.{arith}
-use borrow.Author.Rules.{rules}
-use lib.Ieee.{binary64, of_bits}
+use lib.Ieee.{binary64}
 use Rattle.bodies.specs.Elements.{dense_element}
-use Rattle.distance_sums.specs.Dense.{dots, dot_by}
-use Rattle.distance_sums.specs.Values.{dot_of}
-use Rattle.distance_sums.proofs.Sums.{dots-none, dots-more}
+use Rattle.distance_sums.specs.Dense.{dots}
 use Rattle.distance_dot.proofs.vector_f64_distance_dot.Given as goal
 
 abbrev pub invariant-loop-i : goal.invariant-loop-i

@@ -1,5 +1,4 @@
 -- By what each call ensures.
-use borrow.Author.Rules.{rules}
 use Rattle.distance_sums.specs.Values.{dot_of}
 use Rattle.distance_dot.proofs.vector_f8_distance_dot.Goals as goal
 

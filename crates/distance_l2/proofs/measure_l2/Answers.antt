@@ -13,7 +13,6 @@ use Rattle.vector_types.specs.declared.VectorType.TheVariants.{Float32Dense, Flo
 use Rattle.vector_types.specs.contracts.VectorType.{the_type}
 use Rattle.bodies.proofs.Lengths.{float32-length, float64-length, float8-length}
 use Rattle.distance_sums.specs.Values.{l2_of}
-use borrow.Author.Rules.{rules}
 use Rattle.distance_l2.proofs.measure_l2.Goals as goal
 
 pub vector_f32_distance_l2-requires : goal.vector_f32_distance_l2-requires

@@ -1,5 +1,4 @@
 -- The contract of `root64` allows one value.
-use borrow.Author.Rules.{rules}
 use lib.Ieee.{binary64}
 use Rattle.rounding.proofs.RootLaw.{root-unique}
 use Rattle.distance_l2.proofs.root_of.Goals as goal

@@ -1,13 +1,10 @@
 -- Each turn of the loop is a turn of the merge.
-use mathlib.Core.Path.{refl}
 use Prim.Native.Nat.{◌+◌, ◌-◌}
-use native.Mathlib.Omega.{arith}
-use borrow.Author.Rules.{rules}
-use lib.Ieee.{binary32, of_bits}
+use lib.Ieee.{binary32}
 use Rattle.float_laws.specs.Zero.{plus_zero}
 use Rattle.bodies.specs.Entries.{stored_count, entries_of}
-use Rattle.distance_sums.specs.Sparse.{squares_rule, sparse_squares}
-use Rattle.bodies.proofs.Merging.{Merging, merging-none, merging-done, merging-both, merging-left, merging-right}
+use Rattle.distance_sums.specs.Sparse.{squares_rule}
+use Rattle.bodies.proofs.Merging.{Merging}
 use Rattle.distance_l2.proofs.sparse_sum.Given as goal
 
 abbrev pub invariant-loop-x : goal.invariant-loop-x

@@ -1,6 +1,5 @@
 -- The root of the merge's sum.
 use mathlib.Core.Path.{ap, ◌∙◌}
-use borrow.Author.Rules.{rules}
 use Rattle.distance_sums.specs.Dense.{l2_by}
 use Rattle.distance_l2.proofs.vector_f32_sparse_distance_l2.Goals as goal
 

@@ -1,11 +1,7 @@
 -- The loop adds one squared difference a turn.
 use mathlib.Core.Path.{◌≡◌}
-use Prim.Native.Nat.{◌-◌, ◌≤◌}
 use native.Mathlib.Omega.{arith}
-use borrow.Author.Rules.{rules}
 use lib.Ieee.{binary64, of_bits}
-use Rattle.bodies.specs.Elements.{dense_element}
-use Rattle.distance_sums.specs.Dense.{squares}
 use Rattle.distance_sums.specs.Values.{l2_of}
 use Rattle.distance_sums.proofs.Sums.{squares-none, squares-more}
 use Rattle.distance_l2.proofs.vector_f64_distance_l2.Goals as goal

@@ -1,13 +1,9 @@
 -- The loop adds one squared difference a turn, of elements made by the scales.
 use mathlib.Core.Path.{◌≡◌}
 use Prim.Native.Nat.{◌-◌, ◌≤◌}
-use native.Mathlib.Omega.{arith}
-use borrow.Author.Rules.{rules}
-use lib.Ieee.{binary64, of_bits}
+use lib.Ieee.{binary64}
 use Rattle.bodies.specs.Elements.{float8_element}
 use Rattle.distance_sums.specs.Dense.{squares}
-use Rattle.distance_sums.specs.Values.{l2_of}
-use Rattle.distance_sums.proofs.Sums.{squares-none, squares-more}
 use Rattle.distance_l2.proofs.vector_f8_distance_l2.Given as goal
 
 abbrev pub invariant-loop-i : goal.invariant-loop-i

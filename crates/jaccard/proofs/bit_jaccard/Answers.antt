@@ -1,5 +1,4 @@
 -- By whether a bit is set.
-use borrow.Author.Rules.{rules}
 use borrow.Author.Tests.{eq-eqb, ne_eqb}
 use lib.Ieee.{of_bits, div}
 use Rattle.distance_sums.specs.OneBit.{bit_jaccard}

@@ -1,6 +1,5 @@
 -- The counts of the whole bytes of dims.
 use mathlib.Core.Path.{ap, ◌∙◌}
-use borrow.Author.Rules.{rules}
 use Rattle.distance_sums.specs.OneBit.{bit_jaccard}
 use Rattle.distance_sums.specs.Values.{jaccard_of}
 use Rattle.jaccard.proofs.vector_1bit_distance_jaccard.Goals as goal

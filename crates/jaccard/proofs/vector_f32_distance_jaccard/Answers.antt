@@ -1,14 +1,9 @@
 -- The loop adds one pair a turn.
 use mathlib.Core.Path.{◌≡◌, ◌∙◌, ap}
-use Prim.Native.Nat.{◌-◌, ◌≤◌}
 use native.Mathlib.Omega.{arith}
-use borrow.Author.Rules.{rules}
 use lib.Ieee.{binary32, of_bits}
-use Rattle.bodies.specs.Elements.{dense_element}
 use Rattle.distance_sums.specs.Extremes.{lesser, greater}
 use Rattle.distance_sums.specs.Dense.{jaccard_by}
-use Rattle.distance_sums.specs.Inner.Shares.{shares}
-use Rattle.jaccard.specs.Inner.Sums.{shares32}
 use Rattle.distance_sums.specs.Values.{jaccard_of}
 use Rattle.distance_sums.proofs.Sums.{shares-none, shares-more}
 use Rattle.jaccard.proofs.vector_f32_distance_jaccard.Goals as goal

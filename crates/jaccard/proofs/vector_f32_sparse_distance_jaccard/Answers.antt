@@ -1,6 +1,5 @@
 -- The distance of the merge's sums.
 use mathlib.Core.Path.{ap, ◌∙◌}
-use borrow.Author.Rules.{rules}
 use lib.Ieee.{binary32}
 use Rattle.distance_sums.specs.Dense.{jaccard_by}
 use Rattle.jaccard.proofs.vector_f32_sparse_distance_jaccard.Goals as goal

@@ -1,5 +1,4 @@
 -- The second pair is checked where the first has passed (`pairings-in-order`).
-use borrow.Author.Rules.{rules}
 use Rattle.nearer.proofs.Compared.{pairings-in-order}
 use Rattle.nearer.proofs.check_pairs.Goals as goal
 

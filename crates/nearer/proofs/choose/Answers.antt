@@ -2,7 +2,6 @@
 use mathlib.Core.Path.{refl, sym, ap, ◌∙◌}
 use Rattle.nearer.specs.Nearer.{refused_naming_none}
 use Rattle.nearer.proofs.Compared.{nearer-by-tests}
-use borrow.Author.Rules.{rules}
 use Rattle.nearer.proofs.choose.Goals as goal
 
 pub returns-then-x-y : goal.returns-then-x-y

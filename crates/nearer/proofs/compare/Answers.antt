@@ -1,6 +1,5 @@
 -- What the checks and the two measures answer decides as `compared_of` says (`compared-by`).
 use mathlib.Core.Path.{◌≡◌, sym, ap₂, ◌∙◌}
-use borrow.Author.Rules.{rules}
 use Rattle.distance.specs.Answer.{pairing_of}
 use Rattle.distance.specs.declared.Pairing.TheVariants.{Alike}
 use Rattle.nearer.specs.Nearer.{nearer_by}

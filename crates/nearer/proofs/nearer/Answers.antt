@@ -1,7 +1,6 @@
 -- The answers of the three reads decide: views are compared, the first refusal handed on.
 use mathlib.Core.Path.{sym, ◌∙◌}
 use Rattle.nearer.specs.Nearer.{nearer_of}
-use borrow.Author.Rules.{rules}
 use Rattle.nearer.proofs.nearer.Goals as goal
 
 pub compare-requires : goal.compare-requires

@@ -1,6 +1,5 @@
 -- The answer tells which body is shown.
 use mathlib.Core.Path.{refl}
-use borrow.Author.Rules.{rules}
 use Rattle.nearer.proofs.nearer_part.Goals as goal
 
 pub returns-in-First : goal.returns-in-First

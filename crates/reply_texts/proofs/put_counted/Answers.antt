@@ -1,6 +1,5 @@
 -- `put_counted` meets its contract: the count is put after the bytes.
 use Rattle.promises.proofs.Puts.{puts_then}
-use borrow.Author.Rules.{rules}
 use Rattle.reply_texts.proofs.put_counted.Goals as goal
 
 pub returns : goal.returns

@@ -1,7 +1,6 @@
 -- `put_detail` meets its contract: nothing, or what `put_field` puts.
 use Rattle.promises.proofs.Puts.{puts_none}
 use Rattle.reply_texts.specs.Texts.{detail_text}
-use borrow.Author.Rules.{rules}
 use native.Mathlib.Omega.{arith}
 use Rattle.reply_texts.proofs.put_detail.Goals as goal
 

@@ -1,8 +1,7 @@
 -- `put_header` meets its contract: the mark and the two numbers are written one after another.
-use mathlib.Core.Path.{◌≡◌, refl}
+use mathlib.Core.Path.{◌≡◌}
 use Prim.Native.Nat.{ℕ, ◌+◌, ◌≤◌}
-use Rattle.promises.proofs.Puts.{puts-copy, puts_then}
-use borrow.Author.Rules.{rules}
+use Rattle.promises.proofs.Puts.{puts_then}
 use native.Mathlib.Omega.{arith}
 use Rattle.reply_texts.proofs.put_header.Goals as goal
 

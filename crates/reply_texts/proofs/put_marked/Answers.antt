@@ -1,7 +1,5 @@
 -- `put_marked` meets its contract: the number is written after the mark.
-use mathlib.Core.Path.{refl}
-use Rattle.promises.proofs.Puts.{puts-copy, puts_then}
-use borrow.Author.Rules.{rules}
+use Rattle.promises.proofs.Puts.{puts_then}
 use native.Mathlib.Omega.{arith}
 use Rattle.reply_texts.proofs.put_marked.Goals as goal
 

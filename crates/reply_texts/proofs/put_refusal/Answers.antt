@@ -1,6 +1,5 @@
 -- `put_refusal` meets its contract: what the refusal carries is put after its number.
 use Rattle.promises.proofs.Puts.{puts_then}
-use borrow.Author.Rules.{rules}
 use Rattle.reply_texts.proofs.put_refusal.Goals as goal
 
 pub returns : goal.returns

@@ -1,6 +1,5 @@
 -- `put_shown` meets its contract: the bytes are written after what stands before them.
 use Rattle.promises.proofs.Puts.{puts_then}
-use borrow.Author.Rules.{rules}
 use native.Mathlib.Omega.{arith}
 use Rattle.reply_texts.proofs.put_shown.Goals as goal
 

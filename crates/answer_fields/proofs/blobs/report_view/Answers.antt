@@ -1,6 +1,5 @@
 -- `blobs::report_view` meets its contract: each arm writes the fields that the definition lists for its answer.
 use mathlib.Core.Path.{refl}
-use borrow.Author.Rules.{rules}
 use Rattle.answer_fields.proofs.blobs.report_view.Goals as goal
 
 pub returns-in-Accepted : goal.returns-in-Accepted

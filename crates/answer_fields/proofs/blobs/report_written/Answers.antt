@@ -1,6 +1,5 @@
 -- `blobs::report_written` meets its contract: each arm writes the fields that the definition lists for its answer.
 use mathlib.Core.Path.{refl}
-use borrow.Author.Rules.{rules}
 use Rattle.answer_fields.proofs.blobs.report_written.Goals as goal
 
 pub returns-in-Written : goal.returns-in-Written

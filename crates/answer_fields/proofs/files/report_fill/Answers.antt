@@ -1,6 +1,5 @@
 -- `files::report_fill` meets its contract: each arm writes the fields that the definition lists for its answer.
 use mathlib.Core.Path.{refl}
-use borrow.Author.Rules.{rules}
 use Rattle.answer_fields.proofs.files.report_fill.Goals as goal
 
 pub returns-in-Filled : goal.returns-in-Filled

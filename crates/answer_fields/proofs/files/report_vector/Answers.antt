@@ -1,6 +1,5 @@
 -- `files::report_vector` meets its contract: each arm writes the fields that the definition lists for its answer.
 use mathlib.Core.Path.{refl}
-use borrow.Author.Rules.{rules}
 use Rattle.answer_fields.proofs.files.report_vector.Goals as goal
 
 pub returns-in-Vector : goal.returns-in-Vector

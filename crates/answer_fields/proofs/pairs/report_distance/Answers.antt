@@ -1,6 +1,5 @@
 -- `pairs::report_distance` meets its contract: each arm writes the fields that the definition lists for its answer.
 use mathlib.Core.Path.{refl}
-use borrow.Author.Rules.{rules}
 use Rattle.answer_fields.proofs.pairs.report_distance.Goals as goal
 
 pub returns-in-Measured : goal.returns-in-Measured

@@ -1,6 +1,5 @@
 -- `pairs::report_nearer` meets its contract: each arm writes the fields that the definition lists for its answer.
 use mathlib.Core.Path.{refl}
-use borrow.Author.Rules.{rules}
 use Rattle.answer_fields.proofs.pairs.report_nearer.Goals as goal
 
 pub returns-in-Nearer : goal.returns-in-Nearer

@@ -1,6 +1,5 @@
 -- `refusing::report_refusal` meets its contract: each arm writes the field of its detail.
 use mathlib.Core.Path.{refl}
-use borrow.Author.Rules.{rules}
 use Rattle.answer_fields.proofs.refusing.report_refusal.Goals as goal
 
 pub returns-in-Nothing : goal.returns-in-Nothing

@@ -1,12 +1,9 @@
 -- The loop fills, element by element, each widened.
-use mathlib.Core.Path.{◌∙◌}
 use Prim.Native.Nat.{◌-◌}
-use borrow.Author.Rules.{rules}
 use lib.Ieee.{binary64}
 use Rattle.bodies.specs.Elements.{bit_element}
 use Rattle.convert_parts.specs.Dense.{floats_of}
-use Rattle.convert_parts.specs.Result.{result_of}
-use Rattle.convert_parts.proofs.Pieces.{FilledSoFar, fill_none, fill-float, fill-all}
+use Rattle.convert_parts.proofs.Pieces.{FilledSoFar}
 use Rattle.convert_1bit.proofs.dense.put_doubles.Given as goal
 
 abbrev pub invariant-loop-i : goal.invariant-loop-i

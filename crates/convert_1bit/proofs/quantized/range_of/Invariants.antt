@@ -1,10 +1,7 @@
 -- The loop's invariant: the range of the elements passed, which no element makes wider where it has two ends (`both-met`).
 use Prim.Native.Nat.{◌-◌}
-use native.Mathlib.Omega.{arith}
-use borrow.Author.Rules.{rules}
 use Rattle.bodies.specs.Elements.{bit_element}
-use Rattle.convert_parts.proofs.RangeSoFar.{RangeSoFar, range_none, range-next, range_all}
-use Rattle.convert_1bit.proofs.Units.{both-met}
+use Rattle.convert_parts.proofs.RangeSoFar.{RangeSoFar}
 use Rattle.convert_1bit.proofs.quantized.range_of.Given as goal
 
 abbrev pub invariant-loop-i : goal.invariant-loop-i

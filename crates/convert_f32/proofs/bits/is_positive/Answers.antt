@@ -1,7 +1,6 @@
 -- By the two tests, of i and of the pattern.
 use mathlib.Core.Path.{◌∙◌}
 use lib.Ieee.{binary32}
-use borrow.Author.Rules.{rules}
 use borrow.Author.Tests.{lt-ltb, le-ltb}
 use Rattle.convert_parts.proofs.Patterns.{positive-tested}
 use Rattle.convert_f32.proofs.bits.is_positive.Goals as goal

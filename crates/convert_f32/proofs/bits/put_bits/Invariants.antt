@@ -1,14 +1,11 @@
 -- The loop fills, byte by byte.
 use mathlib.Core.List.{[], ◌∷◌}
 use Prim.Native.Nat.{◌-◌}
-use native.Mathlib.Omega.{arith}
-use borrow.Author.Rules.{rules}
 use lib.Ieee.{binary32}
 use Rattle.bodies.specs.Elements.{dense_element}
 use Rattle.convert_parts.specs.Pieces.{pieces}
 use Rattle.convert_parts.specs.Bits.{is_positive, packed_byte}
-use Rattle.convert_parts.specs.Result.{result_of}
-use Rattle.convert_parts.proofs.Pieces.{FilledSoFar, fill_none, fill-byte, fill-all}
+use Rattle.convert_parts.proofs.Pieces.{FilledSoFar}
 use Rattle.convert_f32.proofs.bits.put_bits.Given as goal
 
 abbrev pub invariant-loop-m : goal.invariant-loop-m

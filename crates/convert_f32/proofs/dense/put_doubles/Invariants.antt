@@ -1,11 +1,9 @@
 -- The loop fills, pattern by pattern, each widened.
 use Prim.Native.Nat.{◌-◌}
-use borrow.Author.Rules.{rules}
 use lib.Ieee.{binary32, binary64}
 use Rattle.bodies.specs.Elements.{dense_element}
 use Rattle.convert_parts.specs.Dense.{floats_of}
-use Rattle.convert_parts.specs.Result.{result_of}
-use Rattle.convert_parts.proofs.Pieces.{FilledSoFar, fill_none, fill-pattern, fill-all}
+use Rattle.convert_parts.proofs.Pieces.{FilledSoFar}
 use Rattle.convert_f32.proofs.dense.put_doubles.Given as goal
 
 abbrev pub invariant-loop-i : goal.invariant-loop-i

@@ -1,16 +1,11 @@
 -- Zeros where alpha is 0.0; else the loop fills, byte by byte.
-use mathlib.Core.Path.{◌≡◌}
-use mathlib.Core.Bool.{true}
 use mathlib.Core.List.{[], ◌∷◌}
 use Prim.Native.Nat.{◌-◌}
-use native.Mathlib.Omega.{arith}
-use borrow.Author.Rules.{rules}
-use lib.Ieee.{binary32, eq, of_bits}
-use Rattle.float_laws.specs.Zero.{plus_zero}
+use lib.Ieee.{binary32}
 use Rattle.bodies.specs.Elements.{dense_element}
 use Rattle.convert_parts.specs.Pieces.{pieces}
 use Rattle.convert_parts.specs.Quantized.{quantum}
-use Rattle.convert_parts.proofs.Pieces.{FilledSoFar, fill_none, fill-byte, fill-all, pieces-zeros}
+use Rattle.convert_parts.proofs.Pieces.{FilledSoFar}
 use Rattle.convert_f32.proofs.quantized.put_quanta.Given as goal
 
 abbrev pub invariant-loop-i : goal.invariant-loop-i

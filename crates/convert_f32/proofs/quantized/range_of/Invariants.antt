@@ -1,10 +1,8 @@
 -- The loop's invariant: the range of the elements passed.
 use Prim.Native.Nat.{◌-◌}
-use native.Mathlib.Omega.{arith}
-use borrow.Author.Rules.{rules}
 use lib.Ieee.{binary32}
 use Rattle.bodies.specs.Elements.{dense_element}
-use Rattle.convert_parts.proofs.RangeSoFar.{RangeSoFar, range_none, range-next, range_all}
+use Rattle.convert_parts.proofs.RangeSoFar.{RangeSoFar}
 use Rattle.convert_f32.proofs.quantized.range_of.Given as goal
 
 abbrev pub invariant-loop-i : goal.invariant-loop-i

@@ -1,16 +1,14 @@
 -- The entries of the elements below i are laid out; a value is copied as a number.
 use mathlib.Core.Path.{ap, ◌∙◌}
-use Prim.Native.Nat.{◌-◌, ◌*◌}
+use Prim.Native.Nat.{◌*◌}
 use native.Mathlib.Omega.{arith}
 use borrow.Author.Rules.{rules}
 use lib.Ieee.{binary32}
 use Rattle.little_endian.specs.Bytes.{bytes_of}
 use Rattle.little_endian.proofs.Numbers.{bytes_of-number_at}
-use Rattle.bodies.specs.Elements.{dense_element}
-use Rattle.convert_parts.specs.Sparse.{is_nonzero, value_bytes}
 use Rattle.convert_parts.specs.Result.{result_of}
 use Rattle.convert_parts.proofs.Patterns.{nonzero-tested}
-use Rattle.convert_parts.proofs.Regions.{Laying, laying-none, laying-room, laying-next, laying-all}
+use Rattle.convert_parts.proofs.Regions.{laying-none, laying-room, laying-next, laying-all}
 use Rattle.convert_f32.proofs.Stored.{length-value}
 use Rattle.convert_f32.proofs.sparse.put_sparse.Goals as goal
 

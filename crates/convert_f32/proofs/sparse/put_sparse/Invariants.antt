@@ -1,17 +1,9 @@
 -- The entries of the elements below i are laid out; a value is copied as a number.
-use mathlib.Core.Path.{ap, ◌∙◌}
-use Prim.Native.Nat.{◌-◌, ◌*◌}
-use native.Mathlib.Omega.{arith}
-use borrow.Author.Rules.{rules}
+use Prim.Native.Nat.{◌-◌}
 use lib.Ieee.{binary32}
-use Rattle.little_endian.specs.Bytes.{bytes_of}
-use Rattle.little_endian.proofs.Numbers.{bytes_of-number_at}
 use Rattle.bodies.specs.Elements.{dense_element}
 use Rattle.convert_parts.specs.Sparse.{is_nonzero, value_bytes}
-use Rattle.convert_parts.specs.Result.{result_of}
-use Rattle.convert_parts.proofs.Patterns.{nonzero-tested}
-use Rattle.convert_parts.proofs.Regions.{Laying, laying-none, laying-room, laying-next, laying-all}
-use Rattle.convert_f32.proofs.Stored.{length-value}
+use Rattle.convert_parts.proofs.Regions.{Laying}
 use Rattle.convert_f32.proofs.sparse.put_sparse.Given as goal
 
 abbrev pub invariant-loop-i : goal.invariant-loop-i

@@ -1,11 +1,6 @@
 -- The loop's invariant: the byte is made up of its first bits, and the weight is that of the next.
-use Prim.Native.Nat.{◌-◌}
 use native.Mathlib.Omega.{arith}
-use borrow.Author.Rules.{rules}
-use lib.Ieee.{binary64}
-use Rattle.bodies.specs.Elements.{dense_element}
-use Rattle.convert_parts.specs.Bits.{is_positive}
-use Rattle.convert_parts.proofs.Packed.{Packing, pack-none, pack-next, pack-all}
+use Rattle.convert_parts.proofs.Packed.{pack-none, pack-next, pack-all}
 use Rattle.convert_f64.proofs.bits.packed_byte.Goals as goal
 
 pub loop-j-preserved : goal.loop-j-preserved

@@ -1,14 +1,7 @@
 -- The loop fills, byte by byte.
-use mathlib.Core.List.{[], ◌∷◌}
-use Prim.Native.Nat.{◌-◌}
 use native.Mathlib.Omega.{arith}
-use borrow.Author.Rules.{rules}
-use lib.Ieee.{binary64}
-use Rattle.bodies.specs.Elements.{dense_element}
-use Rattle.convert_parts.specs.Pieces.{pieces}
-use Rattle.convert_parts.specs.Bits.{is_positive, packed_byte}
 use Rattle.convert_parts.specs.Result.{result_of}
-use Rattle.convert_parts.proofs.Pieces.{FilledSoFar, fill_none, fill-byte, fill-all}
+use Rattle.convert_parts.proofs.Pieces.{fill_none, fill-byte, fill-all}
 use Rattle.convert_f64.proofs.bits.put_bits.Goals as goal
 
 pub loop-m-preserved : goal.loop-m-preserved

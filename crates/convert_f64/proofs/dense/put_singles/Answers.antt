@@ -1,12 +1,7 @@
 -- The loop fills, pattern by pattern, each narrowed.
-use Prim.Native.Nat.{◌-◌}
-use borrow.Author.Rules.{rules}
-use lib.Ieee.{binary32, binary64}
-use Rattle.rounding.specs.Narrow.{narrowed}
-use Rattle.bodies.specs.Elements.{dense_element}
-use Rattle.convert_parts.specs.Dense.{floats_of}
+use lib.Ieee.{binary32}
 use Rattle.convert_parts.specs.Result.{result_of}
-use Rattle.convert_parts.proofs.Pieces.{FilledSoFar, fill_none, fill-pattern, fill-all}
+use Rattle.convert_parts.proofs.Pieces.{fill_none, fill-pattern, fill-all}
 use Rattle.convert_f64.proofs.dense.put_singles.Goals as goal
 
 pub loop-i-preserved : goal.loop-i-preserved

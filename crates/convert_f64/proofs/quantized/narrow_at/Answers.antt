@@ -1,6 +1,5 @@
 -- The pattern of an f32 is read back.
 use mathlib.Core.Path.{◌∙◌}
-use borrow.Author.Rules.{rules}
 use lib.Ieee.{binary32}
 use lib.Ieee.Bits.{of_bits-to_bits}
 use Rattle.rounding.proofs.NarrowBits.{narrowed-fits}

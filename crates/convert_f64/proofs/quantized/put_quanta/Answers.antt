@@ -1,17 +1,10 @@
 -- Zeros where alpha is 0.0; else the loop fills, byte by byte.
 use mathlib.Core.Path.{◌≡◌}
 use mathlib.Core.Bool.{true}
-use mathlib.Core.List.{[], ◌∷◌}
-use Prim.Native.Nat.{◌-◌}
 use native.Mathlib.Omega.{arith}
-use borrow.Author.Rules.{rules}
-use lib.Ieee.{binary64, eq, of_bits}
+use lib.Ieee.{eq, of_bits}
 use Rattle.float_laws.specs.Zero.{plus_zero}
-use Rattle.rounding.specs.Narrow.{narrowed}
-use Rattle.bodies.specs.Elements.{dense_element}
-use Rattle.convert_parts.specs.Pieces.{pieces}
-use Rattle.convert_parts.specs.Quantized.{quantum}
-use Rattle.convert_parts.proofs.Pieces.{FilledSoFar, fill_none, fill-byte, fill-all, pieces-zeros}
+use Rattle.convert_parts.proofs.Pieces.{fill_none, fill-byte, fill-all, pieces-zeros}
 use Rattle.convert_f64.proofs.quantized.put_quanta.Goals as goal
 
 pub returns-then-scale : goal.returns-then-scale

@@ -1,11 +1,5 @@
 -- The loop's invariant: the range of the elements passed.
-use Prim.Native.Nat.{◌-◌}
-use native.Mathlib.Omega.{arith}
-use borrow.Author.Rules.{rules}
-use lib.Ieee.{binary64}
-use Rattle.rounding.specs.Narrow.{narrowed}
-use Rattle.bodies.specs.Elements.{dense_element}
-use Rattle.convert_parts.proofs.RangeSoFar.{RangeSoFar, range_none, range-next, range_all}
+use Rattle.convert_parts.proofs.RangeSoFar.{range_none, range-next, range_all}
 use Rattle.convert_f64.proofs.quantized.range_of.Goals as goal
 
 pub loop-i-preserved : goal.loop-i-preserved

@@ -1,12 +1,8 @@
 -- The stored elements below i have been counted.
-use Prim.Native.Nat.{◌-◌}
 use native.Mathlib.Omega.{arith}
-use borrow.Author.Rules.{rules}
 use lib.Ieee.{binary64}
-use Rattle.bodies.specs.Elements.{dense_element}
-use Rattle.convert_parts.specs.Sparse.{is_nonzero}
 use Rattle.convert_parts.proofs.Patterns.{nonzero-tested}
-use Rattle.convert_parts.proofs.Places.{Counting, count_none, count-within, count_next, count-all}
+use Rattle.convert_parts.proofs.Places.{count_none, count-within, count_next, count-all}
 use Rattle.convert_f64.proofs.sparse.count_stored.Goals as goal
 
 pub loop-i-preserved : goal.loop-i-preserved

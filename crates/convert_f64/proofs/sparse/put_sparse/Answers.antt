@@ -1,16 +1,14 @@
 -- The entries of the elements below i are laid out; a value is narrowed.
 use mathlib.Core.Path.{ap}
-use Prim.Native.Nat.{ℕ, ◌-◌}
+use Prim.Native.Nat.{ℕ}
 use native.Mathlib.Omega.{arith}
 use borrow.Author.Rules.{rules}
 use lib.Ieee.{binary32, binary64, of_bits}
 use Rattle.rounding.specs.Narrow.{narrowed}
 use Rattle.little_endian.specs.Bytes.{float_bytes}
-use Rattle.bodies.specs.Elements.{dense_element}
-use Rattle.convert_parts.specs.Sparse.{is_nonzero, value_bytes}
 use Rattle.convert_parts.specs.Result.{result_of}
 use Rattle.convert_parts.proofs.Patterns.{nonzero-tested}
-use Rattle.convert_parts.proofs.Regions.{Laying, laying-none, laying-room, laying-next, laying-all}
+use Rattle.convert_parts.proofs.Regions.{laying-none, laying-room, laying-next, laying-all}
 use Rattle.convert_f64.proofs.Stored.{length-value}
 use Rattle.convert_f64.proofs.sparse.put_sparse.Goals as goal
 

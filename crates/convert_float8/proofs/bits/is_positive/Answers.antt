@@ -1,6 +1,5 @@
 -- By the test of i, and of element i, which is scaled by alpha and shift of its body.
 use lib.Ieee.{binary32}
-use borrow.Author.Rules.{rules}
 use borrow.Author.Tests.{lt-ltb, le-ltb}
 use Rattle.bodies.proofs.Elements.{literal-zero}
 use Rattle.convert_float8.proofs.bits.is_positive.Goals as goal

@@ -1,11 +1,9 @@
 -- The loop's invariant: the byte is made up of its first bits, and the weight is that of the next.
 use Prim.Native.Nat.{◌-◌}
-use native.Mathlib.Omega.{arith}
-use borrow.Author.Rules.{rules}
 use lib.Ieee.{binary32}
 use Rattle.bodies.specs.Elements.{float8_element}
 use Rattle.convert_parts.specs.Bits.{is_positive}
-use Rattle.convert_parts.proofs.Packed.{Packing, pack-none, pack-next, pack-all}
+use Rattle.convert_parts.proofs.Packed.{Packing}
 use Rattle.convert_float8.proofs.bits.packed_byte.Given as goal
 
 abbrev pub invariant-loop-j : goal.invariant-loop-j

@@ -1,13 +1,7 @@
 -- The loop fills, byte by byte.
-use mathlib.Core.List.{[], ◌∷◌}
-use Prim.Native.Nat.{◌-◌}
 use native.Mathlib.Omega.{arith}
-use borrow.Author.Rules.{rules}
-use lib.Ieee.{binary32}
-use Rattle.bodies.specs.Elements.{float8_element}
-use Rattle.convert_parts.specs.Pieces.{pieces}
-use Rattle.convert_parts.specs.Bits.{is_positive, packed_byte, packed_bits}
-use Rattle.convert_parts.proofs.Pieces.{FilledSoFar, fill_none, fill-byte, fill-all}
+use Rattle.convert_parts.specs.Bits.{packed_bits}
+use Rattle.convert_parts.proofs.Pieces.{fill_none, fill-byte, fill-all}
 use Rattle.convert_float8.proofs.Scaled.{packed-elements}
 use Rattle.convert_float8.proofs.bits.put_bits.Goals as goal
 

@@ -1,11 +1,7 @@
 -- The loop fills, float by float, by the body's alpha and shift, widened.
-use Prim.Native.Nat.{◌-◌}
-use borrow.Author.Rules.{rules}
 use lib.Ieee.{binary64}
-use Rattle.bodies.specs.Elements.{float8_element}
-use Rattle.convert_parts.specs.Dense.{floats_of}
 use Rattle.convert_parts.specs.Result.{result_of}
-use Rattle.convert_parts.proofs.Pieces.{FilledSoFar, fill_none, fill-float, fill-all}
+use Rattle.convert_parts.proofs.Pieces.{fill_none, fill-float, fill-all}
 use Rattle.convert_float8.proofs.dense.put_doubles.Goals as goal
 
 pub loop-i-preserved : goal.loop-i-preserved

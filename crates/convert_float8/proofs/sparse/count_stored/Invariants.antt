@@ -1,12 +1,9 @@
 -- The stored elements below i have been counted.
 use Prim.Native.Nat.{◌-◌}
-use native.Mathlib.Omega.{arith}
-use borrow.Author.Rules.{rules}
 use lib.Ieee.{binary32}
 use Rattle.bodies.specs.Elements.{float8_element}
 use Rattle.convert_parts.specs.Sparse.{is_nonzero}
-use Rattle.convert_parts.proofs.Places.{Counting, count_none, count-within, count_next, count-all}
-use Rattle.convert_float8.proofs.Scaled.{element-computed, nonzero-computed}
+use Rattle.convert_parts.proofs.Places.{Counting}
 use Rattle.convert_float8.proofs.sparse.count_stored.Given as goal
 
 abbrev pub invariant-loop-i : goal.invariant-loop-i

@@ -1,13 +1,10 @@
 -- The entries of the elements below i are laid out.
 use mathlib.Core.Path.{ap, ◌∙◌}
-use Prim.Native.Nat.{◌-◌}
 use native.Mathlib.Omega.{arith}
 use borrow.Author.Rules.{rules}
 use lib.Ieee.{binary32, to_bits}
-use Rattle.little_endian.specs.Bytes.{bytes_of, float_bytes}
-use Rattle.bodies.specs.Elements.{float8_element}
-use Rattle.convert_parts.specs.Sparse.{is_nonzero}
-use Rattle.convert_parts.proofs.Regions.{Laying, laying-none, laying-room, laying-next, laying-all}
+use Rattle.little_endian.specs.Bytes.{bytes_of}
+use Rattle.convert_parts.proofs.Regions.{laying-none, laying-room, laying-next, laying-all}
 use Rattle.convert_float8.proofs.Scaled.{element-computed, nonzero-computed, length-value, stored-elements}
 use Rattle.convert_float8.proofs.sparse.put_sparse.Goals as goal
 

@@ -1,12 +1,7 @@
 -- The loop spreads, entry by entry; a value is widened.
 use mathlib.Core.Path.{ap}
-use Prim.Native.Nat.{◌-◌}
-use borrow.Author.Rules.{rules}
 use lib.Ieee.{binary64}
 use Rattle.little_endian.specs.Bytes.{bytes_of}
-use Rattle.bodies.specs.Entries.{stored_count}
-use Rattle.convert_parts.specs.Spread.{spread}
-use Rattle.convert_parts.proofs.Pieces.{FilledSoFar}
 use Rattle.convert_sparse.proofs.SpreadLoop.{spread_none, spread-room, spread-next, spread-all}
 use Rattle.convert_sparse.proofs.dense.put_doubles.Goals as goal
 

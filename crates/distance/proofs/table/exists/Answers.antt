@@ -1,7 +1,6 @@
 -- The cell of the table is the rule's.
 use native.Mathlib.Omega.{arith}
 use Rattle.distance.proofs.Existing.{row_below, column-below, cell}
-use borrow.Author.Rules.{rules}
 use Rattle.distance.proofs.table.exists.Goals as goal
 
 pub offset_bounds-d : goal.offset_bounds-d

@@ -1,17 +1,13 @@
 -- Each return is a case of the outcome; the vector is put to the part after the fill.
 use mathlib.Core.Path.{◌≡◌, sym, ap, ◌∙◌}
 use mathlib.Core.Bool.{true}
-use mathlib.Core.List.{List}
-use Prim.Native.Nat.{ℕ, ◌+◌, ◌-◌, ◌≤◌}
+use Prim.Native.Nat.{◌+◌, ◌-◌, ◌≤◌}
 use native.Mathlib.Omega.{arith}
 use lib.ListN.{length, length-drop}
 use lib.Seq.{length-take-le}
-use borrow.Author.Rules.{rules}
-use borrow.Author.Tests.{not-true, not-false}
 use Rattle.promises.proofs.Onto.{tail-lent}
 use Rattle.vector_types.specs.Layout.{max_dims, has_byte}
 use Rattle.vector_types.specs.Read.{read_of}
-use Rattle.vector_types.specs.declared.View.{View}
 use Rattle.vector_types.specs.declared.Refusal.{Refusal}
 use Rattle.vector_types.specs.declared.ReadAnswer.TheVariants.{Accepted}
 use Rattle.vector_types.specs.declared.Mode.TheVariants.{Plain}

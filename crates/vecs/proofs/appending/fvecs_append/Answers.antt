@@ -1,6 +1,5 @@
 -- The reader refuses, or its view is appended.
 use mathlib.Core.Path.{sym, ◌∙◌}
-use borrow.Author.Rules.{rules}
 use Rattle.vecs.proofs.Appended.{append-unread}
 use Rattle.vecs.proofs.appending.fvecs_append.Goals as goal
 

@@ -1,12 +1,10 @@
 -- The body is copied behind the four bytes of the count.
-use mathlib.Core.Path.{refl, ◌∙◌}
-use mathlib.Core.List.{List}
-use Prim.Native.Nat.{ℕ, ◌+◌, ◌≤◌}
+use mathlib.Core.Path.{◌∙◌}
+use Prim.Native.Nat.{◌+◌, ◌≤◌}
 use native.Mathlib.Omega.{arith}
 use lib.ListN.{length, length-drop}
-use borrow.Author.Rules.{rules}
-use Rattle.promises.proofs.Onto.{copied, onto-then, tail-lent}
-use Rattle.little_endian.specs.Bytes.{bytes_of, put}
+use Rattle.promises.proofs.Onto.{onto-then, tail-lent}
+use Rattle.little_endian.specs.Bytes.{bytes_of}
 use Rattle.little_endian.proofs.Numbers.{length-bytes_of}
 use Rattle.little_endian.proofs.Put.{put_front}
 use Rattle.vecs.proofs.Appended.{length-vector}

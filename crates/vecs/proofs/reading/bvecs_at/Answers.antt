@@ -1,13 +1,10 @@
 -- The answer at the place, and then the room: a vector's elements lie within the file, and are put as floats.
 use mathlib.Core.Path.{◌≡◌, sym, ap, ◌∙◌}
-use mathlib.Core.List.{List}
-use Prim.Native.Nat.{ℕ, ◌-◌}
+use Prim.Native.Nat.{◌-◌}
 use native.Mathlib.Omega.{arith}
 use lib.ListN.{take, drop}
-use borrow.Author.Rules.{rules}
 use Rattle.vector_types.specs.declared.Refusal.{Refusal}
 use Rattle.vecs.specs.Vecs.{vecs_refused, vector_at, elements_at, vecs_leaving}
-use Rattle.vecs.specs.declared.Found.{Found}
 use Rattle.vecs.specs.declared.VecsAnswer.TheVariants.{Vector}
 use Rattle.vecs.proofs.AtPlace.{VectorFacts, vector-facts, length-elements, bvecs-outcome, bvecs-short, bvecs-put}
 use Rattle.vecs.proofs.reading.bvecs_at.Goals as goal

@@ -1,6 +1,5 @@
 -- The refusal is the one that names the place.
 use mathlib.Core.Path.{ap}
-use borrow.Author.Rules.{rules}
 use Rattle.vecs.specs.Vecs.{vecs_refused}
 use Rattle.vecs.proofs.reading.ends_inside.Goals as goal
 

@@ -2,7 +2,6 @@
 use mathlib.Core.Path.{◌≡◌, sym, ◌∙◌}
 use native.Mathlib.Nat.{zero-add}
 use native.Mathlib.Omega.{arith}
-use borrow.Author.Rules.{rules}
 use Rattle.vecs.specs.Vecs.{vector_at, elements_at}
 use Rattle.vecs.specs.declared.VecsAnswer.TheVariants.{Vector}
 use Rattle.vecs.proofs.AtPlace.{VectorFacts, vector-facts}

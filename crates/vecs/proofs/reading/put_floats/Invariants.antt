@@ -1,11 +1,9 @@
 -- The loop fills, float by float.
-use mathlib.Core.Path.{refl}
 use Prim.Native.Nat.{◌-◌}
-use borrow.Author.Rules.{rules}
 use lib.ListN.{length}
 use lib.Ieee.{binary32}
 use Rattle.convert_parts.specs.Dense.{floats_of}
-use Rattle.convert_parts.proofs.Pieces.{FilledSoFar, fill_none, fill-float, fill-all}
+use Rattle.convert_parts.proofs.Pieces.{FilledSoFar}
 use Rattle.vecs.specs.Vecs.{byte_element}
 use Rattle.vecs.proofs.reading.put_floats.Given as goal
 

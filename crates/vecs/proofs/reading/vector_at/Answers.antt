@@ -1,11 +1,9 @@
 -- Each return is a case of the answer at a place.
 use mathlib.Core.Path.{sym, ap, ◌∙◌}
-use mathlib.Core.List.{List}
-use Prim.Native.Nat.{ℕ, ◌-◌, ◌<◌, ◌≤◌}
+use Prim.Native.Nat.{◌<◌, ◌≤◌}
 use native.Mathlib.Nat.{mul-le-mul_right}
 use native.Mathlib.Omega.{arith}
 use lib.ListN.{length}
-use borrow.Author.Rules.{rules}
 use Rattle.little_endian.specs.Bytes.{u32_at}
 use Rattle.vector_types.specs.Layout.{max_dims}
 use Rattle.vecs.specs.Vecs.{bytes_left, vecs_refused}

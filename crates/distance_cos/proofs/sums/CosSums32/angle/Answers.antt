@@ -1,5 +1,4 @@
 -- The root is the one of the definition.
-use borrow.Author.Rules.{rules}
 use lib.Ieee.{binary32, of_bits}
 use Rattle.distance_cos.specs.Inner.Sums.{products32}
 use Rattle.distance_cos.proofs.Cosines.{angle-by}

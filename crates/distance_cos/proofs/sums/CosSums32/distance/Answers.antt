@@ -1,8 +1,6 @@
 -- Each way out is a case of the definition.
 use mathlib.Core.Path.{◌≡◌, ◌∙◌}
 use mathlib.Core.Bool.{false, ◌&&◌}
-use mathlib.Core.Logic.{⊎_elim}
-use borrow.Author.Rules.{rules}
 use lib.Ieee.{binary32, of_bits}
 use Rattle.distance_sums.specs.Dense.{is_zero}
 use Rattle.distance_cos.specs.Inner.Sums.{products32}

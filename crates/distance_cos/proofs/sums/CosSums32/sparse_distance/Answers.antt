@@ -1,6 +1,5 @@
 -- Each way out is a case of the definition.
 use mathlib.Core.Path.{◌∙◌}
-use borrow.Author.Rules.{rules}
 use lib.Ieee.{of_bits, div}
 use Rattle.distance_cos.specs.Inner.Sums.{products32}
 use Rattle.distance_cos.proofs.Cosines.{sparse-nan, sparse-angle}

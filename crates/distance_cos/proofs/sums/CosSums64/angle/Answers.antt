@@ -1,5 +1,4 @@
 -- The root is the one of the definition.
-use borrow.Author.Rules.{rules}
 use lib.Ieee.{binary64, of_bits}
 use Rattle.distance_cos.specs.Inner.Sums.{products64}
 use Rattle.distance_cos.proofs.Cosines.{angle-by}

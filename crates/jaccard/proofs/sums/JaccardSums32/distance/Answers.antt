@@ -1,5 +1,4 @@
 -- A sum of 0 gives NaN; else the quotient, widened as it is, is taken from 1.
-use borrow.Author.Rules.{rules}
 use lib.Ieee.{div, of_bits}
 use Rattle.distance_sums.specs.Dense.{jaccard_by}
 use Rattle.jaccard.proofs.sums.JaccardSums32.distance.Goals as goal

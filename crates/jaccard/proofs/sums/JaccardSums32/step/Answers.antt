@@ -1,5 +1,4 @@
 -- By the test the first is a number, or NaN.
-use borrow.Author.Rules.{rules}
 use Rattle.jaccard.proofs.Tested.{nan-value}
 use Rattle.jaccard.proofs.sums.JaccardSums32.step.Goals as goal
 

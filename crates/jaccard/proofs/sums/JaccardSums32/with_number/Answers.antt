@@ -1,5 +1,4 @@
 -- The lesser is added to one sum and the greater to the other.
-use borrow.Author.Rules.{rules}
 use Rattle.distance_sums.specs.Dense.{shares_with}
 use Rattle.jaccard.proofs.sums.JaccardSums32.with_number.Goals as goal
 

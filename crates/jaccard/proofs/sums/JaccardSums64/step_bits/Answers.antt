@@ -1,6 +1,5 @@
 -- By the test the first pattern is a number's, or a NaN's.
 use native.Mathlib.Omega.{arith}
-use borrow.Author.Rules.{rules}
 use lib.Ieee.{binary64}
 use Rattle.float_laws.proofs.Nan.{number-pattern}
 use Rattle.float_laws.proofs.Nan.{nan_pattern}
