@@ -1,13 +1,10 @@
 -- The tail is put after the body.
-use mathlib.Core.Path.{refl, sym}
-use mathlib.Core.List.{List}
-use Prim.Native.Nat.{ℕ, ◌+◌, ◌≤◌}
+use mathlib.Core.Path.{sym}
+use Prim.Native.Nat.{◌+◌, ◌≤◌}
 use lib.ListN.{length, length-drop}
-use Rattle.promises.proofs.Onto.{copied, onto-then, tail-lent}
-use Rattle.vector_types.specs.declared.VectorType.{VectorType}
+use Rattle.promises.proofs.Onto.{onto-then, tail-lent}
 use Rattle.blob_writer.specs.Write.{tail_of, blob_of}
 use Rattle.blob_writer.proofs.Tails.{length-blob}
-use borrow.Author.Rules.{rules}
 use native.Mathlib.Omega.{arith}
 use Rattle.blob_writer.proofs.put_blob.Goals as goal
 use Rattle.blob_writer.proofs.put_blob.Goals.{Start}

@@ -4,7 +4,6 @@ use lib.ListN.{length}
 use Rattle.blob_writer.specs.Answers.{written}
 use Rattle.blob_writer.specs.Write.{write_of, write_leaving, write_outcome}
 use Rattle.blob_writer.proofs.Written.{writable, written-clear}
-use borrow.Author.Rules.{rules}
 use Rattle.blob_writer.proofs.write.Goals as goal
 use Rattle.blob_writer.proofs.write.Goals.{In-Written}
 

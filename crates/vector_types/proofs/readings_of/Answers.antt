@@ -1,5 +1,4 @@
 -- Each arm has its row of `readings_of`.
-use borrow.Author.Rules.{rules}
 use Rattle.vector_types.proofs.readings_of.Goals as goal
 
 pub returns-in-Float32Sparse : goal.returns-in-Float32Sparse

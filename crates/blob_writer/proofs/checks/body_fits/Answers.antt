@@ -1,6 +1,5 @@
 -- Each arm is its row.
 use Rattle.vector_types.specs.Layout.{body_fits}
-use borrow.Author.Rules.{rules}
 use Rattle.blob_writer.proofs.checks.body_fits.Goals as goal
 
 pub returns-in-Float32Dense : goal.returns-in-Float32Dense

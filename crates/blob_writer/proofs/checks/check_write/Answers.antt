@@ -1,7 +1,6 @@
 -- Each test is that of the list of refusals.
 use mathlib.Core.Path.{◌≡◌, refl, sym, ap, ◌∙◌}
 use mathlib.Core.Bool.{Bool, true, false, cond, not, ◌&&◌}
-use mathlib.Core.List.{List}
 use Prim.Native.Nat.{ℕ, ◌+◌, ◌/◌, ◌<◌}
 use lib.Dec.{ltb, eqb}
 use lib.ListN.{length}
@@ -9,12 +8,10 @@ use borrow.Author.Tests.{lt-ltb, le-ltb}
 use Rattle.vector_types.specs.Answers.{none, first_given, naming}
 use Rattle.vector_types.specs.Search.{first_index}
 use Rattle.vector_types.specs.Layout.{max_blob_length, max_dims, has_byte, body_fits, is_outside, has_index_outside, has_trailing_count}
-use Rattle.vector_types.specs.declared.VectorType.{VectorType}
 use Rattle.blob_writer.specs.Answers.{write_refused}
 use Rattle.blob_writer.specs.Write.{blob_of, write_refusals, write_of}
 use Rattle.blob_writer.proofs.Tails.{tail-short, length-blob}
 use Rattle.blob_writer.proofs.Written.{clear-short, clear_whole}
-use borrow.Author.Rules.{rules}
 use native.Mathlib.Omega.{arith}
 use Rattle.blob_writer.proofs.checks.check_write.Goals as goal
 use Rattle.blob_writer.proofs.checks.check_write.Goals.{After-tail_length, Else-dims-gt-MAX_DIMS, Else-lacks_elements, Else-length-gt-MAX_BLOB_LENGTH, Else-not-body_fits, Else-outside-body}
@@ -40,7 +37,7 @@ whole : (c : After-tail_length) → length c.args.body.now + c.tail_length.resul
 whole c = omega (arith, c.tail_length.ensures, length-blob c.args.kind c.args.dims.0 c.args.body.now)
 
 short : (c : Else-length-gt-MAX_BLOB_LENGTH) → ltb max_blob_length (length (blob_of c.args.kind c.args.dims.0 c.args.body.now)) ≡ false
-short c = 
+short c =
     let whole : length c.args.body.now + c.tail_length.result ≡ length (blob_of c.args.kind c.args.dims.0 c.args.body.now) = omega (arith, c.tail_length.ensures, length-blob c.args.kind c.args.dims.0 c.args.body.now) in
     sym (ap (ltb max_blob_length) (whole)) ∙ le-ltb _ _ c.if-length-gt-MAX_BLOB_LENGTH.false
 
@@ -56,7 +53,7 @@ elements c = sym c.lacks_elements.ensures ∙ c.if-lacks_elements.false
 -- no test holds but for the room
 clear : (c : Else-lacks_elements) → first_given (write_refusals c.args.kind c.args.dims.0 c.args.body.now) ≡ none
 unfolding write_refusals
-clear c = 
+clear c =
     let few : ltb max_dims c.args.dims.0 ≡ false = le-ltb _ _ c.if-dims-gt-MAX_DIMS.false in
     let fit : not (body_fits c.args.kind c.args.dims.0 (length c.args.body.now)) ≡ false = ap not (sym c.body_fits.ensures ∙ c.if-not-body_fits.false) in
     let whole : length c.args.body.now + c.tail_length.result ≡ length (blob_of c.args.kind c.args.dims.0 c.args.body.now) = omega (arith, c.tail_length.ensures, length-blob c.args.kind c.args.dims.0 c.args.body.now) in

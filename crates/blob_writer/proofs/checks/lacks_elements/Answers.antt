@@ -1,5 +1,4 @@
 -- Each arm is its row.
-use borrow.Author.Rules.{rules}
 use Rattle.blob_writer.proofs.checks.lacks_elements.Goals as goal
 
 pub returns-in-Float1Bit : goal.returns-in-Float1Bit

@@ -1,7 +1,6 @@
 -- By the law of its length.
 use mathlib.Core.Path.{sym}
 use Rattle.blob_writer.proofs.Tails.{length-filler}
-use borrow.Author.Rules.{rules}
 use Rattle.blob_writer.proofs.tail.filler_length.Goals as goal
 
 pub returns : goal.returns

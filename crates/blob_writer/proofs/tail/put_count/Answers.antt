@@ -2,7 +2,6 @@
 use Prim.Native.Nat.{◌≤◌}
 use lib.ListN.{length, length-set}
 use Rattle.blob_writer.proofs.Tails.{two-put, three-put}
-use borrow.Author.Rules.{rules}
 use native.Mathlib.Omega.{arith}
 use Rattle.blob_writer.proofs.tail.put_count.Goals as goal
 use Rattle.blob_writer.proofs.tail.put_count.Goals.{Else-filled, Then-filled}

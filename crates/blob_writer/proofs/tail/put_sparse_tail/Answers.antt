@@ -4,7 +4,6 @@ use Rattle.promises.proofs.Onto.{onto-put}
 use Rattle.little_endian.specs.Bytes.{bytes_of, put}
 use Rattle.blob_writer.specs.Write.{tail_of}
 use Rattle.blob_writer.proofs.Tails.{length-sparse}
-use borrow.Author.Rules.{rules}
 use native.Mathlib.Omega.{arith}
 use Rattle.blob_writer.proofs.tail.put_sparse_tail.Goals as goal
 

@@ -4,7 +4,6 @@ use mathlib.Core.List.{[]}
 use Rattle.promises.proofs.Onto.{onto-put}
 use Rattle.blob_writer.specs.Write.{tail_of}
 use Rattle.blob_writer.proofs.Tails.{trailing_bits-byte}
-use borrow.Author.Rules.{rules}
 use native.Mathlib.Omega.{arith}
 use Rattle.blob_writer.proofs.tail.put_tail.Goals as goal
 

@@ -4,7 +4,6 @@ use Rattle.blob_writer.specs.Write.{tail_of}
 use Rattle.blob_writer.proofs.Tails.{length-filler}
 use Rattle.little_endian.proofs.Numbers.{length-bytes_of}
 use lib.ListN.{length-append}
-use borrow.Author.Rules.{rules}
 use native.Mathlib.Omega.{arith}
 use Rattle.blob_writer.proofs.tail.tail_length.Goals as goal
 

@@ -1,7 +1,6 @@
 -- With at most one zero byte no sum leaves its type.
 use Rattle.blob_writer.proofs.Tails.{length-filler}
 use Rattle.vector_types.specs.Layout.{ceil}
-use borrow.Author.Rules.{rules}
 use native.Mathlib.Omega.{arith}
 use Rattle.blob_writer.proofs.tail.trailing_bits.Goals as goal
 

@@ -1,6 +1,5 @@
 -- A bit that is not 1 is 0.
 use mathlib.Core.Path.{sym, ◌∙◌}
-use borrow.Author.Rules.{rules}
 use Rattle.bodies.proofs.Elements.{unit-set, unit-clear}
 use Rattle.bodies.proofs.bits.element.Goals as goal
 

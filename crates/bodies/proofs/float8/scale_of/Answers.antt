@@ -1,5 +1,4 @@
 -- Alpha and shift stand after the padded bytes.
-use borrow.Author.Rules.{rules}
 use Rattle.bodies.proofs.float8.scale_of.Goals as goal
 
 pub returns : goal.returns

@@ -1,10 +1,6 @@
 -- The loop fills, byte by byte.
 use mathlib.Core.Path.{refl}
-use mathlib.Core.List.{[], ◌∷◌}
-use Prim.Native.Nat.{◌-◌}
-use borrow.Author.Rules.{rules}
-use Rattle.convert_parts.specs.Pieces.{pieces}
-use Rattle.convert_parts.proofs.Pieces.{FilledSoFar, fill_none, fill-byte, fill-all, pieces-zeros}
+use Rattle.convert_parts.proofs.Pieces.{fill_none, fill-byte, fill-all, pieces-zeros}
 use Rattle.convert_parts.proofs.filling.put_zeros.Goals as goal
 
 pub loop-i-init : goal.loop-i-init

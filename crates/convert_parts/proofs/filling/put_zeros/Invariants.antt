@@ -1,10 +1,8 @@
 -- The loop fills, byte by byte.
-use mathlib.Core.Path.{refl}
 use mathlib.Core.List.{[], ◌∷◌}
 use Prim.Native.Nat.{◌-◌}
-use borrow.Author.Rules.{rules}
 use Rattle.convert_parts.specs.Pieces.{pieces}
-use Rattle.convert_parts.proofs.Pieces.{FilledSoFar, fill_none, fill-byte, fill-all, pieces-zeros}
+use Rattle.convert_parts.proofs.Pieces.{FilledSoFar}
 use Rattle.convert_parts.proofs.filling.put_zeros.Given as goal
 
 abbrev pub invariant-loop-i : goal.invariant-loop-i

@@ -1,6 +1,5 @@
 -- Three parts written one after another (`end-put`).
 use native.Mathlib.Omega.{arith}
-use borrow.Author.Rules.{rules}
 use Rattle.convert_parts.proofs.RangeSoFar.{end-put}
 use Rattle.convert_parts.proofs.quantized.put_end.Goals as goal
 

@@ -1,11 +1,11 @@
 -- The count is the tally of the bytes before, which a turn takes by eight and then by one.
-use Prim.Native.Nat.{◌*◌, ◌-◌, ◌/◌, ◌≤◌}
+use Prim.Native.Nat.{◌/◌}
 use mathlib.Core.Path.{◌≡◌}
 use native.Mathlib.Omega.{arith}
 use lib.Bits.{differ}
 use lib.ListN.{length}
 use Rattle.distance_sums.specs.OneBit.{differing}
-use Rattle.distance_sums.proofs.Counts.{Counted, counted_none, counted-le, counted-byte, counted-word, xor-digits}
+use Rattle.distance_sums.proofs.Counts.{counted_none, counted-le, counted-byte, counted-word, xor-digits}
 use Rattle.distance_sums.proofs.bits.differing.Goals as goal
 
 pub loop-k-init : goal.loop-k-init

@@ -1,11 +1,7 @@
 -- The count is the tally of the bytes before, which a turn takes by eight and then by one.
-use Prim.Native.Nat.{◌*◌, ◌-◌, ◌/◌, ◌≤◌}
-use mathlib.Core.Path.{◌≡◌}
-use native.Mathlib.Omega.{arith}
+use Prim.Native.Nat.{◌*◌, ◌-◌, ◌≤◌}
 use lib.Bits.{differ}
-use lib.ListN.{length}
-use Rattle.distance_sums.specs.OneBit.{differing}
-use Rattle.distance_sums.proofs.Counts.{Counted, counted_none, counted-le, counted-byte, counted-word, xor-digits}
+use Rattle.distance_sums.proofs.Counts.{Counted}
 use Rattle.distance_sums.proofs.bits.differing.Given as goal
 
 abbrev pub invariant-loop-k : goal.invariant-loop-k

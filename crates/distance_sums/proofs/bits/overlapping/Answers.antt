@@ -1,19 +1,18 @@
 -- Each count is the tally of the bytes before, which a turn takes by eight and then by one.
-use Prim.Native.Nat.{◌*◌, ◌-◌, ◌/◌, ◌≤◌, min, max}
+use Prim.Native.Nat.{◌/◌, min, max}
 use mathlib.Core.Path.{◌≡◌}
 use native.Mathlib.Omega.{arith}
 use lib.ListN.{length}
 use Rattle.distance_sums.specs.OneBit.{overlap_of}
-use Rattle.distance_sums.proofs.Counts.{Counted, counted_none, counted-le, counted-byte, counted-word, and-digits, or_digits}
+use Rattle.distance_sums.proofs.Counts.{counted_none, counted-le, counted-byte, counted-word, and-digits, or_digits}
 use Rattle.distance_sums.proofs.bits.overlapping.Goals as goal
 
 pub loop-k-init : goal.loop-k-init
-loop-k-init c =
-    (
-      omega arith,
-      counted_none min _ _ (λ k. (c.type_inv.a k).fits) (λ k. (c.type_inv.b k).fits),
-      counted_none max _ _ (λ k. (c.type_inv.a k).fits) (λ k. (c.type_inv.b k).fits),
-    )
+loop-k-init c = (
+  omega arith,
+  counted_none min _ _ (λ k. (c.type_inv.a k).fits) (λ k. (c.type_inv.b k).fits),
+  counted_none max _ _ (λ k. (c.type_inv.a k).fits) (λ k. (c.type_inv.b k).fits),
+)
 
 pub overflow_add-both : goal.overflow_add-both
 overflow_add-both c =

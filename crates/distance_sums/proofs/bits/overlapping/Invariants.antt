@@ -1,10 +1,6 @@
 -- Each count is the tally of the bytes before, which a turn takes by eight and then by one.
-use Prim.Native.Nat.{◌*◌, ◌-◌, ◌/◌, ◌≤◌, min, max}
-use mathlib.Core.Path.{◌≡◌}
-use native.Mathlib.Omega.{arith}
-use lib.ListN.{length}
-use Rattle.distance_sums.specs.OneBit.{overlap_of}
-use Rattle.distance_sums.proofs.Counts.{Counted, counted_none, counted-le, counted-byte, counted-word, and-digits, or_digits}
+use Prim.Native.Nat.{◌*◌, ◌-◌, ◌≤◌, min, max}
+use Rattle.distance_sums.proofs.Counts.{Counted}
 use Rattle.distance_sums.proofs.bits.overlapping.Given as goal
 
 abbrev pub invariant-loop-k : goal.invariant-loop-k

@@ -1,7 +1,6 @@
 -- By computation: the code has the terms in the definition's order.
 use mathlib.Core.Path.{refl}
 use lib.Ieee.{of_bits}
-use borrow.Author.Rules.{rules}
 use Rattle.distance_sums.specs.Float8.{scaled_norm}
 use Rattle.distance_sums.proofs.float8.norm_of.Goals as goal
 

@@ -1,9 +1,6 @@
 -- The loop adds one pair a turn, for which each sum has room.
 use Prim.Native.Nat.{◌-◌, ◌≤◌}
-use mathlib.Core.Path.{◌≡◌, sym}
-use native.Mathlib.Omega.{arith}
-use borrow.Author.Rules.{rules}
-use Rattle.distance_sums.proofs.Totalled.{Totalled, totalled_none, totalled_more}
+use Rattle.distance_sums.proofs.Totalled.{Totalled}
 use Rattle.distance_sums.proofs.float8.totals_of.Given as goal
 
 abbrev pub invariant-loop-i : goal.invariant-loop-i

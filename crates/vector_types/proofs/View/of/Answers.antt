@@ -1,5 +1,4 @@
 -- The readings are those that `readings_of` tells.
-use borrow.Author.Rules.{rules}
 use Rattle.vector_types.proofs.View.of.Goals as goal
 
 pub returns : goal.returns

@@ -1,5 +1,4 @@
 -- Kinds are the same where their type bytes are.
-use borrow.Author.Rules.{rules}
 use Rattle.vector_types.proofs.kinds.is_same_kind.Goals as goal
 
 pub returns : goal.returns

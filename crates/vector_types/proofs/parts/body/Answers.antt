@@ -4,7 +4,6 @@ use native.Mathlib.Omega.{arith}
 use lib.ListN.{length-take}
 use Rattle.vector_types.specs.Parts.{body_of}
 use Rattle.vector_types.proofs.Views.{view-facts}
-use borrow.Author.Rules.{rules}
 use Rattle.vector_types.proofs.parts.body.Goals as goal
 
 pub slice_bounds-result-end : goal.slice_bounds-result-end

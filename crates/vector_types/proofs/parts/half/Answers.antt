@@ -3,7 +3,6 @@ use mathlib.Core.Path.{sym, ap, ◌∙◌}
 use native.Mathlib.Omega.{arith}
 use Rattle.vector_types.specs.Parts.{shown_half}
 use Rattle.vector_types.proofs.Views.{half-within}
-use borrow.Author.Rules.{rules}
 use Rattle.vector_types.proofs.parts.half.Goals as goal
 
 pub returns-in-Accepted : goal.returns-in-Accepted

@@ -3,7 +3,6 @@ use mathlib.Core.Path.{◌≡◌}
 use Prim.Native.Nat.{◌+◌, ◌-◌}
 use native.Mathlib.Omega.{arith}
 use Rattle.vector_types.specs.Parts.{indices_of}
-use borrow.Author.Rules.{rules}
 use Rattle.vector_types.proofs.parts.indices.Goals as goal
 
 pub returns : goal.returns

@@ -3,7 +3,6 @@ use mathlib.Core.Path.{refl}
 use native.Mathlib.Omega.{arith}
 use lib.ListN.{length-take}
 use Rattle.vector_types.specs.Parts.{values_of}
-use borrow.Author.Rules.{rules}
 use Rattle.vector_types.proofs.parts.values.Goals as goal
 
 pub slice_bounds-result-end : goal.slice_bounds-result-end

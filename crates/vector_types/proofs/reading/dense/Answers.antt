@@ -1,7 +1,6 @@
 -- That the width divides n is asked of the remainder, by `divides`.
 use Prim.Native.Nat.{◌%◌}
 use borrow.Author.Tests.{eq-eqb, ne_eqb}
-use borrow.Author.Rules.{rules}
 use Rattle.vector_types.proofs.ByKind.{divides}
 use Rattle.vector_types.proofs.reading.dense.Goals as goal
 

@@ -1,12 +1,8 @@
 -- The loop searches by `Searched`, and stops at the first index that is not below dims.
 use mathlib.Core.Path.{sym, ◌∙◌, ap}
-use Prim.Native.Nat.{◌-◌}
 use lib.Dec.{leb}
 use borrow.Author.Tests.{le-leb, lt-leb}
-use Rattle.vector_types.specs.Layout.{is_outside}
-use Rattle.vector_types.proofs.Search.{Searched, search-start, search-hit, search-miss, search-end}
-use borrow.Author.Rules.{rules}
-use native.Mathlib.Omega.{arith}
+use Rattle.vector_types.proofs.Search.{search-start, search-hit, search-miss, search-end}
 use Rattle.vector_types.proofs.reading.first_index_outside.Goals as goal
 
 pub loop-j-init : goal.loop-j-init

@@ -1,5 +1,4 @@
 -- By kind: in a sparse body the first index that is not below dims is searched; another has none.
-use borrow.Author.Rules.{rules}
 use Rattle.vector_types.proofs.reading.first_outside.Goals as goal
 
 pub returns-in-Float32Sparse : goal.returns-in-Float32Sparse

@@ -7,7 +7,6 @@ use borrow.Author.Tests.{eq-eqb, ne_eqb, lt-ltb, le-ltb}
 use Rattle.vector_types.proofs.ByKind.{read-float8}
 use Rattle.vector_types.proofs.Ends.{named-typed}
 use Rattle.vector_types.specs.declared.VectorType.TheVariants.{Float8}
-use borrow.Author.Rules.{rules}
 use native.Mathlib.Omega.{arith}
 use Rattle.vector_types.proofs.reading.float8.Goals as goal
 

@@ -1,7 +1,6 @@
 -- By the length: Float32Dense, or what the last byte names.
 use mathlib.Core.Path.{sym, ◌∙◌}
 use Rattle.vector_types.proofs.Ends.{even-untyped, odd-last}
-use borrow.Author.Rules.{rules}
 use Rattle.vector_types.proofs.reading.named_kind.Goals as goal
 
 pub returns-then-length-eq0 : goal.returns-then-length-eq0

@@ -2,7 +2,6 @@
 use mathlib.Core.Path.{sym, ◌∙◌}
 use Rattle.vector_types.specs.declared.Mode.TheVariants.{Strict}
 use Rattle.vector_types.proofs.Modes.{refused-in-every-mode}
-use borrow.Author.Rules.{rules}
 use Rattle.vector_types.proofs.reading.read.Goals as goal
 
 pub check_strict-requires : goal.check_strict-requires

@@ -3,7 +3,6 @@ use mathlib.Core.Path.{sym, ap, ◌∙◌}
 use Rattle.vector_types.specs.declared.Named.TheVariants.{Kind}
 use Rattle.vector_types.proofs.ByKind.{read-dense32, read-dense64}
 use Rattle.vector_types.proofs.Ends.{before-type}
-use borrow.Author.Rules.{rules}
 use Rattle.vector_types.proofs.reading.read_as.Goals as goal
 
 pub sparse-requires : goal.sparse-requires

@@ -1,7 +1,6 @@
 -- By the length and by what the blob names to the laws of the kinds.
 use mathlib.Core.Path.{sym, ◌∙◌}
 use Rattle.vector_types.proofs.ByKind.{read-long, read-unsupported, read-unknown}
-use borrow.Author.Rules.{rules}
 use Rattle.vector_types.proofs.reading.read_by_row.Goals as goal
 
 pub returns-then-blob-gt-MAX_BLOB_LENGTH : goal.returns-then-blob-gt-MAX_BLOB_LENGTH

@@ -1,7 +1,6 @@
 -- A view, or refusal 9, by the one test.
 use mathlib.Core.Path.{ap}
 use borrow.Author.Tests.{lt-ltb, le-ltb}
-use borrow.Author.Rules.{rules}
 use Rattle.vector_types.specs.declared.ReadAnswer.TheVariants.{Accepted}
 use Rattle.vector_types.proofs.reading.show.Goals as goal
 

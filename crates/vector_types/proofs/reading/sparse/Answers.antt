@@ -5,7 +5,6 @@ use Rattle.vector_types.specs.Answers.{refused}
 use Rattle.vector_types.proofs.ByKind.{read-sparse}
 use Rattle.vector_types.proofs.Ends.{named-typed}
 use Rattle.vector_types.specs.declared.VectorType.TheVariants.{Float32Sparse}
-use borrow.Author.Rules.{rules}
 use native.Mathlib.Omega.{arith}
 use Rattle.vector_types.proofs.reading.sparse.Goals as goal
 

@@ -18,21 +18,24 @@ use Rattle.vector_types.specs.declared.Mode.TheVariants.{Plain, Strict}
 use Rattle.vector_types.proofs.Bodies.{entries-within}
 use Rattle.vector_types.proofs.Views.{view-facts}
 use Rattle.vector_types.proofs.Strict.{strict-sparse, strict-bits, strict-other}
-use borrow.Author.Rules.{rules}
 use Rattle.vector_types.proofs.strictness.check_strict.Goals as goal
 
 -- what the code takes from the view is what the definitions take from the blob
 module _ (s : List ℕ) (v : View) (e : read_of Plain s ≡ Accepted v) where
   count-by-length : v.kind ≡ Float32Sparse → entry_count s ≡ v.length / 8
   count-by-length h = omega (arith, (entries-within s v e h).0)
+
   length-by-dims : v.kind ≡ Float1Bit → v.length ≡ ceil v.dims.0 8
   unfolding body_fits
   length-by-dims h = eqb-true v.length (ceil v.dims.0 8) (rw h at (view-facts s v e).fit)
+
   bits-within : v.kind ≡ Float1Bit → ceil v.dims.0 8 ≤ length s
   bits-within h = omega (arith, length-by-dims h, (view-facts s v e).within)
+
   by_order : v.kind ≡ Float32Sparse → (b : Bool) (place : ℕ) → let count = v.length / 8 in
       place ≡ first_index (is_not_above_previous s count) count → ltb place count ≡ b → read_of Strict s ≡ cond b (refused (naming 10 place)) (Accepted v)
   by_order h b place p q = strict-sparse s v e h ∙ rw (count-by-length h, ← p, q)
+
   by_bits : v.kind ≡ Float1Bit → (b : Bool) → any_index (unused_set s v.dims.0) (8 * ceil v.dims.0 8 - v.dims.0) ≡ b
       → read_of Strict s ≡ cond b (refused (refusal 11)) (Accepted v)
   by_bits h b q =

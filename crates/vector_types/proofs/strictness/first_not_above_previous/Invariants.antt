@@ -1,15 +1,7 @@
 -- The loop searches by `Searched` from entry 1 on: at entry 0, where there is one, the test never holds.
-use mathlib.Core.Path.{◌≡◌, refl, ◌∙◌}
-use mathlib.Core.Bool.{Bool}
-use mathlib.Core.List.{List}
-use Prim.Native.Nat.{ℕ, zero, suc, ◌-◌, ◌<◌, ◌≤◌}
-use native.Mathlib.Omega.{arith}
-use lib.Dec.{leb}
-use borrow.Author.Tests.{le-leb, lt-leb}
-use Rattle.vector_types.specs.Search.{first_index}
-use Rattle.vector_types.specs.Layout.{index_at}
+use Prim.Native.Nat.{◌-◌, ◌<◌}
 use Rattle.vector_types.specs.Read.{is_not_above_previous}
-use Rattle.vector_types.proofs.Search.{Searched, search-start, search-hit, search-miss, search-end}
+use Rattle.vector_types.proofs.Search.{Searched}
 use Rattle.vector_types.proofs.strictness.first_not_above_previous.Given as goal
 
 abbrev pub invariant-loop-j : goal.invariant-loop-j

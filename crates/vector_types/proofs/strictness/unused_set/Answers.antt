@@ -1,7 +1,6 @@
 -- Nothing is unused where dims fill the last byte; else the shifted byte holds the unused bits.
 use Prim.Native.Nat.{◌/◌}
 use Rattle.vector_types.proofs.Unused.{none-unused, some-unused}
-use borrow.Author.Rules.{rules}
 use Rattle.vector_types.proofs.strictness.unused_set.Goals as goal
 
 pub returns-then-used-eq0 : goal.returns-then-used-eq0

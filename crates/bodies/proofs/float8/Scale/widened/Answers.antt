@@ -1,5 +1,4 @@
 -- Widening keeps both values.
-use borrow.Author.Rules.{rules}
 use Rattle.bodies.proofs.float8.Scale.widened.Goals as goal
 
 pub returns : goal.returns
