@@ -1,6 +1,5 @@
 -- `first_size` meets its contract, in each arm.
 use mathlib.Core.Path.{◌∙◌, sym, ap}
-use borrow.Author.Rules.{rules}
 use Rattle.vecs_lines.specs.Inner.Cut.{end_of}
 use Rattle.vecs_lines.proofs.first_size.Goals as goal
 

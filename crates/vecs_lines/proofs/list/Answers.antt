@@ -1,6 +1,6 @@
 -- `list` meets its contract. The loop's invariant: the vectors up to `at` are listed, and `size` bytes are the next one.
 use mathlib.Core.Path.{◌≡◌, refl, ◌∙◌, ap}
-use mathlib.Core.Logic.{⊎_elim, inl, inr}
+use mathlib.Core.Logic.{inl, inr}
 use mathlib.Core.List.{List}
 use Prim.Native.Nat.{ℕ, ◌+◌, ◌-◌, ◌≤◌}
 use native.Mathlib.Omega.{arith}
@@ -13,15 +13,14 @@ use Rattle.vecs_lines.specs.Inner.Rooms.{vector_line_room}
 use Rattle.vecs_lines.specs.Inner.Cut.{first_size}
 use Rattle.vecs_lines.proofs.Cutting.{FirstVector, first-vector}
 use Rattle.vecs_lines.proofs.Listing.{VectorsListed, none-listed, ListedBounds, listed-bounds, next-within, next-listed, lists-stopped}
-use borrow.Author.Rules.{rules}
 use Rattle.vecs_lines.proofs.list.Goals as goal
-use Rattle.vecs_lines.proofs.list.Goals.{After-put_line-filled, At-loop-size, Then-out-filled-ge-VECTOR_LINE}
+use Rattle.vecs_lines.proofs.list.Goals.{then-loop-size-test+else-out-filled-ge-VECTOR_LINE, else-loop-size-test, After-put_line-filled, At-loop-size, Then-out-filled-ge-VECTOR_LINE}
 
 bounds : (c : At-loop-size) → let a = c.args in let l = c.loop-size in ListedBounds a.text.now a.before a.out.now l.at l.number l.filled
 bounds c = listed-bounds c.loop-size.invariant.0 c.loop-size.invariant.2
 
 fits : (c : At-loop-size) → c.loop-size.filled ≤ length c.loop-size.out
-fits c = omega (arith, (bounds c).ranges, c.loop-size.invariant.2)
+fits c = omega (arith, (bounds c).fits, c.loop-size.invariant.2)
 
 room : (c : Then-out-filled-ge-VECTOR_LINE) → vector_line_room ≤ length c.loop-size.out - c.loop-size.filled
 room c = omega (arith, leb-true, c.if-out-filled-ge-VECTOR_LINE.true)
@@ -31,9 +30,7 @@ first : (c : Then-out-filled-ge-VECTOR_LINE) → FirstVector (drop c.loop-size.a
 first c = first-vector _ (omega (arith, c.loop-size-test.true, c.loop-size.invariant.1))
 
 within : (c : Then-out-filled-ge-VECTOR_LINE) → c.loop-size.at + c.loop-size.size ≤ length c.args.text.now
-within c = 
-    let bounds : let a = c.args in let l = c.loop-size in ListedBounds a.text.now a.before a.out.now l.at l.number l.filled = listed-bounds c.loop-size.invariant.0 c.loop-size.invariant.2 in
-    next-within _ _ _ c.loop-size.invariant.1 c.loop-size-test.true (bounds).within
+within c = next-within _ _ _ c.loop-size.invariant.1 c.loop-size-test.true (listed-bounds c.loop-size.invariant.0 c.loop-size.invariant.2).within
 
 -- what out is after the line, and the vectors that are listed then
 abbrev after : (c : After-put_line-filled) → List ℕ
@@ -46,11 +43,11 @@ long c =
 
 next : (c : After-put_line-filled) → let a = c.args in let l = c.loop-size in
     VectorsListed a.text.now a.before a.out.now (after c) (l.at + l.size) (l.number + 1) (l.filled + c.put_line-filled.result)
-next c = 
+next c =
     let room : vector_line_room ≤ length c.loop-size.out - c.loop-size.filled = omega (arith, leb-true, c.if-out-filled-ge-VECTOR_LINE.true) in
     let l = c.loop-size in
     let part : l.at + l.size - l.at ≡ l.size = omega arith in
-    next-listed _ _ _ l.invariant.1 l.invariant.0 c.loop-size-test.true l.invariant.2 (room) (rw part at c.put_line-filled.ensures)
+    next-listed _ _ _ l.invariant.1 l.invariant.0 c.loop-size-test.true l.invariant.2 room (rw part at c.put_line-filled.ensures)
 
 pub loop-size-init : goal.loop-size-init
 loop-size-init c = (none-listed _ _ _, c.first_size-size.ensures, refl)
@@ -59,7 +56,7 @@ pub overflow_add-number : goal.overflow_add-number
 overflow_add-number c = omega (arith, (bounds (goal.at.overflow_add-number c).At-loop-size).numbered, within c, c.requires, c.loop-size-test.true)
 
 pub overflow_add-next : goal.overflow_add-next
-overflow_add-next c = omega (arith, within c, c.good)
+overflow_add-next c = omega (arith, within c, c.ranges, c.well_formed)
 
 pub put_line-filled-requires : goal.put_line-filled-requires
 put_line-filled-requires c =
@@ -72,7 +69,7 @@ put_line-filled-requires c =
     record { in_bounds = omega (arith, v.size, l.invariant.1); vector_len_bound = omega (arith, v.size, v.few, l.invariant.1); vector_line_room_in_bounds = omega (arith, room (goal.at.put_line-filled-requires c).Then-out-filled-ge-VECTOR_LINE, length-drop l.filled l.out) }
 
 pub overflow_add-filled : goal.overflow_add-filled
-overflow_add-filled c = omega (arith, (listed-bounds (next (goal.at.overflow_add-filled c).After-put_line-filled) (long (goal.at.overflow_add-filled c).After-put_line-filled)).fits, c.good)
+overflow_add-filled c = omega (arith, (listed-bounds (next (goal.at.overflow_add-filled c).After-put_line-filled) (long (goal.at.overflow_add-filled c).After-put_line-filled)).fits, c.ranges, c.well_formed)
 
 pub loop-size-smaller : goal.loop-size-smaller
 loop-size-smaller c = omega (arith, within (goal.at.loop-size-smaller c).Then-out-filled-ge-VECTOR_LINE, c.loop-size-test.true)
@@ -86,7 +83,10 @@ loop-size-preserved c =
 pub returns : goal.returns
 returns c =
     let inv = c.loop-size.invariant in
-    lists-stopped _ _ _ inv.1 inv.0 (⊎_elim (λ w. inr (omega (arith, leb-false, w.1.left, inv.2))) (λ w. inl (omega (arith, w.left))) c.loop-size-test.branch)
+    lists-stopped _ _ _ inv.1 inv.0 (elim c.loop-size-test.branch [
+      | then-loop-size-test+else-out-filled-ge-VECTOR_LINE w ↦ inr (omega (arith, leb-false, w.if-out-filled-ge-VECTOR_LINE.false, inv.2))
+      | else-loop-size-test w ↦ inl (omega (arith, w.loop-size-test.false))
+    ])
 
 pub overflow_sub-out : goal.overflow_sub-out
 overflow_sub-out c = fits (goal.at.overflow_sub-out c).At-loop-size

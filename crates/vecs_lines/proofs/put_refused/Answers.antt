@@ -3,7 +3,6 @@ use mathlib.Core.Path.{sym, ap, ◌∙◌}
 use Rattle.promises.proofs.Puts.{puts-same, puts_none}
 use Rattle.vecs.specs.declared.VecsAnswer.{VecsAnswer}
 use Rattle.vecs_lines.specs.Inner.Cut.{answer_at, told_line}
-use borrow.Author.Rules.{rules}
 use Rattle.vecs_lines.proofs.put_refused.Goals as goal
 
 pub returns-in-Vector : goal.returns-in-Vector

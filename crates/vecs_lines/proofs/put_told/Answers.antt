@@ -2,8 +2,6 @@
 use mathlib.Core.Path.{refl, sym}
 use Rattle.promises.proofs.Puts.{puts-same, puts_none}
 use Rattle.vecs_lines.proofs.Telling.{told-place, told-later, told-as-is}
-use borrow.Author.Rules.{rules}
-use borrow.Author.Tests.{not-true, not-false}
 use Rattle.vecs_lines.proofs.put_told.Goals as goal
 
 pub returns-then-not-last : goal.returns-then-not-last

@@ -1,9 +1,6 @@
 -- `put_whole` meets its contract: mark, dims and elements are put one after another.
-use mathlib.Core.Path.{refl}
 use Rattle.promises.proofs.Onto.{tail-lent}
-use Rattle.promises.proofs.Puts.{puts-same, puts-copy, puts_then}
-use Rattle.lines.specs.Text.{word}
-use borrow.Author.Rules.{rules}
+use Rattle.promises.proofs.Puts.{puts-same, puts_then}
 use Rattle.vecs_lines.proofs.put_whole.Goals as goal
 
 pub returns : goal.returns
