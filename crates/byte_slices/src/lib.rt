@@ -11,7 +11,11 @@ pub fn copy(bytes: &[u8], out: &mut [u8]) -> usize
     ensures { Puts bytes.now out.old result out.new }
 {
     let n = bytes.len();
-    out[..n].copy_from_slice(bytes);
+    let mut i = 0;
+    while i < n {
+        out[i] = bytes[i];
+        i += 1;
+    }
     n
 }
 
