@@ -8,7 +8,6 @@ use Rattle.lines.proofs.Digits.{pattern-below}
 use Rattle.promises.proofs.Puts.{puts-same}
 use Rattle.probe_floats.specs.Floats.{work_of, float_text, float_found_text, float_reply}
 use Rattle.probe_floats.proofs.Fields.{wide}
-use borrow.Author.Rules.{rules}
 use Rattle.probe_floats.proofs.float_line.Goals as goal
 use Rattle.probe_floats.proofs.float_line.Goals.{After-pattern-found, In-Number}
 
@@ -21,7 +20,7 @@ asked c = c.pattern-found.ensures ∙ ap (λ (k : ℕ). pattern_of k c.args.fiel
 
 read : (c : In-Number) → let a = c.args in
     pattern_of (work_of a.work).takes a.field.now ≡ Number c.in-Number.n
-read c = 
+read c =
     let asked : let a = c.args in c.pattern-found.result ≡ pattern_of (work_of a.work).takes a.field.now = c.pattern-found.ensures ∙ ap (λ (k : ℕ). pattern_of k c.args.field.now) c.widths-w.ensures.0 in
     sym (asked) ∙ c.in-Number.is
 

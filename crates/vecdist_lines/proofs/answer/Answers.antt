@@ -14,7 +14,6 @@ use Rattle.lines.proofs.Fields.{after_field, fields-few, fields-first, fields-la
 use Rattle.vecdist_lines.specs.Line.{asked_of, distance_found_reply, distance_reply, vecdist_reply}
 use Rattle.vecdist_lines.specs.declared.Asked.{Asked}
 use Rattle.vecdist_lines.specs.declared.Asked.TheVariants.{Known, Unknown}
-use borrow.Author.Rules.{rules}
 use Rattle.vecdist_lines.proofs.answer.Goals as goal
 use Rattle.vecdist_lines.proofs.answer.Goals.{After-field_end-stop}
 

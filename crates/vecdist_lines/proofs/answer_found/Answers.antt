@@ -11,33 +11,32 @@ use Rattle.lines.specs.Hex.{hex_bytes}
 use Rattle.lines.specs.Fields.{from_hex}
 use Rattle.lines.proofs.Fields.{append-parts, from-hex-part, from-hex-whole}
 use Rattle.distance.specs.Answer.{distance_of}
+use Rattle.distance.specs.declared.Distance.{Distance}
 use Rattle.vecdist_lines.specs.declared.Asked.{Asked}
+use Rattle.vecdist_lines.specs.declared.Asked.TheVariants.{Known}
 use Rattle.vecdist_lines.specs.Line.{distance_text, distance_found_reply}
-use borrow.Author.Rules.{rules}
 use Rattle.vecdist_lines.proofs.answer_found.Goals as goal
-use Rattle.vecdist_lines.proofs.answer_found.Goals.{Else-m-first, Else-n-second, In-Known}
+use Rattle.vecdist_lines.proofs.answer_found.Goals.{Else-m-first, Else-n-second}
 
 pub returns-in_default : goal.returns-in_default
 returns-in_default c = rw c.in_default.is c.put_malformed.ensures
 
-abbrev text : In-Known → List ℕ → List ℕ → List ℕ
-text c a b = distance_text (distance_of c.in-Known.distance a b)
+-- what is put for the blobs, where D is known
+abbrev text : Distance → List ℕ → List ℕ → List ℕ
+text d a b = distance_text (distance_of d a b)
 
-by-asked : (c : In-Known) → from_hex (λ a. from_hex (text c a) c.args.second.now) c.args.first.now ≡ distance_found_reply c.args.asked c.args.first.now c.args.second.now
-by-asked c = ap (λ (x : Asked). distance_found_reply x c.args.first.now c.args.second.now) (sym c.in-Known.is)
+by-asked : {asked : Asked} {d : Distance} (first second : List ℕ) → asked ≡ Known d → from_hex (λ a. from_hex (text d a) second) first ≡ distance_found_reply asked first second
+by-asked first second is = ap (λ (x : Asked). distance_found_reply x first second) (sym is)
 
 pub returns-then-m-first : goal.returns-then-m-first
 returns-then-m-first c =
     let e = from-hex-part _ _ c.bytes-m.result c.bytes-m.ensures.puts.size c.if-m-first.true in
-    puts-same (e ∙ by-asked (goal.at.returns-then-m-first c).In-Known) c.put_malformed-then-m-first.ensures
+    puts-same (e ∙ by-asked _ _ c.in-Known.is) c.put_malformed-then-m-first.ensures
 
 -- where the first field is a blob
-by_first : (c : Else-m-first) (x : List ℕ) → x ≡ from_hex (text (hex_bytes c.args.first.now)) c.args.second.now
+by_first : (c : Else-m-first) (x : List ℕ) → x ≡ from_hex (text c.in-Known.distance (hex_bytes c.args.first.now)) c.args.second.now
     → x ≡ distance_found_reply c.args.asked c.args.first.now c.args.second.now
-by_first c x e = 
-    let by-asked : from_hex (λ a. from_hex (text c a) c.args.second.now) c.args.first.now ≡ distance_found_reply c.args.asked c.args.first.now c.args.second.now = ap (λ (x : Asked). distance_found_reply x c.args.first.now c.args.second.now) (sym c.in-Known.is) in
-    let text : List ℕ → List ℕ → List ℕ = λ a. λ b. distance_text (distance_of c.in-Known.distance a b) in
-    e ∙ from-hex-whole _ _ c.bytes-m.result c.bytes-m.ensures.puts.size c.if-m-first.false ∙ by-asked
+by_first c x e = e ∙ from-hex-whole _ _ c.bytes-m.result c.bytes-m.ensures.puts.size c.if-m-first.false ∙ by-asked _ _ c.in-Known.is
 
 pub returns-then-n-second : goal.returns-then-n-second
 returns-then-n-second c =
@@ -47,7 +46,7 @@ returns-then-n-second c =
 -- the blobs, one after the other
 abbrev blobs : Else-n-second → List ℕ
 blobs c =
-    let o = c.bytes-m.last.1.0 in
+    let o = c.bytes-m.new.out in
     take (c.bytes-m.result + c.bytes-n.result) (put_mid c.bytes-m.result (length o - c.bytes-m.result) o c.bytes-n.new.out)
 
 both : (c : Else-n-second) → blobs c ≡ hex_bytes c.args.first.now ++ hex_bytes c.args.second.now
@@ -71,6 +70,6 @@ slice_bounds-vector_distance-start c = omega (arith, size c)
 pub returns : goal.returns
 returns c =
     let parts = append-parts (both (goal.at.returns c).Else-n-second) c.bytes-m.ensures.puts.size in
-    let put = ap distance_text c.vector_distance.ensures ∙ ap₂ (text (goal.at.returns c).In-Known) parts.0 parts.1 in
+    let put = ap distance_text c.vector_distance.ensures ∙ ap₂ (text c.in-Known.distance) parts.0 parts.1 in
     let x = put ∙ from-hex-whole _ _ c.bytes-n.result c.bytes-n.ensures.puts.size c.if-n-second.false in
     puts-same (by_first (goal.at.returns c).Else-m-first _ x) c.put_answer.ensures

@@ -1,13 +1,11 @@
 -- `asked_of` meets its contract: the distance that the field names is in the row of the table at its place among the words.
 use mathlib.Core.Path.{◌≡◌}
-use mathlib.Core.List.{List}
 use Prim.Native.Nat.{ℕ}
 use Rattle.lines.specs.Parts.{parts_of}
 use Rattle.lines.specs.Inner.Words.{row_at}
 use Rattle.lines.proofs.Words.{NoneBelow, row-at, row-missed}
 use Rattle.vecdist_lines.specs.Line.{distance_words, asked_of}
 use Rattle.vecdist_lines.specs.declared.Asked.TheVariants.{Unknown}
-use borrow.Author.Rules.{rules}
 use Rattle.vecdist_lines.proofs.asked_of.Goals as goal
 use Rattle.vecdist_lines.proofs.asked_of.Goals.{After-word_place}
 

@@ -6,7 +6,6 @@ use Rattle.distance.specs.declared.Which.{Which}
 use Rattle.distance.specs.declared.DistanceAnswer.{DistanceAnswer}
 use Rattle.distance.specs.declared.DistanceAnswer.TheVariants.{Refused}
 use Rattle.vecdist_lines.specs.Line.{named_refusal_text, which_name, distance_text}
-use borrow.Author.Rules.{rules}
 use Rattle.vecdist_lines.proofs.put_answer.Goals as goal
 
 pub returns-in-Measured : goal.returns-in-Measured

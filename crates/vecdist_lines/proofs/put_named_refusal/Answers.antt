@@ -1,8 +1,5 @@
 -- `put_named_refusal` meets its contract: the number, the name and what the refusal carries are put after R and a tab.
-use mathlib.Core.Path.{refl}
-use Rattle.lines.specs.Text.{word}
-use Rattle.promises.proofs.Puts.{puts-copy, puts_then}
-use borrow.Author.Rules.{rules}
+use Rattle.promises.proofs.Puts.{puts_then}
 use Rattle.vecdist_lines.proofs.put_named_refusal.Goals as goal
 
 pub returns : goal.returns

@@ -1,10 +1,9 @@
 -- `put_value` meets its contract: the digits of the pattern are written after the mark.
-use mathlib.Core.Path.{refl, ap}
+use mathlib.Core.Path.{ap}
 use mathlib.Core.List.{◌++◌}
 use Prim.Native.Nat.{ℕ}
 use Rattle.io.specs.Digits.{last_digits}
-use Rattle.promises.proofs.Puts.{puts-same, puts-copy, puts_then}
-use borrow.Author.Rules.{rules}
+use Rattle.promises.proofs.Puts.{puts-same, puts_then}
 use native.Mathlib.Omega.{arith}
 use Rattle.vecdist_lines.proofs.put_value.Goals as goal
 
