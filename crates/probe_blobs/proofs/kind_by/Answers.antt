@@ -3,13 +3,12 @@ use native.Mathlib.Omega.{arith}
 use borrow.Author.Rules.{rules}
 use borrow.Author.Tests.{ne_eqb}
 use Rattle.vector_types.specs.Layout.{by_byte}
-use Rattle.probe_blobs.proofs.kind_by.Statement.{statement}
-use Rattle.probe_blobs.proofs.kind_by.Tie as tie
+use Rattle.probe_blobs.proofs.kind_by.Goals as goal
 
-returns : tie.Need-returns
+pub returns-then-number-gt255 : goal.returns-then-number-gt255
 unfolding by_byte
-returns c =
-    let n = c.before.args.number in
+returns-then-number-gt255 c =
+    let n = c.args.number in
     simp (
       ne_eqb n 1 (λ e. omega arith),
       ne_eqb n 2 (λ e. omega arith),
@@ -19,6 +18,3 @@ returns c =
       ne_eqb n 5 (λ e. omega arith),
       ne_eqb n 6 (λ e. omega arith),
     )
-
-pub kind-by-spec : {M : Type 1} → statement M
-kind-by-spec = tie.close (tie.spec returns (λ c. search rules) (λ c κs. search rules) (λ c. search rules))
