@@ -4,11 +4,7 @@ use Prim.Native.Nat.{ℕ}
 use lib.ListN.{length-replicate}
 use Rattle.line_stream.specs.Inner.Rooms.{input_room}
 use Rattle.probe_lines.specs.Limits.{vecprobe_limit}
-use Rattle.vecprobe.proofs.input_room.Statement.{statement}
-use Rattle.vecprobe.proofs.input_room.Tie as tie
+use Rattle.vecprobe.proofs.input_room.Goals as goal
 
-returns : tie.Need-returns
+pub returns : goal.returns
 returns c = sym (length-replicate {0} {A = ℕ} (input_room vecprobe_limit) 0)
-
-pub input-room-spec : {M : Type 1} → statement M
-input-room-spec = tie.close (tie.spec returns)

@@ -3,11 +3,7 @@ use mathlib.Core.Path.{sym}
 use Prim.Native.Nat.{ℕ}
 use lib.ListN.{length-replicate}
 use Rattle.probe_lines.specs.Limits.{decoded_room}
-use Rattle.vecprobe.proofs.decoded_room.Statement.{statement}
-use Rattle.vecprobe.proofs.decoded_room.Tie as tie
+use Rattle.vecprobe.proofs.decoded_room.Goals as goal
 
-returns : tie.Need-returns
+pub returns : goal.returns
 returns c = sym (length-replicate {0} {A = ℕ} decoded_room 0)
-
-pub decoded-room-spec : {M : Type 1} → statement M
-decoded-room-spec = tie.close (tie.spec returns)

@@ -3,11 +3,7 @@ use mathlib.Core.Path.{sym}
 use Prim.Native.Nat.{ℕ}
 use lib.ListN.{length-replicate}
 use Rattle.probe_blobs.specs.Limits.{blob_room}
-use Rattle.vecprobe.proofs.blob_room.Statement.{statement}
-use Rattle.vecprobe.proofs.blob_room.Tie as tie
+use Rattle.vecprobe.proofs.blob_room.Goals as goal
 
-returns : tie.Need-returns
+pub returns : goal.returns
 returns c = sym (length-replicate {0} {A = ℕ} blob_room 0)
-
-pub blob-room-spec : {M : Type 1} → statement M
-blob-room-spec = tie.close (tie.spec returns)

@@ -3,11 +3,7 @@ use mathlib.Core.Path.{sym}
 use Prim.Native.Nat.{ℕ}
 use lib.ListN.{length-replicate}
 use Rattle.vecprobe.specs.Inner.Rooms.{output_room}
-use Rattle.vecprobe.proofs.output_room.Statement.{statement}
-use Rattle.vecprobe.proofs.output_room.Tie as tie
+use Rattle.vecprobe.proofs.output_room.Goals as goal
 
-returns : tie.Need-returns
+pub returns : goal.returns
 returns c = sym (length-replicate {0} {A = ℕ} output_room 0)
-
-pub output-room-spec : {M : Type 1} → statement M
-output-room-spec = tie.close (tie.spec returns)
