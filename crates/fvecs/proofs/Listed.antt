@@ -1,7 +1,7 @@
 -- What fvecs prints from a place on, with no bound: nothing at the end of the file, the refusal's line on a refusal, else the vector's line and what is printed from its next place on.
 use mathlib.Core.Path.{◌≡◌, refl, sym, ap, ◌∙◌}
 use mathlib.Core.List.{List, [], ◌++◌}
-use Prim.Native.Nat.{ℕ, zero, suc, ◌+◌, ◌-◌, ◌≤◌}
+use Prim.Native.Nat.{ℕ, zero, suc, ◌+◌, ◌≤◌}
 use native.Mathlib.Omega.{arith}
 use Rattle.lines.specs.Printed.{numbered_reply}
 use Rattle.vecs.specs.Vecs.{bytes_left, vector_at, elements_at}

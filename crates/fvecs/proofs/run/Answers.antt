@@ -39,7 +39,7 @@ pub overflow_add-place : goal.overflow_add-place
 overflow_add-place g c = omega (arith, (ready g (goal.at.overflow_add-place g c).After-next_piece-piece).0, c.in_ok-listed.ensures.at_in_bounds)
 
 pub loop-more-smaller : goal.loop-more-smaller
-loop-more-smaller g c = rw c.loop-more-test.true (left-fewer c.next_piece-piece.ensures c.in_ok-listed.listed.more)
+loop-more-smaller g c = rw c.loop-more-test.true (left-fewer c.next_piece-piece.ensures (c.next_piece-piece.result.more && c.in_ok-listed.listed.more) (λ on. (goes_on _ _ on).0))
 
 pub loop-more-preserved : goal.loop-more-preserved
 loop-more-preserved g c =
