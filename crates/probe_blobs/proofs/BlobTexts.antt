@@ -1,13 +1,10 @@
 -- Laws of the replies that show a vector: what a view and a converted body measure, and the fields of a line.
 use mathlib.Core.Path.{◌≡◌, refl}
-use mathlib.Core.List.{List, [], ◌∷◌}
-use mathlib.Core.Logic.{inl, inr}
+use mathlib.Core.List.{List}
 use Prim.Native.Nat.{ℕ, ◌<◌, ◌≤◌}
 use native.Mathlib.Omega.{arith}
 use lib.ListN.{length, take, drop}
 use lib.Seq.{take_at}
-use denote.Enum.Declared.{tag_of}
-use types.Run.{OneOf}
 use Rattle.promises.specs.Onto.{onto}
 use Rattle.byte_slices.specs.Bytes.{index_of}
 use Rattle.lines.specs.Text.{tab}
@@ -23,7 +20,6 @@ use Rattle.vector_types.specs.declared.ReadAnswer.TheVariants.{Accepted}
 use Rattle.convert.specs.Convert.{conversion_of}
 use Rattle.convert.specs.declared.ConvertAnswer.TheVariants.{Converted}
 use Rattle.convert.proofs.Answered.{conversion-fits}
-use Rattle.vector_types.specs.contracts.Named.{the_type}
 use Rattle.vector_types.proofs.Views.{view-facts}
 use Rattle.vector_types.proofs.Modes.{shown-plainly}
 use Rattle.lines.specs.Fields.{exactly, malformed}
@@ -58,7 +54,7 @@ unfolding convert_reply
 convert-fields s end e less = fields-last-two convert_reply s end e less (convert-tab (kind_of (take end s)))
 
 -- ---- what is no kind is unsupported or unknown
-pub by-no-kind : {A : Type 0} (f : Named → A) (x : A) → f Unsupported ≡ x → f Unknown ≡ x → (n : Named) → OneOf (1 ∷ 2 ∷ []) (tag_of the_type n) → f n ≡ x
-by-no-kind f x p q (Kind k) h = absurd (elim h [ inl e ↦ omega arith | inr e ↦ omega arith ])
+pub by-no-kind : {A : Type 0} (f : Named → A) (x : A) → f Unsupported ≡ x → f Unknown ≡ x → (n : Named) → ((t : VectorType) → n ≡ Kind t → ⊥) → f n ≡ x
+by-no-kind f x p q (Kind k) h = absurd (h k refl)
 by-no-kind f x p q Unsupported h = p
 by-no-kind f x p q Unknown h = q

@@ -6,10 +6,14 @@ use Rattle.promises.proofs.Puts.{puts-same}
 use Rattle.lines.proofs.Fields.{from-hex-part, from-hex-put}
 use Rattle.probe_blobs.specs.Blobs.{convert_blob_text, convert_found_reply}
 use Rattle.probe_blobs.proofs.BlobTexts.{by-no-kind}
-use borrow.Author.Rules.{rules}
 use native.Mathlib.Omega.{arith}
 use Rattle.probe_blobs.proofs.convert_found.Goals as goal
 use Rattle.probe_blobs.proofs.convert_found.Goals.{In-Kind}
+
+pub returns-in_default : goal.returns-in_default
+returns-in_default c =
+    let a = c.args in
+    puts-same (sym (by-no-kind (λ n. convert_found_reply n a.field.now) malformed refl refl a.kind c.in_default.not-Kind)) c.put_malformed.ensures
 
 -- the reply where the kind is known
 known : (c : In-Kind) → let a = c.args in from_hex (convert_blob_text c.in-Kind.target) a.field.now ≡ convert_found_reply a.kind a.field.now

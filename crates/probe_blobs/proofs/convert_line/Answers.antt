@@ -10,7 +10,6 @@ use Rattle.lines.proofs.Fields.{fields-few, after_field}
 use Rattle.vector_types.specs.declared.Named.{Named}
 use Rattle.probe_blobs.specs.Blobs.{convert_found_reply, convert_reply}
 use Rattle.probe_blobs.proofs.BlobTexts.{convert-fields}
-use borrow.Author.Rules.{rules}
 use native.Mathlib.Omega.{arith}
 use Rattle.probe_blobs.proofs.convert_line.Goals as goal
 

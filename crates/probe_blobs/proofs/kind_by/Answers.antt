@@ -1,6 +1,5 @@
 -- `kind_by` meets its contract: a number above a byte names nothing.
 use native.Mathlib.Omega.{arith}
-use borrow.Author.Rules.{rules}
 use borrow.Author.Tests.{ne_eqb}
 use Rattle.vector_types.specs.Layout.{by_byte}
 use Rattle.probe_blobs.proofs.kind_by.Goals as goal

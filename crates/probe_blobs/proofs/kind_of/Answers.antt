@@ -1,7 +1,6 @@
 -- `kind_of` meets its contract: the number that the field is, if any, names a kind, if any.
 use mathlib.Core.Path.{sym, ap, ◌∙◌}
 use Rattle.probe_blobs.specs.Blobs.{kind_found, kind_of}
-use borrow.Author.Rules.{rules}
 use Rattle.probe_blobs.proofs.kind_of.Goals as goal
 
 pub returns-in-Number : goal.returns-in-Number

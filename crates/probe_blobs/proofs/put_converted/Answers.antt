@@ -11,7 +11,6 @@ use Rattle.convert.proofs.Answered.{convert-outcome-parts}
 use Rattle.promises.proofs.Puts.{puts-same}
 use Rattle.probe_blobs.specs.Blobs.{vector_text, convert_text, convert_blob_text}
 use Rattle.probe_blobs.proofs.BlobTexts.{converted-room}
-use borrow.Author.Rules.{rules}
 use native.Mathlib.Omega.{arith}
 use Rattle.probe_blobs.proofs.put_converted.Goals as goal
 use Rattle.probe_blobs.proofs.put_converted.Goals.{After-convert, In-Converted}
@@ -39,7 +38,7 @@ room c =
 pub put_vector-requires : goal.put_vector-requires
 put_vector-requires c =
     let size = (room (goal.at.put_vector-requires c).In-Converted).0 in
-    record { mark_len = refl; length_in_bounds = omega (arith, size, c.convert.auto.out); length_le_max_blob_length = omega (arith, size, c.requires.made_len); reply_room_in_bounds = c.requires.reply_room_in_bounds }
+    record { mark_len = refl; length_in_bounds = omega (arith, size, c.convert.auto.out); length_le_max_blob_length = omega (arith, size, c.requires); reply_room_in_bounds = omega (arith, c.requires) }
 
 pub returns-in-Converted : goal.returns-in-Converted
 unfolding convert_text

@@ -6,7 +6,6 @@ use Rattle.vector_types.specs.declared.ReadAnswer.TheVariants.{Accepted, Refused
 use Rattle.promises.proofs.Puts.{puts-same}
 use Rattle.probe_blobs.specs.Blobs.{read_text}
 use Rattle.probe_blobs.proofs.BlobTexts.{seen-within}
-use borrow.Author.Rules.{rules}
 use native.Mathlib.Omega.{arith}
 use Rattle.probe_blobs.proofs.put_read.Goals as goal
 use Rattle.probe_blobs.proofs.put_read.Goals.{In-Accepted, In-Refused}

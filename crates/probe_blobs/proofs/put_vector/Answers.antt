@@ -5,7 +5,6 @@ use lib.ListN.{length, take}
 use lib.Seq.{length-take-le}
 use Rattle.reply_texts.specs.Texts.{counted_text}
 use Rattle.promises.proofs.Puts.{puts-same}
-use borrow.Author.Rules.{rules}
 use native.Mathlib.Omega.{arith}
 use Rattle.probe_blobs.proofs.put_vector.Goals as goal
 use Rattle.probe_blobs.proofs.put_vector.Goals.{After-type_byte-byte}

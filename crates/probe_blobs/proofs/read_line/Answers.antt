@@ -4,7 +4,6 @@ use lib.Seq.{length-take-le}
 use Rattle.promises.proofs.Puts.{puts-same}
 use Rattle.lines.proofs.Fields.{from-hex-part, from-hex-put}
 use Rattle.probe_blobs.specs.Blobs.{read_blob_text, read_reply}
-use borrow.Author.Rules.{rules}
 use native.Mathlib.Omega.{arith}
 use Rattle.probe_blobs.proofs.read_line.Goals as goal
 

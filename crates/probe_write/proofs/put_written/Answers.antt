@@ -1,5 +1,5 @@
 -- `put_written` meets its contract: the blob is written after W and a tab, or the refusal is put.
-use mathlib.Core.Path.{◌≡◌, refl, sym, ap, ◌∙◌}
+use mathlib.Core.Path.{◌≡◌, sym, ap, ◌∙◌}
 use mathlib.Core.List.{List, ◌++◌}
 use Prim.Native.Nat.{ℕ, ◌≤◌}
 use lib.ListN.{length, take}
@@ -10,10 +10,9 @@ use Rattle.vector_types.specs.Layout.{max_blob_length}
 use Rattle.blob_writer.specs.Write.{blob_of, write_of, write_outcome}
 use Rattle.blob_writer.specs.declared.WriteAnswer.{WriteAnswer}
 use Rattle.blob_writer.proofs.Written.{write-outcome-parts}
-use Rattle.promises.proofs.Puts.{puts-same, puts-copy, puts_then}
+use Rattle.promises.proofs.Puts.{puts-same, puts_then}
 use Rattle.probe_write.specs.Write.{write_text, write_body_text}
 use Rattle.probe_write.proofs.WriteTexts.{written-room}
-use borrow.Author.Rules.{rules}
 use native.Mathlib.Omega.{arith}
 use Rattle.probe_write.proofs.put_written.Goals as goal
 use Rattle.probe_write.proofs.put_written.Goals.{After-write, In-Written}

@@ -6,10 +6,14 @@ use Rattle.promises.proofs.Puts.{puts-same}
 use Rattle.lines.proofs.Fields.{from-hex-part, from-hex-put}
 use Rattle.probe_write.specs.Write.{write_body_text, write_found_reply}
 use Rattle.probe_blobs.proofs.BlobTexts.{by-no-kind}
-use borrow.Author.Rules.{rules}
 use native.Mathlib.Omega.{arith}
 use Rattle.probe_write.proofs.write_found.Goals as goal
 use Rattle.probe_write.proofs.write_found.Goals.{In-Number}
+
+pub returns-in_default : goal.returns-in_default
+returns-in_default c =
+    let a = c.args in
+    puts-same (sym (by-no-kind (λ n. write_found_reply n a.number a.field.now) malformed refl refl a.kind c.in_default.not-Kind)) c.put_malformed.ensures
 
 pub returns-in_default-number : goal.returns-in_default-number
 returns-in_default-number c =

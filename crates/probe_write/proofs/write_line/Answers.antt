@@ -15,7 +15,6 @@ use Rattle.lines.proofs.Fields.{after_field, fields-few, fields-first}
 use Rattle.vector_types.specs.declared.Named.{Named}
 use Rattle.probe_write.specs.Write.{write_reply, write_found_reply}
 use Rattle.probe_write.proofs.WriteTexts.{write-fields}
-use borrow.Author.Rules.{rules}
 use native.Mathlib.Omega.{arith}
 use Rattle.probe_write.proofs.write_line.Goals as goal
 use Rattle.probe_write.proofs.write_line.Goals.{After-field_end-stop}

@@ -6,6 +6,7 @@ use Rattle.lines.specs.Inner.Words.{row_at}
 use Rattle.lines.proofs.Words.{NoneBelow, row-at, row-missed}
 use Rattle.vecdist_lines.specs.Line.{distance_words, asked_of}
 use Rattle.vecdist_lines.specs.declared.Asked.TheVariants.{Unknown}
+use borrow.Author.Rules.{rules}
 use Rattle.vecdist_lines.proofs.asked_of.Goals as goal
 use Rattle.vecdist_lines.proofs.asked_of.Goals.{After-word_place}
 
@@ -30,4 +31,4 @@ pub returns-in-3 : goal.returns-in-3
 returns-in-3 c = named (goal.at.returns-in-3 c).After-word_place 3 c.in-3.is
 
 pub returns-in_default : goal.returns-in_default
-returns-in_default c = unknown (goal.at.returns-in_default c).After-word_place c.in_default.in_default-own.rest
+returns-in_default c = unknown (goal.at.returns-in_default c).After-word_place (search rules)
