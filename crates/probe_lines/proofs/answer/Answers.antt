@@ -11,7 +11,6 @@ use Rattle.lines.proofs.Fields.{after_field}
 use Rattle.probe_verbs.specs.declared.Verb.{Verb}
 use Rattle.probe_lines.specs.Line.{verb_reply}
 use Rattle.probe_lines.proofs.Fields.{reply-few, reply-fields}
-use borrow.Author.Rules.{rules}
 use Rattle.probe_lines.proofs.answer.Goals as goal
 use Rattle.probe_lines.proofs.answer.Goals.{After-verb_of-verb}
 

@@ -9,7 +9,6 @@ use Rattle.probe_blobs.proofs.BlobTexts.{read-last}
 use Rattle.probe_verbs.specs.declared.Verb.{Verb}
 use Rattle.probe_verbs.specs.declared.Verb.TheVariants.{Root, Float, Read, Write, Convert, Near, File, Append, Other}
 use Rattle.probe_lines.specs.Line.{verb_reply}
-use borrow.Author.Rules.{rules}
 use Rattle.probe_lines.proofs.answer_to.Goals as goal
 
 -- the verb is v

@@ -1,6 +1,5 @@
 -- `answer` meets its contract, on either side of the limit.
 use borrow.Author.Tests.{lt-ltb, le-ltb}
-use borrow.Author.Rules.{rules}
 use Rattle.probe_replies.proofs.answer.Goals as goal
 
 pub returns-then-line-gt-LIMIT : goal.returns-then-line-gt-LIMIT

@@ -1,13 +1,11 @@
 -- `verb_of` meets its contract: what the word asks for is in the row of the table at its place among the words.
 use mathlib.Core.Path.{◌≡◌}
-use mathlib.Core.List.{List}
 use Prim.Native.Nat.{ℕ}
 use Rattle.lines.specs.Parts.{parts_of}
 use Rattle.lines.specs.Inner.Words.{row_at}
 use Rattle.lines.proofs.Words.{NoneBelow, row-at, row-missed}
 use Rattle.probe_verbs.specs.Verbs.{verb_words, verb_of}
 use Rattle.probe_verbs.specs.declared.Verb.TheVariants.{Other}
-use borrow.Author.Rules.{rules}
 use Rattle.probe_verbs.proofs.verb_of.Goals as goal
 use Rattle.probe_verbs.proofs.verb_of.Goals.{After-word_place}
 
