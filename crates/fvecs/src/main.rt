@@ -1,7 +1,7 @@
 // The vectors of an fvecs file, a line for each: reads standard input piece by piece, and writes the lines.
 #![tactic(auto)]
 
-ghost use Rattle.std.specs.Prelude.{◌≡◌, true, ◌+◌, ◌≤◌, ◌<◌, ◌^◌, length, IfOk};
+ghost use Rattle.std.specs.Prelude.{◌≡◌, true, ◌+◌, ◌≤◌, ◌<◌, ◌^◌, length, IfOk, OnErr};
 ghost use Rattle.vecs_lines.specs.Inner.Rooms.{longest_vector, vector_line_room};
 ghost use Rattle.fvecs.specs.Inner.Stream.{ListsAll, ListsOn};
 
@@ -49,6 +49,9 @@ fn list_all<W: Write>(
     requires vector_line_room_in_bounds { vector_line_room ≤ length out.old }
     ensures lists_all { IfOk result (ListsAll text.now before) }
     ensures at_in_bounds { IfOk result (λ r. r.at ≤ length text.now) }
+
+    // Where writing fails, the room holds anything of its length.
+    ensures failed { OnErr result (length out.new ≡ length out.old) }
 {
     let mut at = 0;
     let mut number = before;
@@ -83,6 +86,9 @@ fn list_text<W: Write>(
     requires vector_line_room_in_bounds { vector_line_room ≤ length out.old }
     ensures lists_on { IfOk result (λ r. r.more ≡ true → ListsOn last text.now place before r) }
     ensures at_in_bounds { IfOk result (λ r. r.at ≤ length text.now) }
+
+    // Where writing fails, the room holds anything of its length.
+    ensures failed { OnErr result (length out.new ≡ length out.old) }
 {
     let listed = list_all(text, before, out, stdout)?;
     let at = listed.at;
@@ -106,6 +112,9 @@ fn run<R: Read, W: Write>(
 ) -> io::Result<bool>
     requires input_len { length input.old ≡ longest_vector + 65536 }
     requires vector_line_room_in_bounds { vector_line_room ≤ length out.old }
+
+    // Where writing fails, the rooms hold anything of their length.
+    ensures { OnErr result ((length input.new ≡ length input.old) × (length out.new ≡ length out.old)) }
 {
     let mut at = 0;
     let mut end = 0;

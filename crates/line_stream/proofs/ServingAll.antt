@@ -46,6 +46,11 @@ pub goes_on : (more other : Bool) → more && other ≡ true → (more ≡ true)
 goes_on true other e = (refl, e)
 goes_on false other e = absurd (false≢true e)
 
+-- where it stops though the second holds, the first does not
+pub stopped : (more written : Bool) → more && written ≡ false → written ≡ true → more ≡ false
+stopped true written e w = absurd (false≢true (sym e ∙ w))
+stopped false written e w = refl
+
 -- a loop that goes on while there is more ends: a turn passes bytes, or it is the last
 pub turn-shorter : (size at passed : ℕ) (more : Bool) → (more ≡ true → 0 < passed) → at + passed ≤ size → size - (at + passed) + cond more 1 0 < size - at + 1
 turn-shorter size at passed true some le = omega (arith, some refl)

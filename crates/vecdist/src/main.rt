@@ -3,7 +3,7 @@
 
 mod serving;
 
-ghost use Rattle.std.specs.Prelude.{◌≡◌, ◌*◌, ◌/◌, ◌≤◌, length, IfOk};
+ghost use Rattle.std.specs.Prelude.{◌≡◌, ◌*◌, ◌/◌, ◌≤◌, length, IfOk, OnErr};
 ghost use Rattle.line_stream.specs.Inner.Rooms.{numbered_room, input_room};
 ghost use Rattle.line_stream.specs.Inner.Serving.{TextReady, ServesAll};
 ghost use Rattle.vecdist_lines.specs.Limits.{vecdist_limit, vecdist_room};
@@ -56,7 +56,10 @@ fn serve_all<W: Write>(
     requires text_ready { TextReady text.now held }
     requires vecdist_limit_bound { vecdist_limit ≤ 2 * length decoded.old }
     requires vecdist_room_in_bounds { numbered_room vecdist_room ≤ length out.old }
-    ensures { IfOk result (ServesAll text.now held.before) }
+    ensures served { IfOk result (ServesAll text.now held.before) }
+
+    // Where writing fails, the rooms hold anything of their length.
+    ensures failed { OnErr result ((length decoded.new ≡ length decoded.old) × (length out.new ≡ length out.old)) }
 {
     let mut line = held;
     let mut at = 0;
@@ -90,6 +93,9 @@ fn run<R: Read, W: Write>(
     requires input_len { length input.old ≡ input_room vecdist_limit }
     requires vecdist_limit_bound { vecdist_limit ≤ 2 * length decoded.old }
     requires vecdist_room_in_bounds { numbered_room vecdist_room ≤ length out.old }
+
+    // Where writing fails, the rooms hold anything of their length.
+    ensures { OnErr result ((length input.new ≡ length input.old) × (length decoded.new ≡ length decoded.old) × (length out.new ≡ length out.old)) }
 {
     let mut at = 0;
     let mut end = 0;

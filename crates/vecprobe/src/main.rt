@@ -2,7 +2,7 @@
 // by piece, and writes the replies.
 #![tactic(auto)]
 
-ghost use Rattle.std.specs.Prelude.{◌≡◌, ◌≤◌, length, IfOk};
+ghost use Rattle.std.specs.Prelude.{◌≡◌, ◌≤◌, length, IfOk, OnErr};
 ghost use Rattle.line_stream.specs.Inner.Rooms.{numbered_room, input_room};
 ghost use Rattle.line_stream.specs.Inner.Serving.{TextReady, ServesAll};
 ghost use Rattle.probe_blobs.specs.Limits.{scratch_room, blob_room};
@@ -70,7 +70,10 @@ fn serve_all<W: Write>(
     requires text_ready { TextReady text.now held }
     requires work_rooms { WorkRooms decoded.old scratch.old made.old }
     requires vecprobe_limit_in_bounds { numbered_room vecprobe_limit ≤ length out.old }
-    ensures { IfOk result (ServesAll text.now held.before) }
+    ensures served { IfOk result (ServesAll text.now held.before) }
+
+    // Where writing fails, the rooms hold anything of their length.
+    ensures failed { OnErr result ((length decoded.new ≡ length decoded.old) × (length scratch.new ≡ length scratch.old) × (length made.new ≡ length made.old) × (length out.new ≡ length out.old)) }
 {
     let mut line = held;
     let mut at = 0;
@@ -106,6 +109,9 @@ fn run<R: Read, W: Write>(
     requires input_len { length input.old ≡ input_room vecprobe_limit }
     requires work_rooms { WorkRooms decoded.old scratch.old made.old }
     requires vecprobe_limit_in_bounds { numbered_room vecprobe_limit ≤ length out.old }
+
+    // Where writing fails, the rooms hold anything of their length.
+    ensures { OnErr result ((length input.new ≡ length input.old) × (length decoded.new ≡ length decoded.old) × (length scratch.new ≡ length scratch.old) × (length made.new ≡ length made.old) × (length out.new ≡ length out.old)) }
 {
     let mut at = 0;
     let mut end = 0;

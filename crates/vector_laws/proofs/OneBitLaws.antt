@@ -164,7 +164,7 @@ zero-whole (fin s m i) (suc n) e v =
 
 -- ---- the theorems: counts by way of t, and the answers for an accepted 1-bit blob s
 pub counts-triangle : (d : ℕ) (s t u : List ℕ) → bits_apart d s u ≤ bits_apart d s t + bits_apart d t u
-counts-triangle d s t u = differing-triangle (body_of s) (body_of t) (body_of u) (whole_bits d)
+counts-triangle d s t u = differing-triangle (body_of s) (body_of t) (body_of u) _
 
 module _ (s : List ℕ) (v : View) (e : read_of Plain s ≡ Accepted v) (k : v.kind ≡ Float1Bit) where
   abbrev d : ℕ

@@ -48,5 +48,8 @@ loop-more-preserved g c =
     let text = c.args.text.now in
     (next g (goal.at.loop-more-preserved g c).After-list-listed, none_ahead text _ c.loop-more.at (tail-lent c.loop-more.at text) c.list-listed.ensures, c.list-listed.auto.out ∙ c.loop-more.invariant.2)
 
-pub returns : goal.returns
-returns g c = let inv = c.loop-more.invariant in record { lists_all = all_listed inv.0 (inv.1 c.loop-more-test.false); at_in_bounds = (listed-cut inv.0).0 }
+pub returns-clause-lists_all : goal.returns-clause-lists_all
+returns-clause-lists_all g c = let inv = c.loop-more.invariant in all_listed inv.0 (inv.1 c.loop-more-test.false)
+
+pub returns-clause-at_in_bounds : goal.returns-clause-at_in_bounds
+returns-clause-at_in_bounds g c = (listed-cut c.loop-more.invariant.0).0

@@ -47,7 +47,7 @@ loop-more-smaller g c = rw c.loop-more-test.true (left-fewer c.next_text-text.en
 pub loop-more-preserved : goal.loop-more-preserved
 loop-more-preserved g c =
     let inv = c.loop-more.invariant in (
-      λ e. text-served reply_to most (input-read g (goal.at.loop-more-preserved g c).In-loop-more) c.next_text-text.ensures e c.in_ok-served.ensures,
+      λ e. text-served reply_to most (input-read g (goal.at.loop-more-preserved g c).In-loop-more) c.next_text-text.ensures e c.in_ok-served.ensures.served,
       c.next_text-text.auto.buffer ∙ inv.1,
       c.serve_all.auto.decoded ∙ inv.2,
       c.serve_all.auto.out ∙ inv.3,

@@ -36,5 +36,5 @@ loop-more-preserved g c =
     let inv = c.loop-more.invariant in
     (next g (goal.at.loop-more-preserved g c).After-serve-served, none_left c.args.text.now c.loop-more.at c.serve-served.ensures, c.serve-served.auto.decoded ∙ inv.2, c.serve-served.auto.out ∙ inv.3)
 
-pub returns : goal.returns
-returns g c = let inv = c.loop-more.invariant in all-served inv.0 (inv.1 c.loop-more-test.false)
+pub returns-clause-served : goal.returns-clause-served
+returns-clause-served g c = let inv = c.loop-more.invariant in all-served inv.0 (inv.1 c.loop-more-test.false)
