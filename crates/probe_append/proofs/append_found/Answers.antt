@@ -12,7 +12,6 @@ use Rattle.promises.proofs.Puts.{puts-same}
 use Rattle.lines.proofs.Fields.{from-hex-part, from-hex-put}
 use Rattle.probe_append.specs.Appending.{buffer_reply, append_found_reply}
 use Rattle.probe_append.proofs.AppendTexts.{over-limit, within-limit}
-use borrow.Author.Rules.{rules}
 use native.Mathlib.Omega.{arith}
 use Rattle.probe_append.proofs.append_found.Goals as goal
 use Rattle.probe_append.proofs.append_found.Goals.{After-bytes-size, In-Number}

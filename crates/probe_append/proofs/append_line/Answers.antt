@@ -14,7 +14,6 @@ use Rattle.promises.proofs.Puts.{puts-same}
 use Rattle.lines.proofs.Fields.{after_field, fields-few, fields-first}
 use Rattle.probe_append.specs.Appending.{append_found_reply, append_reply}
 use Rattle.probe_append.proofs.AppendTexts.{append-fields}
-use borrow.Author.Rules.{rules}
 use native.Mathlib.Omega.{arith}
 use Rattle.probe_append.proofs.append_line.Goals as goal
 use Rattle.probe_append.proofs.append_line.Goals.{After-field_end-stop}

@@ -1,12 +1,9 @@
 -- `put_appended` meets its contract: the new fill and the buffer are put, or the refusal.
 use mathlib.Core.Path.{◌≡◌, sym, ap, ◌∙◌}
-use mathlib.Core.List.{List}
-use Prim.Native.Nat.{ℕ}
 use Rattle.vecs.specs.Append.{append_outcome}
 use Rattle.vecs.specs.declared.AppendAnswer.{AppendAnswer}
 use Rattle.promises.proofs.Puts.{puts-same}
 use Rattle.probe_append.specs.Appending.{append_text, outcome_text}
-use borrow.Author.Rules.{rules}
 use Rattle.probe_append.proofs.put_appended.Goals as goal
 use Rattle.probe_append.proofs.put_appended.Goals.{After-fvecs_append}
 

@@ -1,8 +1,5 @@
 -- `put_filled` meets its contract: A, the fill and the buffer are written one after another.
-use mathlib.Core.Path.{refl}
-use Rattle.lines.specs.Text.{word}
-use Rattle.promises.proofs.Puts.{puts-copy, puts_then}
-use borrow.Author.Rules.{rules}
+use Rattle.promises.proofs.Puts.{puts_then}
 use Rattle.probe_append.proofs.put_filled.Goals as goal
 
 pub returns : goal.returns

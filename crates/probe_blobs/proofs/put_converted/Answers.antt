@@ -4,7 +4,6 @@ use mathlib.Core.List.{List}
 use Prim.Native.Nat.{ℕ, ◌≤◌}
 use lib.ListN.{length, take}
 use Rattle.lines.specs.Text.{word}
-use Rattle.promises.specs.Onto.{onto}
 use Rattle.convert.specs.Convert.{Conversion, conversion_of}
 use Rattle.convert.specs.declared.ConvertAnswer.{ConvertAnswer}
 use Rattle.convert.proofs.Answered.{convert-outcome-parts}
@@ -18,22 +17,21 @@ use Rattle.probe_blobs.proofs.put_converted.Goals.{After-convert, In-Converted}
 abbrev conversion : After-convert → Conversion
 conversion c = let a = c.args in conversion_of a.blob.now a.target (length a.scratch.now) (length a.made.now)
 
-answer : (c : After-convert) → (c.convert.result ≡ (conversion c).answer) × (c.convert.new.out ≡ onto (conversion c).out c.args.made.now)
-answer c = let a = c.args in convert-outcome-parts a.blob.now a.target a.scratch.now a.made.now _ _ _ c.convert.ensures
-
 text : (c : After-convert) (r : ConvertAnswer) → c.convert.result ≡ r → let a = c.args in convert_text r (conversion c).out ≡ convert_blob_text a.target a.blob.now
 text c r e =
+    let a = c.args in
+    let p = convert-outcome-parts a.blob.now a.target a.scratch.now a.made.now _ _ _ c.convert.ensures in
     let roomy = ap₂ (λ (m n : ℕ). conversion_of c.args.blob.now c.args.target m n) c.requires.scratch_len c.requires.made_len in
-    ap (λ (x : ConvertAnswer). convert_text x (conversion c).out) (sym e ∙ (answer c).0) ∙ ap (λ (x : Conversion). convert_text x.answer x.out) roomy
+    ap (λ (x : ConvertAnswer). convert_text x (conversion c).out) (sym e ∙ p.0) ∙ ap (λ (x : Conversion). convert_text x.answer x.out) roomy
 
 room : (c : In-Converted) → let v = c.in-Converted.view in
     (v.length ≤ length c.args.made.now) × (take v.length c.convert.new.out ≡ (let a = c.args in conversion_of a.blob.now a.target (length a.scratch.now) (length a.made.now)).out)
 room c =
-    let answer : (c.convert.result ≡ (let a = c.args in conversion_of a.blob.now a.target (length a.scratch.now) (length a.made.now)).answer) × (c.convert.new.out ≡ onto (let a = c.args in conversion_of a.blob.now a.target (length a.scratch.now) (length a.made.now)).out c.args.made.now) = let a = c.args in convert-outcome-parts a.blob.now a.target a.scratch.now a.made.now _ _ _ c.convert.ensures in
     let a = c.args in
+    let p = convert-outcome-parts a.blob.now a.target a.scratch.now a.made.now _ _ _ c.convert.ensures in
     let v = c.in-Converted.view in
-    let (size, front) = converted-room a.target v a.blob.now a.made.now (length a.scratch.now) (sym (answer).0 ∙ c.in-Converted.is) in
-    (size, ap (take v.length) (answer).1 ∙ front)
+    let (size, front) = converted-room a.target v a.blob.now a.made.now (length a.scratch.now) (sym p.0 ∙ c.in-Converted.is) in
+    (size, ap (take v.length) p.1 ∙ front)
 
 pub put_vector-requires : goal.put_vector-requires
 put_vector-requires c =

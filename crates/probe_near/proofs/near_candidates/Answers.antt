@@ -66,9 +66,8 @@ all c = (probe c ++ hex_bytes c.args.first.now) ++ hex_bytes c.args.second.now
 
 put_three : (c : Else-n-second) → Puts (((take c.args.probe c.args.decoded.now) ++ hex_bytes c.args.first.now) ++ hex_bytes c.args.second.now) c.args.decoded.now (end c) (three c)
 put_three c =
-    let put_two : Puts ((take c.args.probe c.args.decoded.now) ++ hex_bytes c.args.first.now) c.args.decoded.now (c.args.probe + c.bytes-m.result) (let a = c.args in put_mid a.probe (length a.decoded.now - a.probe) a.decoded.now c.bytes-m.new.out) = let a = c.args in
-    puts_then (prefix_puts a.probe a.decoded.now (omega arith)) c.bytes-m.ensures.puts in
-    puts_then (put_two) c.bytes-n.ensures.puts
+    let a = c.args in
+    puts_then (puts_then (prefix_puts a.probe a.decoded.now (omega arith)) c.bytes-m.ensures.puts) c.bytes-n.ensures.puts
 
 blobs : (c : Else-n-second) → take (end c) (three c) ≡ (((take c.args.probe c.args.decoded.now) ++ hex_bytes c.args.first.now) ++ hex_bytes c.args.second.now)
 blobs c = puts-prefix (put_three c)

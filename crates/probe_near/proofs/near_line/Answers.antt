@@ -60,9 +60,8 @@ candidates c = after_field c.field_end-stop.result (after_field c.field_end-end.
 
 by-candidates : (c : After-field_end-middle) → exactly 2 (near_reply (take c.field_end-end.result c.args.rest.now) (probe c)) (fields_of (candidates c)) ≡ exactly 4 near_reply (fields_of c.args.rest.now)
 by-candidates c =
-    let within-rest : c.field_end-end.result < length c.args.rest.now = lt_of_le-ne c.field_end-end.ensures.upper_bound c.if-end-rest.false in
-    let by-blobs : exactly 3 (near_reply (take c.field_end-end.result c.args.rest.now)) (fields_of (after_field c.field_end-end.result c.args.rest.now)) ≡ exactly 4 near_reply (fields_of c.args.rest.now) = fields-first 3 near_reply c.args.rest.now _ c.field_end-end.ensures.value (within-rest) in
-    fields-first 2 (near_reply (take c.field_end-end.result c.args.rest.now)) (after_field c.field_end-end.result c.args.rest.now) _ c.field_end-stop.ensures.value (within-blobs c) ∙ by-blobs
+    fields-first 2 (near_reply (take c.field_end-end.result c.args.rest.now)) (after_field c.field_end-end.result c.args.rest.now) _ c.field_end-stop.ensures.value (within-blobs c)
+    ∙ fields-first 3 near_reply c.args.rest.now _ c.field_end-end.ensures.value (lt_of_le-ne c.field_end-end.ensures.upper_bound c.if-end-rest.false)
 
 pub returns-then-middle-candidates : goal.returns-then-middle-candidates
 returns-then-middle-candidates c =

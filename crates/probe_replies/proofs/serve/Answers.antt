@@ -25,9 +25,6 @@ bounds c = served-bounds reply_to longest c.loop-end.invariant.0 c.loop-end.inva
 fits : (c : At-loop-end) → c.loop-end.filled ≤ length c.loop-end.out
 fits c = omega (arith, (bounds c).fits, c.loop-end.invariant.5)
 
-room : (c : Then-out-filled-ge-NUMBERED_REPLY) → longest ≤ length c.loop-end.out - c.loop-end.filled
-room c = omega (arith, leb-true, c.if-out-filled-ge-NUMBERED_REPLY.true)
-
 -- what out is after the reply, and the lines that are served then
 abbrev after : (c : After-reply-filled) → List ℕ
 after c = let l = c.loop-end in put_mid l.filled (length l.out - l.filled) l.out c.reply-filled.new.out
@@ -40,9 +37,8 @@ long c =
 next : (c : After-reply-filled) → let a = c.args in let l = c.loop-end in
     LinesServed reply_to longest a.text.now a.held.before a.out.now (after c) (l.end + 1) (l.number + 1) (l.filled + c.reply-filled.result)
 next c =
-    let room : longest ≤ length c.loop-end.out - c.loop-end.filled = omega (arith, leb-true, c.if-out-filled-ge-NUMBERED_REPLY.true) in
     let l = c.loop-end in
-    lines-served-next reply_to longest l.invariant.0 l.invariant.1 c.loop-end-test.true l.invariant.5 (room) c.reply-filled.ensures
+    lines-served-next reply_to longest l.invariant.0 l.invariant.1 c.loop-end-test.true l.invariant.5 (omega (arith, leb-true, c.if-out-filled-ge-NUMBERED_REPLY.true)) c.reply-filled.ensures
 
 pub loop-end-init : goal.loop-end-init
 loop-end-init c =
@@ -58,7 +54,7 @@ slice_bounds-reply-count c = omega (arith, c.loop-end.invariant.1.place)
 pub reply-filled-requires : goal.reply-filled-requires
 reply-filled-requires c =
     let l = c.loop-end in
-    record { work_rooms = work-rooms-kept c.requires.work_rooms l.invariant.2 l.invariant.3 l.invariant.4; vecprobe_limit_in_bounds = rw (tail-lent l.filled l.out) (omega (arith, room (goal.at.reply-filled-requires c).Then-out-filled-ge-NUMBERED_REPLY, length-drop l.filled l.out)) }
+    record { work_rooms = work-rooms-kept c.requires.work_rooms l.invariant.2 l.invariant.3 l.invariant.4; vecprobe_limit_in_bounds = rw (tail-lent l.filled l.out) (omega (arith, leb-true, c.if-out-filled-ge-NUMBERED_REPLY.true, length-drop l.filled l.out)) }
 
 pub overflow_add-filled : goal.overflow_add-filled
 overflow_add-filled c = omega (arith, (served-bounds reply_to longest (next (goal.at.overflow_add-filled c).After-reply-filled) (long (goal.at.overflow_add-filled c).After-reply-filled)).fits)

@@ -5,7 +5,6 @@ use Rattle.lines.specs.Fields.{from_hex}
 use Rattle.promises.proofs.Puts.{puts-same}
 use Rattle.lines.proofs.Fields.{from-hex-part, from-hex-put}
 use Rattle.probe_vecs.specs.Files.{file_text, file_found_reply}
-use borrow.Author.Rules.{rules}
 use native.Mathlib.Omega.{arith}
 use Rattle.probe_vecs.proofs.file_found.Goals as goal
 use Rattle.probe_vecs.proofs.file_found.Goals.{In-Number}

@@ -10,7 +10,6 @@ use Rattle.promises.proofs.Puts.{puts-same}
 use Rattle.lines.proofs.Fields.{fields-few, after_field}
 use Rattle.probe_vecs.specs.Files.{file_found_reply, file_reply}
 use Rattle.probe_vecs.proofs.FileTexts.{file-fields}
-use borrow.Author.Rules.{rules}
 use native.Mathlib.Omega.{arith}
 use Rattle.probe_vecs.proofs.file_line.Goals as goal
 

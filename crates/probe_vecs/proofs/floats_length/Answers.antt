@@ -1,5 +1,4 @@
 -- `floats_length` meets its contract: four bytes an element of the vector that is shown.
-use borrow.Author.Rules.{rules}
 use native.Mathlib.Omega.{arith}
 use Rattle.probe_vecs.proofs.floats_length.Goals as goal
 

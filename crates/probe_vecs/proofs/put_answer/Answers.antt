@@ -1,9 +1,5 @@
 -- `put_answer` meets its contract: the vector is put after I, or E, or the refusal.
-use mathlib.Core.Path.{refl}
-use Rattle.lines.specs.Text.{word}
-use Rattle.promises.proofs.Puts.{puts-copy}
 use Rattle.probe_vecs.specs.Files.{vecs_text}
-use borrow.Author.Rules.{rules}
 use Rattle.probe_vecs.proofs.put_answer.Goals as goal
 
 pub returns-in-Vector : goal.returns-in-Vector

@@ -1,6 +1,5 @@
 -- `put_bvecs` meets its contract: the answer at the place is put with the elements that stand in `scratch` as f32.
 use mathlib.Core.Path.{◌≡◌, sym, ap, ◌∙◌}
-use mathlib.Core.List.{List}
 use Prim.Native.Nat.{ℕ, ◌*◌, ◌≤◌}
 use lib.ListN.{length, take}
 use lib.Seq.{length-take-le}
@@ -8,7 +7,6 @@ use Rattle.vector_types.specs.Layout.{max_dims}
 use Rattle.promises.proofs.Puts.{puts-same}
 use Rattle.probe_vecs.specs.Files.{vecs_text}
 use Rattle.probe_vecs.proofs.FileTexts.{BvecsShown, bvecs-text}
-use borrow.Author.Rules.{rules}
 use native.Mathlib.Omega.{arith}
 use Rattle.probe_vecs.proofs.put_bvecs.Goals as goal
 use Rattle.probe_vecs.proofs.put_bvecs.Goals.{After-bvecs_at-answer, After-floats_length-length}
@@ -22,8 +20,8 @@ floats_length-length-requires c = (answered (goal.at.floats_length-length-requir
 -- how many bytes are put
 few : (c : After-floats_length-length) → c.floats_length-length.result ≤ 4 * max_dims
 few c =
-    let answered : let a = c.args in BvecsShown a.file.now a.place a.scratch.now c.requires.scratch_len c.bvecs_at-answer.result c.bvecs_at-answer.new.out = let a = c.args in bvecs-text a.file.now a.place a.scratch.now c.requires.scratch_len _ _ c.bvecs_at-answer.ensures in
-    rw c.floats_length-length.ensures (answered).0
+    let a = c.args in
+    rw c.floats_length-length.ensures (bvecs-text a.file.now a.place a.scratch.now c.requires.scratch_len _ _ c.bvecs_at-answer.ensures).0
 
 size : (c : After-floats_length-length) → length (take c.floats_length-length.result c.bvecs_at-answer.new.out) ≡ c.floats_length-length.result
 size c = length-take-le _ _ (omega (arith, few c, c.bvecs_at-answer.auto.out, c.requires.scratch_len))

@@ -1,5 +1,4 @@
 -- `put_file` meets its contract: the format that is named answers.
-use borrow.Author.Rules.{rules}
 use Rattle.probe_vecs.proofs.put_file.Goals as goal
 
 pub returns-in-Fvecs : goal.returns-in-Fvecs

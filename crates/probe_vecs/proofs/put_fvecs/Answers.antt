@@ -2,7 +2,6 @@
 use Rattle.promises.proofs.Puts.{puts-same}
 use Rattle.probe_vecs.specs.Files.{file_text}
 use Rattle.probe_vecs.proofs.FileTexts.{elements-few}
-use borrow.Author.Rules.{rules}
 use Rattle.probe_vecs.proofs.put_fvecs.Goals as goal
 
 pub put_answer-requires : goal.put_answer-requires

@@ -7,7 +7,7 @@ use lib.Seq.{length-take-le}
 use Rattle.lines.specs.Text.{word}
 use Rattle.lines.specs.Hex.{hex_of}
 use Rattle.vector_types.specs.Layout.{max_blob_length}
-use Rattle.blob_writer.specs.Write.{blob_of, write_of, write_outcome}
+use Rattle.blob_writer.specs.Write.{blob_of}
 use Rattle.blob_writer.specs.declared.WriteAnswer.{WriteAnswer}
 use Rattle.blob_writer.proofs.Written.{write-outcome-parts}
 use Rattle.promises.proofs.Puts.{puts-same, puts_then}
@@ -21,24 +21,22 @@ use Rattle.probe_write.proofs.put_written.Goals.{After-write, In-Written}
 abbrev blob : After-write → List ℕ
 blob c = let a = c.args in blob_of a.kind a.dims a.body.now
 
-answer : (c : After-write) → let a = c.args in
-    (c.write.result ≡ write_of a.kind a.dims a.body.now (length a.made.now))
-    × (c.write.new.out ≡ (write_outcome a.kind a.dims a.body.now a.made.now).out)
-answer c = let a = c.args in write-outcome-parts a.kind a.dims a.body.now a.made.now _ _ c.write.ensures
-
 text : (c : After-write) (w : WriteAnswer) → c.write.result ≡ w → let a = c.args in write_text w (blob c) ≡ write_body_text a.kind a.dims a.body.now
-text c w e = ap (λ (x : WriteAnswer). write_text x (blob c)) (sym e ∙ rw (← c.requires.made_len) (answer c).0)
+text c w e =
+    let a = c.args in
+    let p = write-outcome-parts a.kind a.dims a.body.now a.made.now _ _ c.write.ensures in
+    ap (λ (x : WriteAnswer). write_text x (blob c)) (sym e ∙ rw (← c.requires.made_len) p.0)
 
 abbrev left : In-Written → List ℕ
 left c = take c.in-Written.length c.write.new.out
 
 room : (c : In-Written) → (c.in-Written.length ≤ max_blob_length) × (left c ≡ (let a = c.args in blob_of a.kind a.dims a.body.now))
 room c =
-    let answer : let a = c.args in (c.write.result ≡ write_of a.kind a.dims a.body.now (length a.made.now)) × (c.write.new.out ≡ (write_outcome a.kind a.dims a.body.now a.made.now).out) = let a = c.args in write-outcome-parts a.kind a.dims a.body.now a.made.now _ _ c.write.ensures in
     let a = c.args in
+    let p = write-outcome-parts a.kind a.dims a.body.now a.made.now _ _ c.write.ensures in
     let n = c.in-Written.length in
-    let r = written-room a.kind a.dims a.body.now a.made.now n (sym (answer).0 ∙ c.in-Written.is) in
-    (r.0, ap (take n) (answer).1 ∙ r.1)
+    let r = written-room a.kind a.dims a.body.now a.made.now n (sym p.0 ∙ c.in-Written.is) in
+    (r.0, ap (take n) p.1 ∙ r.1)
 
 within : (c : In-Written) → length (left c) ≡ c.in-Written.length
 within c = length-take-le _ _ (omega (arith, (room c).0, c.write.auto.out, c.requires.made_len))

@@ -9,7 +9,6 @@ use lib.ListN.{length, drop, length-drop}
 use lib.Seq.{length-take-le}
 use borrow.Rule.Slice.PartMut.{put_mid, same_len_mid}
 use Rattle.promises.proofs.Onto.{tail-lent}
-use Rattle.vecs_lines.specs.Inner.Rooms.{vector_line_room}
 use Rattle.vecs_lines.specs.Inner.Cut.{first_size}
 use Rattle.vecs_lines.proofs.Cutting.{FirstVector, first-vector}
 use Rattle.vecs_lines.proofs.Listing.{VectorsListed, none-listed, ListedBounds, listed-bounds, next-within, next-listed, lists-stopped}
@@ -21,9 +20,6 @@ bounds c = listed-bounds c.loop-size.invariant.0 c.loop-size.invariant.2
 
 fits : (c : At-loop-size) → c.loop-size.filled ≤ length c.loop-size.out
 fits c = omega (arith, (bounds c).fits, c.loop-size.invariant.2)
-
-room : (c : Then-out-filled-ge-VECTOR_LINE) → vector_line_room ≤ length c.loop-size.out - c.loop-size.filled
-room c = omega (arith, leb-true, c.if-out-filled-ge-VECTOR_LINE.true)
 
 -- the next vector, and that it lies within the text
 first : (c : Then-out-filled-ge-VECTOR_LINE) → FirstVector (drop c.loop-size.at c.args.text.now)
@@ -44,10 +40,9 @@ long c =
 next : (c : After-put_line-filled) → let a = c.args in let l = c.loop-size in
     VectorsListed a.text.now a.before a.out.now (after c) (l.at + l.size) (l.number + 1) (l.filled + c.put_line-filled.result)
 next c =
-    let room : vector_line_room ≤ length c.loop-size.out - c.loop-size.filled = omega (arith, leb-true, c.if-out-filled-ge-VECTOR_LINE.true) in
     let l = c.loop-size in
     let part : l.at + l.size - l.at ≡ l.size = omega arith in
-    next-listed _ _ _ l.invariant.1 l.invariant.0 c.loop-size-test.true l.invariant.2 room (rw part at c.put_line-filled.ensures)
+    next-listed _ _ _ l.invariant.1 l.invariant.0 c.loop-size-test.true l.invariant.2 (omega (arith, leb-true, c.if-out-filled-ge-VECTOR_LINE.true)) (rw part at c.put_line-filled.ensures)
 
 pub loop-size-init : goal.loop-size-init
 loop-size-init c = (none-listed _ _ _, c.first_size-size.ensures, refl)
@@ -66,7 +61,7 @@ put_line-filled-requires c =
     let part : l.at + l.size - l.at ≡ l.size = omega arith in
     let size = length-take-le l.size rest (omega (arith, v.within, l.invariant.1)) in
     rw (part, size, tail-lent l.filled l.out)
-    record { in_bounds = omega (arith, v.size, l.invariant.1); vector_len_bound = omega (arith, v.size, v.few, l.invariant.1); vector_line_room_in_bounds = omega (arith, room (goal.at.put_line-filled-requires c).Then-out-filled-ge-VECTOR_LINE, length-drop l.filled l.out) }
+    record { in_bounds = omega (arith, v.size, l.invariant.1); vector_len_bound = omega (arith, v.size, v.few, l.invariant.1); vector_line_room_in_bounds = omega (arith, leb-true, c.if-out-filled-ge-VECTOR_LINE.true, length-drop l.filled l.out) }
 
 pub overflow_add-filled : goal.overflow_add-filled
 overflow_add-filled c = omega (arith, (listed-bounds (next (goal.at.overflow_add-filled c).After-put_line-filled) (long (goal.at.overflow_add-filled c).After-put_line-filled)).fits, c.ranges, c.well_formed)

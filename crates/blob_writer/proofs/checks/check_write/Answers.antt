@@ -1,20 +1,22 @@
 -- Each test is that of the list of refusals.
 use mathlib.Core.Path.{◌≡◌, refl, sym, ap, ◌∙◌}
 use mathlib.Core.Bool.{Bool, true, false, cond, not, ◌&&◌}
-use Prim.Native.Nat.{ℕ, ◌+◌, ◌/◌, ◌<◌}
-use lib.Dec.{ltb, eqb}
+use mathlib.Core.List.{List}
+use Prim.Native.Nat.{ℕ, ◌+◌, ◌/◌, ◌<◌, ◌≤◌}
+use lib.Dec.{ltb}
 use lib.ListN.{length}
 use borrow.Author.Tests.{lt-ltb, le-ltb}
 use Rattle.vector_types.specs.Answers.{none, first_given, naming}
 use Rattle.vector_types.specs.Search.{first_index}
-use Rattle.vector_types.specs.Layout.{max_blob_length, max_dims, has_byte, body_fits, is_outside, has_index_outside, has_trailing_count}
+use Rattle.vector_types.specs.declared.VectorType.{VectorType}
+use Rattle.vector_types.specs.Layout.{max_blob_length, max_dims, has_byte, body_fits, is_outside, has_index_outside}
 use Rattle.blob_writer.specs.Answers.{write_refused}
-use Rattle.blob_writer.specs.Write.{blob_of, write_refusals, write_of}
+use Rattle.blob_writer.specs.Write.{tail_of, blob_of, write_refusals, write_of}
 use Rattle.blob_writer.proofs.Tails.{tail-short, length-blob}
 use Rattle.blob_writer.proofs.Written.{clear-short, clear_whole}
 use native.Mathlib.Omega.{arith}
 use Rattle.blob_writer.proofs.checks.check_write.Goals as goal
-use Rattle.blob_writer.proofs.checks.check_write.Goals.{After-tail_length, Else-dims-gt-MAX_DIMS, Else-lacks_elements, Else-length-gt-MAX_BLOB_LENGTH, Else-not-body_fits, Else-outside-body}
+use Rattle.blob_writer.proofs.checks.check_write.Goals.{Else-lacks_elements}
 
 -- a search that only one kind makes: it finds something exactly if the kind is that one and the search does, and then what the search finds
 found-exactly : (b : Bool) (place n : ℕ) → ltb (cond b place n) n ≡ (b && ltb place n)
@@ -25,43 +27,39 @@ found-place : (b : Bool) (place n : ℕ) → cond b place n < n → cond b place
 found-place true place n h = refl
 found-place false place n h = absurd (omega arith)
 
--- what each of them tells
-few : (c : Else-dims-gt-MAX_DIMS) → ltb max_dims c.args.dims.0 ≡ false
-few c = le-ltb _ _ c.if-dims-gt-MAX_DIMS.false
+-- what each test tells where it fails
+few : {d : ℕ} → d ≤ max_dims → ltb max_dims d ≡ false
+few h = le-ltb _ _ h
 
-fit : (c : Else-not-body_fits) → not (body_fits c.args.kind c.args.dims.0 (length c.args.body.now)) ≡ false
-fit c = ap not (sym c.body_fits.ensures ∙ c.if-not-body_fits.false)
+fit : (k : VectorType) (d n : ℕ) {r : Bool} → r ≡ body_fits k d n → r ≡ true → not (body_fits k d n) ≡ false
+fit k d n e h = ap not (sym e ∙ h)
 
 -- the length is that of the blob
-whole : (c : After-tail_length) → length c.args.body.now + c.tail_length.result ≡ length (blob_of c.args.kind c.args.dims.0 c.args.body.now)
-whole c = omega (arith, c.tail_length.ensures, length-blob c.args.kind c.args.dims.0 c.args.body.now)
+whole : (k : VectorType) (d : ℕ) (body : List ℕ) {t : ℕ} → t ≡ length (tail_of k d) → length body + t ≡ length (blob_of k d body)
+whole k d body e = omega (arith, e, length-blob k d body)
 
-short : (c : Else-length-gt-MAX_BLOB_LENGTH) → ltb max_blob_length (length (blob_of c.args.kind c.args.dims.0 c.args.body.now)) ≡ false
-short c =
-    let whole : length c.args.body.now + c.tail_length.result ≡ length (blob_of c.args.kind c.args.dims.0 c.args.body.now) = omega (arith, c.tail_length.ensures, length-blob c.args.kind c.args.dims.0 c.args.body.now) in
-    sym (ap (ltb max_blob_length) (whole)) ∙ le-ltb _ _ c.if-length-gt-MAX_BLOB_LENGTH.false
+short : (k : VectorType) (d : ℕ) (body : List ℕ) {t : ℕ} → t ≡ length (tail_of k d) → length body + t ≤ max_blob_length
+    → ltb max_blob_length (length (blob_of k d body)) ≡ false
+short k d body e h = sym (ap (ltb max_blob_length) (whole k d body e)) ∙ le-ltb _ _ h
 
-inside : (c : Else-outside-body) → has_index_outside c.args.kind c.args.dims.0 c.args.body.now ≡ false
-inside c =
-    let n = length c.args.body.now / 8 in
-    sym (found-exactly (has_byte 9 c.args.kind) (first_index (is_outside c.args.body.now n c.args.dims.0) n) n)
-    ∙ rw (← c.first_outside-outside.ensures) (le-ltb _ _ c.if-outside-body.false)
-
-elements : (c : Else-lacks_elements) → (has_trailing_count c.args.kind && eqb c.args.dims.0 0) ≡ false
-elements c = sym c.lacks_elements.ensures ∙ c.if-lacks_elements.false
+inside : (k : VectorType) (d : ℕ) (body : List ℕ) {r : ℕ} → let n = length body / 8 in
+    r ≡ cond (has_byte 9 k) (first_index (is_outside body n d) n) n → n ≤ r → has_index_outside k d body ≡ false
+inside k d body e h =
+    let n = length body / 8 in
+    sym (found-exactly (has_byte 9 k) (first_index (is_outside body n d) n) n) ∙ rw (← e) (le-ltb _ _ h)
 
 -- no test holds but for the room
 clear : (c : Else-lacks_elements) → first_given (write_refusals c.args.kind c.args.dims.0 c.args.body.now) ≡ none
 unfolding write_refusals
 clear c =
-    let few : ltb max_dims c.args.dims.0 ≡ false = le-ltb _ _ c.if-dims-gt-MAX_DIMS.false in
-    let fit : not (body_fits c.args.kind c.args.dims.0 (length c.args.body.now)) ≡ false = ap not (sym c.body_fits.ensures ∙ c.if-not-body_fits.false) in
-    let whole : length c.args.body.now + c.tail_length.result ≡ length (blob_of c.args.kind c.args.dims.0 c.args.body.now) = omega (arith, c.tail_length.ensures, length-blob c.args.kind c.args.dims.0 c.args.body.now) in
-    let short : ltb max_blob_length (length (blob_of c.args.kind c.args.dims.0 c.args.body.now)) ≡ false = sym (ap (ltb max_blob_length) (whole)) ∙ le-ltb _ _ c.if-length-gt-MAX_BLOB_LENGTH.false in
-    let inside : has_index_outside c.args.kind c.args.dims.0 c.args.body.now ≡ false = let n = length c.args.body.now / 8 in
-    sym (found-exactly (has_byte 9 c.args.kind) (first_index (is_outside c.args.body.now n c.args.dims.0) n) n)
-    ∙ rw (← c.first_outside-outside.ensures) (le-ltb _ _ c.if-outside-body.false) in
-    simp (few, fit, short, inside, elements c)
+    let a = c.args in
+    simp (
+      few c.if-dims-gt-MAX_DIMS.false,
+      fit a.kind a.dims.0 (length a.body.now) c.body_fits.ensures c.if-not-body_fits.false,
+      short a.kind a.dims.0 a.body.now c.tail_length.ensures c.if-length-gt-MAX_BLOB_LENGTH.false,
+      inside a.kind a.dims.0 a.body.now c.first_outside-outside.ensures c.if-outside-body.false,
+      sym c.lacks_elements.ensures ∙ c.if-lacks_elements.false,
+    )
 
 pub returns-then-dims-gt-MAX_DIMS : goal.returns-then-dims-gt-MAX_DIMS
 unfolding write_refusals write_of
@@ -70,7 +68,7 @@ returns-then-dims-gt-MAX_DIMS c = c.refuse.ensures ∙ simp (lt-ltb _ _ c.if-dim
 pub returns-then-not-body_fits : goal.returns-then-not-body_fits
 unfolding write_refusals write_of
 returns-then-not-body_fits c =
-    c.refuse-then-not-body_fits.ensures ∙ simp (few (goal.at.returns-then-not-body_fits c).Else-dims-gt-MAX_DIMS, ap not (sym c.body_fits.ensures ∙ c.if-not-body_fits.true))
+    c.refuse-then-not-body_fits.ensures ∙ simp (few c.if-dims-gt-MAX_DIMS.false, ap not (sym c.body_fits.ensures ∙ c.if-not-body_fits.true))
 
 pub overflow_add-length : goal.overflow_add-length
 overflow_add-length c = omega (arith, c.tail_length.ensures, tail-short c.args.kind c.args.dims.0)
@@ -78,7 +76,7 @@ overflow_add-length c = omega (arith, c.tail_length.ensures, tail-short c.args.k
 pub returns-then-length-gt-MAX_BLOB_LENGTH : goal.returns-then-length-gt-MAX_BLOB_LENGTH
 unfolding write_refusals write_of
 returns-then-length-gt-MAX_BLOB_LENGTH c =
-    c.refuse-then-length-gt-MAX_BLOB_LENGTH.ensures ∙ simp (few (goal.at.returns-then-length-gt-MAX_BLOB_LENGTH c).Else-dims-gt-MAX_DIMS, fit (goal.at.returns-then-length-gt-MAX_BLOB_LENGTH c).Else-not-body_fits, ← whole (goal.at.returns-then-length-gt-MAX_BLOB_LENGTH c).After-tail_length, lt-ltb _ _ c.if-length-gt-MAX_BLOB_LENGTH.true)
+    c.refuse-then-length-gt-MAX_BLOB_LENGTH.ensures ∙ simp (few c.if-dims-gt-MAX_DIMS.false, fit c.args.kind c.args.dims.0 (length c.args.body.now) c.body_fits.ensures c.if-not-body_fits.false, ← whole c.args.kind c.args.dims.0 c.args.body.now c.tail_length.ensures, lt-ltb _ _ c.if-length-gt-MAX_BLOB_LENGTH.true)
 
 pub returns-then-outside-body : goal.returns-then-outside-body
 unfolding write_refusals write_of
@@ -89,19 +87,19 @@ returns-then-outside-body c =
     let found : cond sparse place n < n = rw (← c.first_outside-outside.ensures) c.if-outside-body.true in
     let test = sym (found-exactly sparse place n) ∙ lt-ltb _ _ found in
     ap write_refused (c.naming.ensures ∙ ap (naming 8) (c.first_outside-outside.ensures ∙ found-place sparse place n found))
-    ∙ simp (few (goal.at.returns-then-outside-body c).Else-dims-gt-MAX_DIMS, fit (goal.at.returns-then-outside-body c).Else-not-body_fits, short (goal.at.returns-then-outside-body c).Else-length-gt-MAX_BLOB_LENGTH, test)
+    ∙ simp (few c.if-dims-gt-MAX_DIMS.false, fit c.args.kind c.args.dims.0 (length c.args.body.now) c.body_fits.ensures c.if-not-body_fits.false, short c.args.kind c.args.dims.0 c.args.body.now c.tail_length.ensures c.if-length-gt-MAX_BLOB_LENGTH.false, test)
 
 pub returns-then-lacks_elements : goal.returns-then-lacks_elements
 unfolding write_refusals write_of
 returns-then-lacks_elements c =
     c.refuse-then-lacks_elements.ensures
-    ∙ simp (few (goal.at.returns-then-lacks_elements c).Else-dims-gt-MAX_DIMS, fit (goal.at.returns-then-lacks_elements c).Else-not-body_fits, short (goal.at.returns-then-lacks_elements c).Else-length-gt-MAX_BLOB_LENGTH, inside (goal.at.returns-then-lacks_elements c).Else-outside-body, sym c.lacks_elements.ensures ∙ c.if-lacks_elements.true)
+    ∙ simp (few c.if-dims-gt-MAX_DIMS.false, fit c.args.kind c.args.dims.0 (length c.args.body.now) c.body_fits.ensures c.if-not-body_fits.false, short c.args.kind c.args.dims.0 c.args.body.now c.tail_length.ensures c.if-length-gt-MAX_BLOB_LENGTH.false, inside c.args.kind c.args.dims.0 c.args.body.now c.first_outside-outside.ensures c.if-outside-body.false, sym c.lacks_elements.ensures ∙ c.if-lacks_elements.true)
 
 pub returns-then-room-length : goal.returns-then-room-length
 returns-then-room-length c =
     ap write_refused c.needing.ensures
-    ∙ clear-short c.args.kind c.args.dims.0 c.args.body.now c.args.room (clear (goal.at.returns-then-room-length c).Else-lacks_elements) _ (whole (goal.at.returns-then-room-length c).After-tail_length) c.if-room-length.true
+    ∙ clear-short c.args.kind c.args.dims.0 c.args.body.now c.args.room (clear (goal.at.returns-then-room-length c).Else-lacks_elements) _ (whole c.args.kind c.args.dims.0 c.args.body.now c.tail_length.ensures) c.if-room-length.true
 
 pub returns : goal.returns
 returns c =
-    clear_whole c.args.kind c.args.dims.0 c.args.body.now c.args.room (clear (goal.at.returns c).Else-lacks_elements) _ (whole (goal.at.returns c).After-tail_length) c.if-room-length.false
+    clear_whole c.args.kind c.args.dims.0 c.args.body.now c.args.room (clear (goal.at.returns c).Else-lacks_elements) _ (whole c.args.kind c.args.dims.0 c.args.body.now c.tail_length.ensures) c.if-room-length.false
