@@ -1,3 +1,2 @@
 -- The laws of what the contracts of the functions on bytes name.
-pub mod Slices
 pub mod Determined

@@ -1,2 +1,0 @@
--- What the contracts of the functions on bytes name.
-pub mod Bytes
