@@ -1,5 +1,5 @@
 -- The body of a sparse blob is its values and as many indices, and its halves are these.
-use Rattle.std.proofs.Common.{◌≡◌, refl}
+use Rattle.std.proofs.Common.{◌≡◌, refl, Result, Ok, Err}
 use mathlib.Core.List.{List, ◌++◌}
 use Prim.Native.Nat.{ℕ, ◌+◌, ◌*◌, ◌≤◌}
 use native.Mathlib.Omega.{arith}
@@ -7,8 +7,8 @@ use lib.ListN.{length, take, drop, length-append, length-drop}
 use lib.Seq.{length-take-le, take-add, take-append_seam, drop-append_seam}
 use Rattle.vector_types.specs.Read.{read_of}
 use Rattle.vector_types.specs.Parts.{shown_half, values_of, indices_of}
-use Rattle.vector_types.specs.declared.ReadAnswer.{ReadAnswer}
-use Rattle.vector_types.specs.declared.ReadAnswer.TheVariants.{Accepted, Refused}
+use Rattle.vector_types.specs.declared.Refusal.{Refusal}
+use Rattle.vector_types.specs.declared.View.{View}
 use Rattle.vector_types.specs.declared.Mode.TheVariants.{Plain}
 use Rattle.vector_types.proofs.Views.{half-within}
 use Rattle.sparse_view.specs.Halves.{half}
@@ -18,9 +18,9 @@ module _ (s : List ℕ) where
   abbrev h : ℕ
   h = shown_half (read_of Plain s)
 
-  within : (x : ReadAnswer) → read_of Plain s ≡ x → 2 * shown_half x ≤ length s
-  within (Accepted v) e = half-within s v e
-  within (Refused r) e = omega arith
+  within : (x : Result View Refusal) → read_of Plain s ≡ x → 2 * shown_half x ≤ length s
+  within (Ok v) e = half-within s v e
+  within (Err r) e = omega arith
 
   pub both-within : 2 * h ≤ length s
   both-within = within (read_of Plain s) refl
@@ -45,3 +45,6 @@ module _ (s : List ℕ) where
 
   pub second_is : drop (half (values_of s ++ indices_of s)) (values_of s ++ indices_of s) ≡ indices_of s
   second_is = rw (half_is, ← length-values) (drop-append_seam (values_of s) (indices_of s))
+
+-- what the code is proved by
+pub ruleset bodies = (joined, length-values, half_is, first-is, second_is)

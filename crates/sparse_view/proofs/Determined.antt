@@ -6,9 +6,9 @@ use denote.Ref.{Bor}
 use Rattle.promises.specs.Determined.{Determined}
 use Rattle.vector_types.proofs.Determined.{part}
 use Rattle.sparse_view.specs.Halves.{SparseBody, FirstHalf, SecondHalf}
-use Rattle.sparse_view.proofs.view_of.Reads as view_of
-use Rattle.sparse_view.proofs.values.Reads as values
-use Rattle.sparse_view.proofs.indices.Reads as indices
+use Rattle.sparse_view.proofs.SparseView.of.Reads as view_of
+use Rattle.sparse_view.proofs.SparseView.values.Reads as values
+use Rattle.sparse_view.proofs.SparseView.indices.Reads as indices
 use Rattle.sparse_view.proofs.values_of.Reads as values_of
 use Rattle.sparse_view.proofs.indices_of.Reads as indices-of
 

@@ -1,13 +1,8 @@
 -- What a view tells of its body, as bytes of their own: which they are, how many, and what is known of its indices and its elements.
-use mathlib.Core.Path.{◌≡◌, refl, sym, ap, ◌∙◌}
-use mathlib.Core.Bool.{true, false, not, ◌&&◌, and-eq-true_iff}
-use mathlib.Core.List.{List, ◌++◌}
-use Prim.Native.Nat.{ℕ, suc, ◌+◌, ◌-◌, ◌*◌, ◌/◌, ◌%◌, ◌<◌, ◌≤◌}
-use native.Mathlib.Omega.{arith}
-use lib.Dec.{leb, eqb}
-use lib.ListN.{length, take, drop, take-append-drop}
-use lib.Seq.{length-take-le}
-use borrow.Author.Tests.{leb-true, ne_eqb, not-true}
+use Rattle.std.proofs.Common.{◌≡◌, refl, sym, ap, ◌∙◌, true, false, not, ◌&&◌, List, ◌++◌, ℕ, suc, ◌+◌, ◌-◌, ◌*◌, ◌/◌, ◌%◌, ◌<◌, ◌≤◌, arith, leb, eqb, length, take, drop, take-append-drop, length-take-le, leb-true, ne_eqb, Result, Ok}
+use mathlib.Core.Bool.{and-eq-true_iff}
+use Rattle.std.proofs.lemmas.Bool.{not-true}
+use Rattle.vector_types.specs.declared.Refusal.{Refusal}
 use Rattle.little_endian.proofs.Numbers.{number_at-left}
 use Rattle.vector_types.specs.Search.{any_index}
 use Rattle.vector_types.specs.Layout.{max_dims, has_trailing_count, length_before_type, trailing_count, entry_count, sparse_dims, row_accepts, dims_of, index_at, is_outside, has_index_outside, body_fits, layout_row}
@@ -16,9 +11,7 @@ use Rattle.vector_types.specs.Parts.{body_of, shown_length}
 use Rattle.vector_types.specs.Statements.{IndicesBelow, IndicesRise}
 use Rattle.vector_types.specs.declared.View.{View}
 use Rattle.vector_types.specs.declared.VectorType.{VectorType}
-use Rattle.vector_types.specs.declared.VectorType.TheVariants.{Float32Dense, Float64Dense, Float32Sparse, Float1Bit, Float8}
-use Rattle.vector_types.specs.declared.ReadAnswer.{ReadAnswer}
-use Rattle.vector_types.specs.declared.ReadAnswer.TheVariants.{Accepted}
+use Rattle.vector_types.specs.declared.VectorType.TheVariants.{Float32Sparse, Float1Bit, Float8}
 use Rattle.vector_types.specs.declared.Mode.TheVariants.{Plain}
 use Rattle.vector_types.proofs.Bools.{and-three}
 use Rattle.vector_types.proofs.Statements.{none-outside}
@@ -35,9 +28,6 @@ index-taken s k room j h =
 -- a kind with a trailing count has elements
 has-elements : (k : VectorType) (s : List ℕ) → row_accepts k s ≡ true → (has_trailing_count k && eqb (dims_of k s) 0) ≡ false
 unfolding layout_row
-has-elements Float32Dense s row = refl
-has-elements Float64Dense s row = refl
-has-elements Float32Sparse s row = refl
 has-elements Float1Bit s row =
     let n = length_before_type s in
     let t = trailing_count s in
@@ -48,6 +38,7 @@ has-elements Float8 s row =
     let t = trailing_count s in
     let tests = and-three (leb 14 n) (eqb ((n - 10) % 4) 0) (leb t 3) row in
     ne_eqb (dims_of Float8 s) 0 (omega (arith, leb-true))
+has-elements _ s row = refl
 
 -- what is known of the body of a view of kind k and dims d
 pub record BodyFacts (k : VectorType) (d : ℕ) (body : List ℕ) : Type 0 where
@@ -56,13 +47,13 @@ pub record BodyFacts (k : VectorType) (d : ℕ) (body : List ℕ) : Type 0 where
   pub inside : has_index_outside k d body ≡ false
   pub elements : (has_trailing_count k && eqb d 0) ≡ false
 
-module _ (s : List ℕ) (v : View) (e : read_of Plain s ≡ Accepted v) where
+module _ (s : List ℕ) (v : View) (e : read_of Plain s ≡ Ok v) where
   facts : ViewFacts s v
   facts = view-facts s v e
 
   pub body_is : body_of s ≡ take v.length s
   unfolding body_of
-  body_is = ap (λ (r : ReadAnswer). take (shown_length r) s) e
+  body_is = ap (λ (r : Result View Refusal). take (shown_length r) s) e
 
   pub length-body : length (body_of s) ≡ v.length
   length-body = rw body_is (length-take-le v.length s facts.within)
@@ -104,11 +95,8 @@ module _ (s : List ℕ) (v : View) (e : read_of Plain s ≡ Accepted v) where
   body-inside = by_kind v.kind refl
     where
       by_kind : (k : VectorType) → v.kind ≡ k → has_index_outside k v.dims.0 (body_of s) ≡ false
-      by_kind Float32Dense h = refl
-      by_kind Float64Dense h = refl
       by_kind Float32Sparse h = (none-outside (body_of s) (length (body_of s) / 8) v.dims.0).1 (body-indices-below h)
-      by_kind Float1Bit h = refl
-      by_kind Float8 h = refl
+      by_kind _ h = refl
 
   pub body-facts : BodyFacts v.kind v.dims.0 (body_of s)
   body-facts = record {

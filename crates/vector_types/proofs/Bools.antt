@@ -1,24 +1,10 @@
--- Laws of truth values: what a disjunction that fails and a conjunction that holds tell, one that is not true, two that imply each other, and
--- choices by tests.
-use mathlib.Core.Path.{◌≡◌, refl, sym}
-use mathlib.Core.Bool.{Bool, true, false, cond, ◌&&◌, ◌||◌, true≢false, false≢true, and-eq-true_iff}
-
-pub or-both : (x y : Bool) → x || y ≡ false → (x ≡ false) × (y ≡ false)
-or-both true y e = absurd (true≢false e)
-or-both false y e = (refl, e)
+-- Laws of truth values that std lacks: a conjunction of three, and choices by tests.
+use Rattle.std.proofs.Common.{◌≡◌, refl, Bool, true, false, cond, ◌&&◌, ◌||◌}
+use mathlib.Core.Bool.{false≢true, and-eq-true_iff}
 
 pub and-three : (x y z : Bool) → x && y && z ≡ true → (x ≡ true) × (y ≡ true) × (z ≡ true)
 and-three true y z e = let (f, g) = (and-eq-true_iff y z).0 e in (refl, f, g)
 and-three false y z e = absurd (false≢true e)
-
-pub false-unless-true : (x : Bool) → (x ≡ true → ⊥) → x ≡ false
-false-unless-true true f = absurd (f refl)
-false-unless-true false f = refl
-
-pub same : (x y : Bool) → (x ≡ true → y ≡ true) → (y ≡ true → x ≡ true) → x ≡ y
-same true y f g = sym (f refl)
-same false true f g = g refl
-same false false f g = refl
 
 -- ---- choices
 pub cond-through : {A B : Type 0} (f : A → B) (b : Bool) (x y : A) → f (cond b x y) ≡ cond b (f x) (f y)

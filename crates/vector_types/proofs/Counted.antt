@@ -1,36 +1,25 @@
 -- How many readings a view holds, in any mode: the entries of its blob, or the dims of its row; 65,536 at the most. It may exceed dims (specs/Examples.antt).
-use mathlib.Core.Path.{◌≡◌, refl}
-use mathlib.Core.Bool.{false, true≢false}
-use mathlib.Core.List.{List}
-use Prim.Native.Nat.{ℕ, ◌≤◌}
-use native.Mathlib.Omega.{arith}
+use Rattle.std.proofs.Common.{◌≡◌, refl, false, true≢false, List, ℕ, ◌≤◌, arith, Ok}
 use Rattle.vector_types.specs.Answers.{readings_of}
 use Rattle.vector_types.specs.Layout.{max_blob_length, max_dims, has_byte, entry_count, dims_of}
 use Rattle.vector_types.specs.Read.{read_of}
 use Rattle.vector_types.specs.declared.VectorType.{VectorType}
-use Rattle.vector_types.specs.declared.VectorType.TheVariants.{Float32Dense, Float64Dense, Float32Sparse, Float1Bit, Float8}
+use Rattle.vector_types.specs.declared.VectorType.TheVariants.{Float32Sparse}
 use Rattle.vector_types.specs.declared.View.{View}
-use Rattle.vector_types.specs.declared.ReadAnswer.TheVariants.{Accepted}
 use Rattle.vector_types.specs.declared.Mode.{Mode}
 use Rattle.vector_types.proofs.Bodies.{entries-within}
 use Rattle.vector_types.proofs.Modes.{shown-plainly}
 use Rattle.vector_types.proofs.Views.{ViewFacts, view-facts}
 
 pub readings-are-dims : (k : VectorType) (d m : ℕ) → has_byte 9 k ≡ false → readings_of k d m ≡ d
-readings-are-dims Float32Dense d m h = refl
-readings-are-dims Float64Dense d m h = refl
 readings-are-dims Float32Sparse d m h = absurd (true≢false h)
-readings-are-dims Float1Bit d m h = refl
-readings-are-dims Float8 d m h = refl
+readings-are-dims _ d m h = refl
 
 few-of : (k : VectorType) (d m : ℕ) → d ≤ max_dims → m ≤ max_blob_length → readings_of k d m ≤ max_dims
-few-of Float32Dense d m few short = few
-few-of Float64Dense d m few short = few
 few-of Float32Sparse d m few short = omega arith
-few-of Float1Bit d m few short = few
-few-of Float8 d m few short = few
+few-of _ d m few short = few
 
-module _ (mode : Mode) (s : List ℕ) (v : View) (e : read_of mode s ≡ Accepted v) where
+module _ (mode : Mode) (s : List ℕ) (v : View) (e : read_of mode s ≡ Ok v) where
   facts : ViewFacts s v
   facts = view-facts s v (shown-plainly mode s v e)
 

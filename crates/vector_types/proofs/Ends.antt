@@ -1,20 +1,14 @@
 -- Where a blob's type byte stands, if it has one, and which kind it names.
-use mathlib.Core.Path.{◌≡◌, refl, ap, ◌∙◌}
-use mathlib.Core.Bool.{Bool, true, false, true≢false}
-use mathlib.Core.List.{List}
-use Prim.Native.Nat.{ℕ, ◌+◌, ◌-◌, ◌%◌, ◌≤◌}
-use native.Mathlib.Omega.{arith}
-use lib.ListN.{length, get_or}
-use borrow.Author.Tests.{eq-eqb, ne_eqb, eqb-true, eqb-false}
+use Rattle.std.proofs.Common.{◌≡◌, refl, ap, ◌∙◌, Bool, true, false, true≢false, List, ℕ, ◌+◌, ◌-◌, ◌%◌, ◌≤◌, arith, length, get_or, eq-eqb, ne_eqb, eqb-true, Ok}
+use Rattle.std.proofs.lemmas.Bool.{eqb-false}
 use Rattle.vector_types.specs.Layout.{has_byte, by_byte, has_even_length, named_kind, length_before_type}
 use Rattle.vector_types.specs.Read.{of_kind}
 use Rattle.vector_types.specs.declared.VectorType.{VectorType}
 use Rattle.vector_types.specs.declared.VectorType.TheVariants.{Float32Dense}
-use Rattle.vector_types.specs.declared.Named.TheVariants.{Kind}
 
 module _ (s : List ℕ) where
   -- an even length: no type byte
-  pub even-untyped : length s % 2 ≡ 0 → (named_kind s ≡ Kind Float32Dense) × (length_before_type s ≡ length s)
+  pub even-untyped : length s % 2 ≡ 0 → (named_kind s ≡ Ok Float32Dense) × (length_before_type s ≡ length s)
   unfolding named_kind length_before_type
   even-untyped h = let e = eq-eqb (length s % 2) 0 h in (rw e, rw e)
 
@@ -45,7 +39,7 @@ pub record Typed (s : List ℕ) : Type 0 where
   pub one_more : length s ≡ length_before_type s + 1
   pub even : length_before_type s % 2 ≡ 0
 
-pub named-typed : (s : List ℕ) (k : VectorType) → named_kind s ≡ Kind k → has_byte 1 k ≡ false → Typed s
+pub named-typed : (s : List ℕ) (k : VectorType) → named_kind s ≡ Ok k → has_byte 1 k ≡ false → Typed s
 unfolding named_kind
 named-typed s k e other = by-evenness (has_even_length s) refl
   where

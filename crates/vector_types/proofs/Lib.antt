@@ -10,9 +10,9 @@ pub mod Determined
 pub mod Ends
 pub mod Given
 pub mod Modes
+pub mod Refusals
 pub mod Rows
 pub mod SameKind
-pub mod Search
 pub mod Shapes
 pub mod Some
 pub mod Statements

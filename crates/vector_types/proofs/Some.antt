@@ -1,13 +1,7 @@
 -- A search finds the first place where the test holds, and nothing exactly if there is none; tests that agree at every place find the same.
-use mathlib.Core.Path.{◌≡◌, refl, sym, ap, ◌∙◌}
-use mathlib.Core.Logic.{◌≢◌}
-use mathlib.Core.Bool.{Bool, true, false, cond, true≢false}
-use Prim.Native.Nat.{ℕ, zero, suc, ◌+◌, ◌<◌, ◌≤◌}
-use native.Mathlib.Omega.{arith}
-use lib.Dec.{ltb}
-use borrow.Author.Tests.{ltb-true, lt-ltb, le-ltb}
-use Rattle.vector_types.specs.Search.{first_from, first_index, any_index}
-use Rattle.vector_types.proofs.Bools.{false-unless-true}
+use Rattle.std.proofs.Common.{◌≡◌, ◌≢◌, refl, sym, ap, ◌∙◌, Bool, true, false, cond, true≢false, ℕ, zero, suc, ◌+◌, ◌<◌, ◌≤◌, arith, ltb, ltb-true, lt-ltb, le-ltb, ⊎_elim, eq-or-lt_of_le, Some, None}
+use Rattle.std.proofs.lemmas.Bool.{false_from_ne_true}
+use Rattle.vector_types.specs.Search.{first_from, first_index, any_index, found_index}
 
 -- the test fails at the n places from i on
 abbrev Fails : (ℕ → Bool) → ℕ → ℕ → Type 0
@@ -55,16 +49,41 @@ module _ (p : ℕ → Bool) (n : ℕ) where
   first-true e = hit-first p n 0 (omega (arith, ltb-true (first_index p n) n e))
 
   pub before-first : (j : ℕ) → j < first_index p n → p j ≡ false
-  before-first j less = false-unless-true (p j) (λ q. omega (arith, hit-after p n 0 j (omega arith) (omega (arith, first-within p n 0)) q))
+  before-first j less = false_from_ne_true (p j) (λ q. omega (arith, hit-after p n 0 j (omega arith) (omega (arith, first-within p n 0)) q))
 
-  true-some : (j : ℕ) → j < n → p j ≡ true → any_index p n ≡ true
+  pub true-some : (j : ℕ) → j < n → p j ≡ true → any_index p n ≡ true
   true-some j m q = lt-ltb (first_index p n) n (omega (arith, hit-after p n 0 j (omega arith) (omega arith) q))
 
   pub some-false : any_index p n ≡ false → (j : ℕ) → j < n → p j ≡ false
-  some-false e j m = false-unless-true (p j) (λ q. true≢false (sym (true-some j m q) ∙ e))
+  some-false e j m = false_from_ne_true (p j) (λ q. true≢false (sym (true-some j m q) ∙ e))
 
   pub false-some : ((j : ℕ) → j < n → p j ≡ false) → any_index p n ≡ false
   false-some h = le-ltb (first_index p n) n (omega (arith, fails-from p n 0 (λ j l m. h j (omega arith))))
+
+  -- a search that stops at a hit after misses alone, and one that comes to the end
+  pub found_first : (j : ℕ) → j < n → p j ≡ true → ((i : ℕ) → i < j → p i ≡ false) → Some j ≡ found_index p n
+  found_first j less hit misses =
+      let upto : first_index p n ≤ j = hit-after p n 0 j (omega arith) (omega arith) hit in
+      let here : first_index p n ≡ j = ⊎_elim (λ e. e) (λ l. absurd (true≢false (sym (hit-first p n 0 (omega arith)) ∙ misses (first_index p n) l))) (eq-or-lt_of_le upto) in
+      rw (true-some j less hit, here)
+
+  pub found_none : ((j : ℕ) → j < n → p j ≡ false) → None ≡ found_index p n
+  found_none misses = rw (false-some misses)
+
+  -- what is found is the first place, and where nothing is found there is none
+  pub found-some : (j : ℕ) → found_index p n ≡ Some j → (any_index p n ≡ true) × (first_index p n ≡ j)
+  found-some j e = by-any (any_index p n) refl e
+    where
+      by-any : (b : Bool) → any_index p n ≡ b → cond b (Some (first_index p n)) None ≡ Some j → (any_index p n ≡ true) × (first_index p n ≡ j)
+      by-any true h found = (h, cc)
+      by-any false h found = absurd cc
+
+  pub found-no : found_index p n ≡ None → any_index p n ≡ false
+  found-no e = by-any (any_index p n) refl e
+    where
+      by-any : (b : Bool) → any_index p n ≡ b → cond b (Some (first_index p n)) None ≡ None → any_index p n ≡ false
+      by-any true h found = absurd cc
+      by-any false h found = h
 
 first_from-same : (p q : ℕ → Bool) (i n : ℕ) → ((j : ℕ) → i ≤ j → j < i + n → p j ≡ q j) → first_from p i n ≡ first_from q i n
 unfolding first_from
@@ -79,3 +98,6 @@ module _ (p q : ℕ → Bool) (n : ℕ) (h : (j : ℕ) → j < n → p j ≡ q j
 
   pub some_same : any_index p n ≡ any_index q n
   some_same = ap (λ (i : ℕ). ltb i n) first-same
+
+  pub found_same : found_index p n ≡ found_index q n
+  found_same = rw (some_same, first-same)

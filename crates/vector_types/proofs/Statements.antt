@@ -1,11 +1,7 @@
 -- The tests of the modes against the statements: a test finds nothing exactly if its statement holds of every place, those of 8 and 10 else the first.
-use mathlib.Core.Path.{◌≡◌, refl}
-use mathlib.Core.Bool.{Bool, true, false, false≢true}
-use mathlib.Core.Logic.{◌↔◌}
-use mathlib.Core.List.{List}
-use Prim.Native.Nat.{ℕ, zero, suc, ◌+◌, ◌-◌, ◌*◌, ◌<◌}
-use native.Mathlib.Omega.{arith}
-use borrow.Author.Tests.{ltb-true, leb-true, leb-false, lt-leb, eqb-false, ne_eqb}
+use Rattle.std.proofs.Common.{◌≡◌, refl, Bool, true, false, ◌↔◌, List, ℕ, zero, suc, ◌+◌, ◌-◌, ◌*◌, ◌<◌, arith, ltb-true, leb-true, leb-false, ne_eqb}
+use mathlib.Core.Bool.{false≢true}
+use Rattle.std.proofs.lemmas.Bool.{lt-leb, eqb-false}
 use Rattle.vector_types.specs.Search.{first_index, any_index}
 use Rattle.vector_types.specs.Layout.{index_at, is_outside, bit_at}
 use Rattle.vector_types.specs.Read.{is_not_above_previous, unused_set}

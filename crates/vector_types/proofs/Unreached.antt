@@ -1,32 +1,22 @@
 -- No blob ends in a dead outcome of the Rust's checks: where a type byte is looked at, an even number of bytes stands before it, and the data
 -- is as long as `vector_type` says.
-use mathlib.Core.Path.{◌≡◌, refl, sym, ap, ◌∙◌}
-use mathlib.Core.Bool.{Bool, true, false, cond, not, true≢false}
-use mathlib.Core.List.{List}
-use Prim.Native.Nat.{ℕ, ◌+◌, ◌-◌, ◌*◌, ◌%◌, ◌≤◌}
-use native.Mathlib.Omega.{arith}
-use lib.Dec.{ltb, leb, eqb}
-use lib.ListN.{length, get_or, take}
-use lib.Seq.{length-take-le}
-use borrow.Author.Tests.{eq-eqb, le-ltb, eqb-false, ltb-false}
+use Rattle.std.proofs.Common.{◌≡◌, refl, sym, ap, ◌∙◌, Bool, true, false, cond, not, true≢false, List, ℕ, ◌+◌, ◌-◌, ◌*◌, ◌%◌, ◌≤◌, arith, ltb, leb, eqb, length, get_or, take, length-take-le, eq-eqb, le-ltb, ltb-false, is_some}
+use Rattle.std.proofs.lemmas.Bool.{eqb-false}
 use Rattle.vector_types.specs.Layout.{ceil}
 use Rattle.vector_types.specs.Original.{Outcome, one_bit_empty, one_bit_odd, one_bit_trailing, one_bit_full, float8_under_two, float8_odd, float8_under_ten, float8_trailing, one_bit_no_dims, one_bit_length, float8_under_eight, float8_no_dims, float8_length, vector, dead_outcomes, NoneOf, one_bit_type, float8_type, by_type_byte, is_untyped, vector_type, from_data_with_dims, after_type, from_slice}
 use Rattle.vector_types.specs.OriginalNumbers.{answer_to}
-use Rattle.vector_types.specs.declared.ReadAnswer.{ReadAnswer}
-use Rattle.vector_types.specs.declared.ReadAnswer.TheVariants.{Accepted, Refused}
 use Rattle.vector_types.specs.declared.VectorType.TheVariants.{Float32Dense, Float1Bit, Float8}
 use Rattle.vector_types.proofs.Bools.{cond-through, cond_same}
 
--- the rules have no number for a dead outcome, and an answer for every other
-abbrev is_unnumbered : ReadAnswer → Bool
-is_unnumbered (Accepted v) = false
-is_unnumbered (Refused r) = eqb r.number 0
+-- the rules have no answer to a dead outcome, and one to every other
+abbrev is_answered : Outcome → Bool
+is_answered o = is_some (answer_to o)
 
-numbered-alive : (o : Outcome) → is_unnumbered (answer_to o) ≡ false → NoneOf dead_outcomes o
-numbered-alive o h = (other one_bit_odd refl, (other float8_odd refl, (other one_bit_length refl, (other float8_under_eight refl, tt))))
+answered-alive : (o : Outcome) → is_answered o ≡ true → NoneOf dead_outcomes o
+answered-alive o h = (other one_bit_odd refl, (other float8_odd refl, (other one_bit_length refl, (other float8_under_eight refl, tt))))
   where
-    other : (x : Outcome) → is_unnumbered (answer_to x) ≡ true → o ≡ x → ⊥
-    other x dead e = true≢false (sym dead ∙ ap (λ (y : Outcome). is_unnumbered (answer_to y)) (sym e) ∙ h)
+    other : (x : Outcome) → is_answered x ≡ false → o ≡ x → ⊥
+    other x dead e = true≢false (sym h ∙ ap is_answered e ∙ dead)
 
 -- the checks of kinds 3 and 4 without the dead ones, of n bytes before the type byte, the last of which is t
 abbrev live_one_bit : ℕ → ℕ → Outcome
@@ -68,21 +58,21 @@ even-before-type s h = omega (arith, eqb-false)
 
 -- the other kinds have no dead check
 module _ (s : List ℕ) where
-  untyped-numbered : is_unnumbered (answer_to (from_data_with_dims Float32Dense (take (length s) s) 0)) ≡ false
+  untyped-answered : is_answered (from_data_with_dims Float32Dense (take (length s) s) 0) ≡ true
   unfolding from_data_with_dims
-  untyped-numbered = simp (cond-through answer_to, cond-through is_unnumbered, cond_same)
+  untyped-answered = simp (cond-through is_answered, cond_same)
 
-  typed-numbered : (n : ℕ) → n ≤ length s → n % 2 ≡ 0 → (b t : ℕ) → is_unnumbered (answer_to (after_type (by_type_byte b n t) s)) ≡ false
+  typed-answered : (n : ℕ) → n ≤ length s → n % 2 ≡ 0 → (b t : ℕ) → is_answered (after_type (by_type_byte b n t) s) ≡ true
   unfolding by_type_byte from_data_with_dims
-  typed-numbered n inside even b t =
-      simp (cond-through (λ r. after_type r s), one-bit-live s n inside even t, float8-live s n inside even t, cond-through answer_to, cond-through is_unnumbered, cond_same)
+  typed-answered n inside even b t =
+      simp (cond-through (λ r. after_type r s), one-bit-live s n inside even t, float8-live s n inside even t, cond-through is_answered, cond_same)
 
 pub dead-outcomes-unreached : (s : List ℕ) → NoneOf dead_outcomes (from_slice s)
 unfolding from_slice vector_type
-dead-outcomes-unreached s = numbered-alive (from_slice s) (by_length (is_untyped s) refl)
+dead-outcomes-unreached s = answered-alive (from_slice s) (by_length (is_untyped s) refl)
   where
-    by_length : (b : Bool) → is_untyped s ≡ b → is_unnumbered (answer_to (from_slice s)) ≡ false
-    by_length true h = rw h (untyped-numbered s)
+    by_length : (b : Bool) → is_untyped s ≡ b → is_answered (from_slice s) ≡ true
+    by_length true h = rw h (untyped-answered s)
     by_length false h =
         let n = length s - 1 in
-        rw h (typed-numbered s n (omega arith) (even-before-type s h) (get_or s n 0) (get_or s (n - 1) 0))
+        rw h (typed-answered s n (omega arith) (even-before-type s h) (get_or s n 0) (get_or s (n - 1) 0))

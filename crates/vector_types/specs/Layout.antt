@@ -1,11 +1,11 @@
 -- The layouts of blobs: the table of docs/RULES.md, row by row.
-use Rattle.std.specs.Prelude.{ℕ, ◌+◌, ◌-◌, ◌*◌, ◌/◌, ◌%◌, ◌^◌, Bool, false, cond, not, ◌&&◌, ◌||◌, List, leb, eqb, length, get_or}
+use Rattle.std.specs.Prelude.{ℕ, ◌+◌, ◌-◌, ◌*◌, ◌/◌, ◌%◌, ◌^◌, Bool, false, cond, not, ◌&&◌, ◌||◌, List, leb, eqb, length, get_or, Result, Ok, Err}
 use Rattle.little_endian.specs.Bytes.{u32_at}
 use Rattle.vector_types.specs.Search.{any_index}
 use Rattle.vector_types.specs.declared.VectorType.{VectorType}
 use Rattle.vector_types.specs.declared.VectorType.TheVariants.{Float32Dense, Float64Dense, Float32Sparse, Float1Bit, Float8}
-use Rattle.vector_types.specs.declared.Named.{Named}
-use Rattle.vector_types.specs.declared.Named.TheVariants.{Kind, Unsupported, Unknown}
+use Rattle.vector_types.specs.declared.KindError.{KindError}
+use Rattle.vector_types.specs.declared.KindError.TheVariants.{Unsupported, Unknown}
 
 -- the limits: the longest blob, and the greatest dims
 abbrev pub max_blob_length : ℕ
@@ -34,22 +34,22 @@ abbrev pub has_trailing_count : VectorType → Bool
 has_trailing_count k = has_byte 3 k || has_byte 4 k
 
 -- what a type byte names: a kind, one that is not supported, or nothing known
-unfoldable pub by_byte : ℕ → Named
+unfoldable pub by_byte : ℕ → Result VectorType KindError
 by_byte b =
-    cond (eqb b 1) (Kind Float32Dense)
-    (cond (eqb b 2) (Kind Float64Dense)
-    (cond (eqb b 3) (Kind Float1Bit)
-    (cond (eqb b 4) (Kind Float8)
-    (cond (eqb b 9) (Kind Float32Sparse)
-    (cond (eqb b 5 || eqb b 6) Unsupported Unknown)))))
+    cond (eqb b 1) (Ok Float32Dense)
+    (cond (eqb b 2) (Ok Float64Dense)
+    (cond (eqb b 3) (Ok Float1Bit)
+    (cond (eqb b 4) (Ok Float8)
+    (cond (eqb b 9) (Ok Float32Sparse)
+    (cond (eqb b 5 || eqb b 6) (Err Unsupported) (Err Unknown))))))
 
 -- a blob of even length names no kind and is Float32Dense; of odd length, the last byte names it
 abbrev pub has_even_length : List ℕ → Bool
 has_even_length s = eqb (length s % 2) 0
 
-unfoldable pub named_kind : List ℕ → Named
+unfoldable pub named_kind : List ℕ → Result VectorType KindError
 unfolding by_byte
-named_kind s = cond (has_even_length s) (Kind Float32Dense) (by_byte (get_or s (length s - 1) 0))
+named_kind s = cond (has_even_length s) (Ok Float32Dense) (by_byte (get_or s (length s - 1) 0))
 
 -- n, how many bytes stand before the type byte: all, where there is none; and t, the last of these
 unfoldable pub length_before_type : List ℕ → ℕ
@@ -116,10 +116,9 @@ abbrev pub length_of : VectorType → List ℕ → ℕ
 length_of k s = (layout_row k s).body
 
 -- whether a blob is accepted, by its row and by the limits
-unfoldable pub blob_accepted : Named → List ℕ → Bool
-blob_accepted (Kind k) s = row_accepts k s && leb (length s) max_blob_length && leb (dims_of k s) max_dims
-blob_accepted Unsupported s = false
-blob_accepted Unknown s = false
+unfoldable pub blob_accepted : Result VectorType KindError → List ℕ → Bool
+blob_accepted (Ok k) s = row_accepts k s && leb (length s) max_blob_length && leb (dims_of k s) max_dims
+blob_accepted (Err e) s = false
 
 -- whether a body of m bytes is what a vector of d elements has; a sparse one has any number of entries
 unfoldable pub body_fits : VectorType → ℕ → ℕ → Bool

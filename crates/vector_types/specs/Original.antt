@@ -1,6 +1,6 @@
 -- The checks of the Rust's reader, to be laid beside vector_types.rs: `vector_type`, and then `from_data_with_dims` of the data that it
 -- lets through, as `from_slice` and `from_vec` call them. Every part of a condition ends in an outcome of its own.
-use Rattle.std.specs.Prelude.{ℕ, ◌+◌, ◌-◌, ◌*◌, ◌/◌, ◌%◌, ◌≡◌, Bool, cond, not, ◌||◌, List, [], ◌∷◌, ltb, leb, eqb, length, get_or, take}
+use Rattle.std.specs.Prelude.{ℕ, ◌+◌, ◌-◌, ◌*◌, ◌/◌, ◌%◌, ◌≡◌, Bool, cond, not, ◌||◌, List, [], ◌∷◌, ltb, leb, eqb, length, get_or, take, Result, Ok, Err}
 use Rattle.little_endian.specs.Bytes.{u32_at}
 use Rattle.vector_types.specs.Search.{first_index, any_index}
 use Rattle.vector_types.specs.Layout.{ceil, is_outside}
@@ -48,38 +48,37 @@ NoneOf [] o = Unit {0}
 NoneOf (x ∷ xs) o = (o ≡ x → ⊥) × NoneOf xs o
 
 -- what `vector_type` returns: a kind, how many bytes are data, and the dims where they are not told by the data; or an error
-pub data TypeResult : Type 0 where
-  ok : VectorType → ℕ → ℕ → TypeResult
-  err : Outcome → TypeResult
+abbrev pub TypeResult : Type 0
+TypeResult = Result (VectorType × ℕ × ℕ) Outcome
 
 -- the arms of the bytes 3 and 4, of n bytes before the type byte, the last of which is t
 unfoldable pub one_bit_type : ℕ → ℕ → TypeResult
 one_bit_type n t =
     let dims = 8 * n - t in
-    cond (eqb n 0) (err one_bit_empty)
-    (cond (not (eqb (n % 2) 0)) (err one_bit_odd)
-    (cond (ltb (8 * n) t) (err one_bit_trailing)
-    (cond (leb n (ceil dims 8)) (err one_bit_full)
-    (ok Float1Bit (ceil dims 8) dims))))
+    cond (eqb n 0) (Err one_bit_empty)
+    (cond (not (eqb (n % 2) 0)) (Err one_bit_odd)
+    (cond (ltb (8 * n) t) (Err one_bit_trailing)
+    (cond (leb n (ceil dims 8)) (Err one_bit_full)
+    (Ok (Float1Bit, ceil dims 8, dims)))))
 
 unfoldable pub float8_type : ℕ → ℕ → TypeResult
 float8_type n t =
-    cond (ltb n 2) (err float8_under_two)
-    (cond (not (eqb (n % 2) 0)) (err float8_odd)
-    (cond (ltb n 10) (err float8_under_ten)
-    (cond (ltb (n - 10) t) (err float8_trailing)
-    (ok Float8 (n - 2) (n - 10 - t)))))
+    cond (ltb n 2) (Err float8_under_two)
+    (cond (not (eqb (n % 2) 0)) (Err float8_odd)
+    (cond (ltb n 10) (Err float8_under_ten)
+    (cond (ltb (n - 10) t) (Err float8_trailing)
+    (Ok (Float8, n - 2, n - 10 - t)))))
 
 -- the match over the type byte
 unfoldable pub by_type_byte : ℕ → ℕ → ℕ → TypeResult
 by_type_byte b n t =
-    cond (eqb b 1) (ok Float32Dense n 0)
-    (cond (eqb b 2) (ok Float64Dense n 0)
+    cond (eqb b 1) (Ok (Float32Dense, n, 0))
+    (cond (eqb b 2) (Ok (Float64Dense, n, 0))
     (cond (eqb b 3) (one_bit_type n t)
     (cond (eqb b 4) (float8_type n t)
-    (cond (eqb b 5 || eqb b 6) (err unsupported_type)
-    (cond (eqb b 9) (ok Float32Sparse n 0)
-    (err unknown_type))))))
+    (cond (eqb b 5 || eqb b 6) (Err unsupported_type)
+    (cond (eqb b 9) (Ok (Float32Sparse, n, 0))
+    (Err unknown_type))))))
 
 -- whether a blob has no type byte to look at
 abbrev pub is_untyped : List ℕ → Bool
@@ -88,7 +87,7 @@ is_untyped s = eqb (length s % 2) 0
 unfoldable pub vector_type : List ℕ → TypeResult
 vector_type s =
     let n = length s - 1 in
-    cond (is_untyped s) (ok Float32Dense (length s) 0) (by_type_byte (get_or s n 0) n (get_or s (n - 1) 0))
+    cond (is_untyped s) (Ok (Float32Dense, length s, 0)) (by_type_byte (get_or s n 0) n (get_or s (n - 1) 0))
 
 -- of the data x, with explicit_dims e
 unfoldable pub from_data_with_dims : VectorType → List ℕ → ℕ → Outcome
@@ -113,8 +112,8 @@ from_data_with_dims Float8 x e =
     (vector Float8 e (length x))))
 
 abbrev pub after_type : TypeResult → List ℕ → Outcome
-after_type (ok k m e) s = from_data_with_dims k (take m s) e
-after_type (err o) s = o
+after_type (Ok (k, m, e)) s = from_data_with_dims k (take m s) e
+after_type (Err o) s = o
 
 -- `from_slice`: all checks in their order
 unfoldable pub from_slice : List ℕ → Outcome

@@ -2,7 +2,7 @@
 use Rattle.std.specs.Prelude.{ℕ, suc, ◌-◌, ◌*◌, ◌<◌, ◌≤◌, ◌≡◌, Bool, true, false, List}
 use Rattle.vector_types.specs.Layout.{index_at, bit_at}
 use Rattle.vector_types.specs.declared.Detail.{Detail}
-use Rattle.vector_types.specs.declared.Detail.TheVariants.{Nothing, Needs, Starts, Entry}
+use Rattle.vector_types.specs.declared.Detail.TheVariants.{Needs, Entry}
 
 -- each of the k indices of a sparse body is below d
 abbrev pub IndicesBelow : List ℕ → ℕ → ℕ → Type 0
@@ -35,13 +35,9 @@ UnusedZero s d m = (i : ℕ) → d ≤ i → i < 8 * m → bit_at s i ≡ 0
 
 -- whether a refusal names an entry, and whether it tells how long a buffer would have to be
 abbrev pub names_entry : Detail → Bool
-names_entry Nothing = false
-names_entry (Needs need) = false
-names_entry (Starts place) = false
 names_entry (Entry entry) = true
+names_entry _ = false
 
 abbrev pub tells_need : Detail → Bool
-tells_need Nothing = false
 tells_need (Needs need) = true
-tells_need (Starts place) = false
-tells_need (Entry entry) = false
+tells_need _ = false

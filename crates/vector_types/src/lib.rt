@@ -5,16 +5,17 @@ mod kinds;
 mod parts;
 mod reading;
 mod strictness;
+mod vector;
 
 ghost use Rattle.std.specs.Prelude.{◌≡◌};
-ghost use Rattle.vector_types.specs.Answers.{readings, readings_of, view_of, refusal, needing, starting, naming, refused};
+ghost use Rattle.vector_types.specs.Answers.{readings, readings_of, view_of, number_of, detail_of};
 
-pub use kinds::{is_same_kind, kind_of_byte, type_byte};
 pub use parts::{body, indices, values};
 pub use reading::{align4, first_outside, read};
+pub use vector::Vector;
 
 // The kinds of vectors, in the order of the Rust.
-#[derive(Clone, Copy)]
+#[derive(Clone, Copy, PartialEq, Eq)]
 pub enum VectorType {
     Float32Dense,
     Float64Dense,
@@ -23,36 +24,35 @@ pub enum VectorType {
     Float8,
 }
 
-// What a type byte names: a kind, one of the two kinds that are not supported, or nothing known.
-#[derive(Clone, Copy)]
-pub enum Named {
-    Kind(VectorType),
+// Why a byte names no kind: two bytes stand for kinds that exist and are not supported, every other for nothing known.
+#[derive(Clone, Copy, PartialEq, Eq)]
+pub enum KindError {
     Unsupported,
     Unknown,
 }
 
 // How many elements a vector has.
-#[derive(Clone, Copy)]
+#[derive(Clone, Copy, PartialEq, Eq)]
 pub struct Dims(pub usize);
 
 // How many bits of a 1-bit blob, its type byte apart, stand for no element.
-#[derive(Clone, Copy)]
+#[derive(Clone, Copy, PartialEq, Eq)]
 pub struct TrailingBits(pub usize);
 
 // How many bytes of a Float8 body stand between its elements and alpha.
-#[derive(Clone, Copy)]
+#[derive(Clone, Copy, PartialEq, Eq)]
 pub struct TrailingBytes(pub usize);
 
 // How many readings a vector holds. They are not its dims: of a sparse vector only stored entries count.
-#[derive(Clone, Copy)]
+#[derive(Clone, Copy, PartialEq, Eq)]
 pub struct Readings(pub usize);
 
 // What an accepted blob shows: its body is its first `length` bytes. The fields stand in the order in
 // which an answer is made fastest (docs/SPEED.md).
-#[derive(Clone, Copy)]
+#[derive(Clone, Copy, PartialEq, Eq)]
 pub struct View {
-    pub dims: Dims,
     pub kind: VectorType,
+    pub dims: Dims,
     pub readings: Readings,
     pub length: usize,
 }
@@ -63,10 +63,7 @@ fn readings_of(kind: VectorType, dims: Dims, length: usize) -> Readings
 {
     match kind {
         VectorType::Float32Sparse => Readings(length / 8),
-        VectorType::Float32Dense => Readings(dims.0),
-        VectorType::Float64Dense => Readings(dims.0),
-        VectorType::Float1Bit => Readings(dims.0),
-        VectorType::Float8 => Readings(dims.0),
+        _ => Readings(dims.0),
     }
 }
 
@@ -77,25 +74,42 @@ impl View {
     {
         let readings = readings_of(kind, dims, length);
         View {
-            dims,
             kind,
+            dims,
             readings,
             length,
         }
     }
 }
 
-// Why something is refused: the number of the rules, and what they have it carry.
-#[derive(Clone, Copy)]
-pub struct Refusal {
-    pub number: u8,
-    pub detail: Detail,
+// Why something is refused, in the order of the numbers of docs/RULES.md, which says when each is given.
+#[derive(Clone, Copy, PartialEq, Eq)]
+pub enum Refusal {
+    LengthOverLimit, // 1
+    TypeByte5Or6, // 2
+    TypeByteUnknown, // 3
+    NoTrailingCount, // 4
+    TrailingCountTooLarge, // 5
+    TrailingBitsTooFew, // 6
+    BodyLengthUnfit, // 7
+    IndexNotBelowDims(usize), // 8, the first entry whose index is not below dims, counted from 0
+    DimsOverLimit, // 9
+    SparseOrder(usize), // 10, the first entry whose index is not above the one before it
+    UnusedBitSet, // 11
+    DimsDiffer, // 12
+    KindsDiffer, // 13
+    L2OfFloat1Bit, // 14
+    OutputTooShort(usize), // 15, how many bytes the output would have to have
+    WriterDims0, // 16
+    ScratchTooShort(usize), // 17, how many bytes scratch would have to have
+    BothDistancesNan, // 18
+    FileEndsInside(usize), // 19, the place in the file where that vector starts
 }
 
 // Needs: how many bytes a buffer that is too short would have to have. Starts: the place in a file where
 // the vector starts inside which the file ends. Entry: which entry of a sparse vector is wrong, counted
 // from 0.
-#[derive(Clone, Copy)]
+#[derive(Clone, Copy, PartialEq, Eq)]
 pub enum Detail {
     Nothing,
     Needs(usize),
@@ -104,66 +118,52 @@ pub enum Detail {
 }
 
 impl Refusal {
-    // One that carries nothing.
-    pub fn by_number(number: u8) -> Self
-        ensures { result ≡ refusal number }
+    // The number of the rules.
+    pub fn number(self) -> u8
+        ensures { result ≡ number_of self }
     {
-        Refusal {
-            number,
-            detail: Detail::Nothing,
+        match self {
+            Refusal::LengthOverLimit => 1,
+            Refusal::TypeByte5Or6 => 2,
+            Refusal::TypeByteUnknown => 3,
+            Refusal::NoTrailingCount => 4,
+            Refusal::TrailingCountTooLarge => 5,
+            Refusal::TrailingBitsTooFew => 6,
+            Refusal::BodyLengthUnfit => 7,
+            Refusal::IndexNotBelowDims(_) => 8,
+            Refusal::DimsOverLimit => 9,
+            Refusal::SparseOrder(_) => 10,
+            Refusal::UnusedBitSet => 11,
+            Refusal::DimsDiffer => 12,
+            Refusal::KindsDiffer => 13,
+            Refusal::L2OfFloat1Bit => 14,
+            Refusal::OutputTooShort(_) => 15,
+            Refusal::WriterDims0 => 16,
+            Refusal::ScratchTooShort(_) => 17,
+            Refusal::BothDistancesNan => 18,
+            Refusal::FileEndsInside(_) => 19,
         }
     }
 
-    // One that carries how long a buffer would have to be.
-    pub fn needing(number: u8, need: usize) -> Self
-        ensures { result ≡ needing number need }
+    // What the rules have it carry.
+    pub fn detail(self) -> Detail
+        ensures { result ≡ detail_of self }
     {
-        Refusal {
-            number,
-            detail: Detail::Needs(need),
-        }
-    }
-
-    // One that carries where a vector starts in its file.
-    pub fn starting(number: u8, place: usize) -> Self
-        ensures { result ≡ starting number place }
-    {
-        Refusal {
-            number,
-            detail: Detail::Starts(place),
-        }
-    }
-
-    // One that names the entry that is wrong.
-    pub fn naming(number: u8, entry: usize) -> Self
-        ensures { result ≡ naming number entry }
-    {
-        Refusal {
-            number,
-            detail: Detail::Entry(entry),
+        match self {
+            Refusal::IndexNotBelowDims(entry) | Refusal::SparseOrder(entry) => Detail::Entry(entry),
+            Refusal::OutputTooShort(need) | Refusal::ScratchTooShort(need) => Detail::Needs(need),
+            Refusal::FileEndsInside(place) => Detail::Starts(place),
+            _ => Detail::Nothing,
         }
     }
 }
 
 // How a blob is read. Plain: as the Rust reads it. Strict: besides, each sparse index has to be above the
 // one before it, and unused bits have to be zero.
-#[derive(Clone, Copy)]
+#[derive(Clone, Copy, PartialEq, Eq)]
 pub enum Mode {
     Plain,
     Strict,
-}
-
-#[derive(Clone, Copy)]
-pub enum ReadAnswer {
-    Accepted(View),
-    Refused(Refusal),
-}
-
-// Refuses a blob by a number of the rules.
-fn refuse(number: u8) -> ReadAnswer
-    ensures { result ≡ refused (refusal number) }
-{
-    ReadAnswer::Refused(Refusal::by_number(number))
 }
 
 // The longest blob, and the most elements of a vector.

@@ -6,19 +6,17 @@ ghost use Rattle.vector_types.specs.declared.Mode.TheVariants.{Plain};
 ghost use Rattle.vector_types.specs.Parts.{half_of, shown_half, body_of, values_of, indices_of, past};
 
 use crate::reading::read;
-use crate::{Mode, ReadAnswer, VectorType};
+use crate::{Mode, Vector, VectorType};
 
 // The body; nothing where the blob is refused.
+#[tactic(auto, unfolding(crate::specs::Parts::body_of))]
 pub fn body(blob: &[u8]) -> &[u8]
     ensures result_value { result.now ≡ body_of blob.now }
     ensures ref_ptr_value { result.ref_ptr ≡ blob.entry.ref_ptr }
 {
-    match read(Mode::Plain, blob) {
-        ReadAnswer::Accepted(view) => {
-            let length = view.length;
-            &blob[..length]
-        }
-        ReadAnswer::Refused(_) => &blob[..0],
+    match Vector::from_slice(blob) {
+        Ok(vector) => vector.body(),
+        Err(_) => &blob[..0],
     }
 }
 
@@ -27,10 +25,7 @@ fn half_of(kind: VectorType, length: usize) -> usize
 {
     match kind {
         VectorType::Float32Sparse => length / 2,
-        VectorType::Float32Dense => 0,
-        VectorType::Float64Dense => 0,
-        VectorType::Float1Bit => 0,
-        VectorType::Float8 => 0,
+        _ => 0,
     }
 }
 
@@ -40,15 +35,13 @@ fn half(blob: &[u8]) -> usize
     ensures result_in_bounds { 2 * result ≤ length blob.now }
 {
     match read(Mode::Plain, blob) {
-        ReadAnswer::Accepted(view) => {
-            let kind = view.kind;
-            half_of(kind, view.length)
-        }
-        ReadAnswer::Refused(_) => 0,
+        Ok(view) => half_of(view.kind, view.length),
+        Err(_) => 0,
     }
 }
 
 // The values of a sparse blob; nothing where it is refused or of another kind.
+#[tactic(auto, unfolding(crate::specs::Parts::values_of))]
 pub fn values(blob: &[u8]) -> &[u8]
     ensures result_value { result.now ≡ values_of blob.now }
     ensures ref_ptr_value { result.ref_ptr ≡ blob.entry.ref_ptr }
@@ -58,6 +51,7 @@ pub fn values(blob: &[u8]) -> &[u8]
 }
 
 // The indices of a sparse blob, right after its values; nothing where it is refused or of another kind.
+#[tactic(auto, unfolding(crate::specs::Parts::indices_of))]
 pub fn indices(blob: &[u8]) -> &[u8]
     ensures result_value { result.now ≡ indices_of blob.now }
     ensures ref_ptr_value { result.ref_ptr ≡ past blob.entry.ref_ptr (shown_half (read_of Plain blob.now)) }

@@ -1,30 +1,26 @@
 // The tests of the strict mode: sparse indices rise, and unused bits are zero.
 ghost use Rattle.std.specs.Prelude.{◌≡◌, ◌*◌, ◌-◌, ◌≤◌, ◌<◌, length};
-ghost use Rattle.vector_types.specs.Search.{first_index, any_index};
+ghost use Rattle.vector_types.specs.Search.{found_index, any_index};
 ghost use Rattle.vector_types.specs.Layout.{ceil};
 ghost use Rattle.vector_types.specs.Read.{read_of, is_not_above_previous, unused_set};
-ghost use Rattle.vector_types.specs.declared.ReadAnswer.TheVariants.{Accepted};
 ghost use Rattle.vector_types.specs.declared.Mode.TheVariants.{Plain, Strict};
 
-use crate::{ReadAnswer, Refusal, VectorType, View, refuse};
+use crate::{Refusal, VectorType, View};
 
-// The first of the count indices of a sparse body that is not above the one before it, or count. Entry 0
-// has none before it.
-fn first_not_above_previous(s: &[u8], count: usize) -> usize
+// The first of the count entries of a sparse body whose index is not above the one before it, if there is one. Entry
+// 0 has none before it.
+fn first_not_above_previous(s: &[u8], count: usize) -> Option<usize>
     requires { 8 * count ≤ length s.now }
-    ensures { result ≡ first_index (is_not_above_previous s.now count) count }
+    ensures { result ≡ found_index (is_not_above_previous s.now count) count }
 {
-    let mut j = 1;
-    while j < count {
-        let previous = j - 1;
-        let before = little_endian::u32_at(s, 4 * count + 4 * previous);
-        let index = little_endian::u32_at(s, 4 * count + 4 * j);
+    for entry in 1..count {
+        let before = little_endian::u32_at(s, 4 * count + 4 * (entry - 1));
+        let index = little_endian::u32_at(s, 4 * count + 4 * entry);
         if index <= before {
-            return j;
+            return Some(entry);
         }
-        j += 1;
     }
-    count
+    None
 }
 
 // Whether a bit past dims is set in the last byte of a 1-bit body.
@@ -40,28 +36,22 @@ fn unused_set(s: &[u8], dims: usize) -> bool
 }
 
 // The view that the plain mode shows, unless a strict test refuses it.
-pub(crate) fn check_strict(blob: &[u8], view: View) -> ReadAnswer
-    requires { read_of Plain blob.now ≡ Accepted view }
+pub(crate) fn check_strict(blob: &[u8], view: View) -> Result<View, Refusal>
+    requires { read_of Plain blob.now ≡ Ok view }
     ensures { result ≡ read_of Strict blob.now }
 {
-    let kind = view.kind;
-    match kind {
+    match view.kind {
         VectorType::Float32Sparse => {
-            let count = view.length / 8;
-            let wrong = first_not_above_previous(blob, count);
-            if wrong < count {
-                return ReadAnswer::Refused(Refusal::naming(10, wrong));
+            if let Some(entry) = first_not_above_previous(blob, view.length / 8) {
+                return Err(Refusal::SparseOrder(entry));
             }
-            ReadAnswer::Accepted(view)
         }
         VectorType::Float1Bit => {
             if unused_set(blob, view.dims.0) {
-                return refuse(11);
+                return Err(Refusal::UnusedBitSet);
             }
-            ReadAnswer::Accepted(view)
         }
-        VectorType::Float32Dense => ReadAnswer::Accepted(view),
-        VectorType::Float64Dense => ReadAnswer::Accepted(view),
-        VectorType::Float8 => ReadAnswer::Accepted(view),
+        _ => {}
     }
+    Ok(view)
 }
