@@ -2,6 +2,7 @@
 use mathlib.Core.Path.{◌≡◌, refl, sym, ap, ◌∙◌}
 use mathlib.Core.Bool.{true, not, and-eq-true_iff}
 use mathlib.Core.List.{List}
+use Rattle.std.proofs.Common.{Result, Ok, Err, None}
 use Prim.Native.Nat.{ℕ, ◌+◌, ◌-◌, ◌*◌, ◌%◌, ◌≤◌}
 use native.Mathlib.Omega.{arith}
 use lib.Dec.{leb, eqb}
@@ -9,7 +10,7 @@ use lib.ListN.{length, length-append}
 use borrow.Author.Tests.{eqb-true, leb-true}
 use Rattle.little_endian.specs.Bytes.{AreBytes}
 use Rattle.little_endian.proofs.Numbers.{length-bytes_of}
-use Rattle.vector_types.specs.Answers.{none, first_given}
+use Rattle.vector_types.specs.Answers.{first_given}
 use Rattle.vector_types.specs.Search.{any_index}
 use Rattle.vector_types.specs.Layout.{ceil, named_kind, length_before_type, trailing_count, entry_count, sparse_dims, row_accepts, dims_of, length_of, is_outside, layout_row}
 use Rattle.vector_types.specs.Read.{read_of}
@@ -18,11 +19,8 @@ use Rattle.blob_writer.specs.Write.{tail_of, blob_of, write_refusals}
 use Rattle.blob_writer.specs.Rewritten.{rewritten, rewritten_as}
 use Rattle.vector_types.specs.declared.View.{View}
 use Rattle.vector_types.specs.declared.Refusal.{Refusal}
-use Rattle.vector_types.specs.declared.ReadAnswer.{ReadAnswer}
 use Rattle.vector_types.specs.declared.VectorType.{VectorType}
-use Rattle.vector_types.specs.declared.Named.TheVariants.{Kind}
 use Rattle.vector_types.specs.declared.VectorType.TheVariants.{Float32Dense, Float64Dense, Float32Sparse, Float1Bit, Float8}
-use Rattle.vector_types.specs.declared.ReadAnswer.TheVariants.{Accepted, Refused}
 use Rattle.vector_types.specs.declared.Mode.TheVariants.{Plain}
 use Rattle.vector_types.proofs.Bodies.{length-body, body-facts}
 use Rattle.vector_types.proofs.Views.{view-facts, view_made}
@@ -36,7 +34,7 @@ record TailRoom (k : VectorType) (s : List ℕ) : Type 0 where
   room : length_of k s + length (tail_of k (dims_of k s)) ≤ length s
   lost : AreBytes s → length s ≤ length_of k s + length (tail_of k (dims_of k s)) + 30
 
-tail-room : (k : VectorType) (s : List ℕ) → named_kind s ≡ Kind k → row_accepts k s ≡ true → TailRoom k s
+tail-room : (k : VectorType) (s : List ℕ) → named_kind s ≡ Ok k → row_accepts k s ≡ true → TailRoom k s
 unfolding tail_of layout_row
 tail-room Float32Dense s names row = record { room = omega (arith, before-within s); lost = λ _. omega (arith, before-within s) }
 tail-room Float64Dense s names row =
@@ -68,14 +66,14 @@ tail-room Float8 s names row =
     record { room = omega (arith, leb-true); lost = λ _. omega (arith, leb-true) }
 
 -- ---- the blob of a view: it can be written, is no longer than the one that was read, reads as that one, and stays
-pub rewritten-as : (s : List ℕ) (r : ReadAnswer) → read_of Plain s ≡ r → rewritten s ≡ rewritten_as r s
+pub rewritten-as : (s : List ℕ) (r : Result View Refusal) → read_of Plain s ≡ r → rewritten s ≡ rewritten_as r s
 unfolding rewritten
-rewritten-as s r e = ap (λ (r : ReadAnswer). rewritten_as r s) e
+rewritten-as s r e = ap (λ (r : Result View Refusal). rewritten_as r s) e
 
 abbrev pub blob_for : View → List ℕ → List ℕ
 blob_for v s = blob_of v.kind v.dims.0 (body_of s)
 
-module _ (s : List ℕ) (v : View) (e : read_of Plain s ≡ Accepted v) where
+module _ (s : List ℕ) (v : View) (e : read_of Plain s ≡ Ok v) where
   view-tail-room : TailRoom v.kind s
   view-tail-room = let t = view-facts s v e in tail-room v.kind s t.names t.accepts
 
@@ -87,7 +85,7 @@ module _ (s : List ℕ) (v : View) (e : read_of Plain s ≡ Accepted v) where
   unfolding blob_of
   blob-little-shorter bytes = let t = view-facts s v e in rw (length-append, length-body s v e, t.sized, t.long) (view-tail-room.lost bytes)
 
-  pub rewritable : first_given (write_refusals v.kind v.dims.0 (body_of s)) ≡ none
+  pub rewritable : first_given (write_refusals v.kind v.dims.0 (body_of s)) ≡ None
   rewritable =
       let b = body-facts s v e in
       unrefused v.kind v.dims.0 (body_of s)
@@ -99,21 +97,21 @@ module _ (s : List ℕ) (v : View) (e : read_of Plain s ≡ Accepted v) where
         elements = b.elements;
       })
 
-  pub blob-same : (read_of Plain (blob_for v s) ≡ Accepted v) × (body_of (blob_for v s) ≡ body_of s)
+  pub blob-same : (read_of Plain (blob_for v s) ≡ Ok v) × (body_of (blob_for v s) ≡ body_of s)
   blob-same = let (view, body) = reads-back v.kind v.dims.0 (body_of s) rewritable in
-      ((rw (length-body s v e) at view) ∙ ap Accepted (view_made s v e), body)
+      ((rw (length-body s v e) at view) ∙ ap Ok (view_made s v e), body)
 
   blob-once : rewritten (blob_for v s) ≡ blob_for v s
-  blob-once = rewritten-as (blob_for v s) (Accepted v) blob-same.0 ∙ rw blob-same.1
+  blob-once = rewritten-as (blob_for v s) (Ok v) blob-same.0 ∙ rw blob-same.1
 
 -- ---- the same of any blob: one that is refused is not rewritten
-pub rewritten-by : (s : List ℕ) (P : List ℕ → Type 0) → ((v : View) → read_of Plain s ≡ Accepted v → P (blob_for v s))
-    → ((r : Refusal) → read_of Plain s ≡ Refused r → P s) → P (rewritten s)
+pub rewritten-by : (s : List ℕ) (P : List ℕ → Type 0) → ((v : View) → read_of Plain s ≡ Ok v → P (blob_for v s))
+    → ((r : Refusal) → read_of Plain s ≡ Err r → P s) → P (rewritten s)
 rewritten-by s P view refusal = by_answer (read_of Plain s) refl
   where
-    by_answer : (r : ReadAnswer) → read_of Plain s ≡ r → P (rewritten s)
-    by_answer (Accepted v) e = rw (rewritten-as s (Accepted v) e) (view v e)
-    by_answer (Refused r) e = rw (rewritten-as s (Refused r) e) (refusal r e)
+    by_answer : (r : Result View Refusal) → read_of Plain s ≡ r → P (rewritten s)
+    by_answer (Ok v) e = rw (rewritten-as s (Ok v) e) (view v e)
+    by_answer (Err r) e = rw (rewritten-as s (Err r) e) (refusal r e)
 
 pub rewritten-no-longer : (s : List ℕ) → length (rewritten s) ≤ length s
 rewritten-no-longer s = rewritten-by s (λ w. length w ≤ length s) (blob-no-longer s) (λ r e. omega arith)
@@ -123,8 +121,8 @@ rewritten-little-shorter s bytes =
     rewritten-by s (λ w. length s ≤ length w + 30) (λ v e. blob-little-shorter s v e bytes) (λ r e. omega arith)
 
 pub rewritten-once : (s : List ℕ) → rewritten (rewritten s) ≡ rewritten s
-rewritten-once s = rewritten-by s (λ w. rewritten w ≡ w) (blob-once s) (λ r. rewritten-as s (Refused r))
+rewritten-once s = rewritten-by s (λ w. rewritten w ≡ w) (blob-once s) (λ r. rewritten-as s (Err r))
 
 -- two blobs of one view and body become one
-pub rewritten-alike : (s t : List ℕ) (v : View) → read_of Plain s ≡ Accepted v → read_of Plain t ≡ Accepted v → body_of s ≡ body_of t → rewritten s ≡ rewritten t
-rewritten-alike s t v e f body = rewritten-as s (Accepted v) e ∙ rw body (sym (rewritten-as t (Accepted v) f))
+pub rewritten-alike : (s t : List ℕ) (v : View) → read_of Plain s ≡ Ok v → read_of Plain t ≡ Ok v → body_of s ≡ body_of t → rewritten s ≡ rewritten t
+rewritten-alike s t v e f body = rewritten-as s (Ok v) e ∙ rw body (sym (rewritten-as t (Ok v) f))

@@ -1,26 +1,23 @@
 -- Laws of what follows a body: how long it is, that its count is a byte, and how it is stored.
-use mathlib.Core.Path.{◌≡◌, refl}
-use mathlib.Core.Bool.{Bool, true, false}
-use mathlib.Core.List.{List, [], ◌∷◌}
+use mathlib.Core.Path.{◌≡◌, sym}
+use mathlib.Core.List.{List, [], ◌∷◌, ◌++◌}
 use Prim.Native.Nat.{ℕ, ◌+◌, ◌-◌, ◌%◌, ◌<◌, ◌≤◌}
 use native.Mathlib.Omega.{arith}
-use lib.Dec.{eqb}
+use Rattle.std.proofs.lemmas.Bool.Decides.{nat_tests}
 use lib.ListN.{length, set, length-append}
-use borrow.Author.Tests.{eqb-true, eqb-false}
 use Rattle.promises.specs.Onto.{onto}
 use Rattle.promises.proofs.Onto.{onto-put}
+use Rattle.little_endian.specs.Bytes.{bytes_of, put}
 use Rattle.little_endian.proofs.Numbers.{length-bytes_of}
+use Rattle.little_endian.proofs.Put.{put_front}
 use Rattle.vector_types.specs.Layout.{ceil}
-use Rattle.blob_writer.specs.Write.{zero_if, filler, trailing_bits, tail_of, blob_of}
+use Rattle.blob_writer.specs.Write.{filler, trailing_bits, tail_of, blob_of}
 use Rattle.vector_types.specs.declared.VectorType.{VectorType}
 use Rattle.vector_types.specs.declared.VectorType.TheVariants.{Float32Dense, Float64Dense, Float32Sparse, Float1Bit, Float8}
 
 -- one byte after an even body
 pub length-filler : (m : ℕ) → length (filler m) ≡ 1 - m % 2
-length-filler m = by-evenness (eqb (m % 2) 0) refl where
-  by-evenness : (b : Bool) → eqb (m % 2) 0 ≡ b → length (zero_if b) ≡ 1 - m % 2
-  by-evenness true e = omega (arith, eqb-true (m % 2) 0 e)
-  by-evenness false e = omega (arith, eqb-false (m % 2) 0 e)
+length-filler m = grind (arith, nat_tests)
 
 pub trailing_bits-byte : (d : ℕ) → trailing_bits d < 256
 trailing_bits-byte d = omega (arith, length-filler (ceil d 8))
@@ -41,9 +38,9 @@ pub length-blob : (k : VectorType) (d : ℕ) (body : List ℕ) → length (blob_
 unfolding blob_of
 length-blob k d body = length-append body (tail_of k d)
 
--- bytes stored one after another
-pub two-put : (l : List ℕ) (a b : ℕ) → 2 ≤ length l → set (set l 0 a) 1 b ≡ onto (a ∷ b ∷ []) l
-two-put l a b h = (onto-put (a ∷ []) l (set l 0 a) b 1 refl (onto-put [] l l a 0 refl refl (omega arith)).1 (omega arith)).1
+-- the type byte is stored after the four bytes of the dims
+pub sparse-put : (l : List ℕ) (d : ℕ) → 5 ≤ length l → set (put l 0 (bytes_of 4 d)) 4 9 ≡ onto (bytes_of 4 d ++ (9 ∷ [])) l
+sparse-put l d h = (onto-put (bytes_of 4 d) l (put l 0 (bytes_of 4 d)) 9 4 (sym (length-bytes_of 4 d)) (put_front l (bytes_of 4 d)) (omega arith)).1
 
-pub three-put : (l : List ℕ) (a b n : ℕ) → 3 ≤ length l → set (set (set l 0 a) 1 b) 2 n ≡ onto (a ∷ b ∷ n ∷ []) l
-three-put l a b n h = (onto-put (a ∷ b ∷ []) l (set (set l 0 a) 1 b) n 2 refl (two-put l a b (omega arith)) (omega arith)).1
+-- what the code of the writer is proved by
+pub ruleset tails = (length-filler, trailing_bits-byte, length-sparse, tail-short, length-blob, sparse-put)

@@ -1,9 +1,11 @@
 -- Blobs that come out of reading and writing as they went in: Float64Dense, sparse, and Float32Dense with no type byte.
-use mathlib.Core.Path.{◌≡◌, refl, sym, ap, ◌∙◌}
-use mathlib.Core.Bool.{Bool, true, false, cond, ◌||◌, and-eq-true_iff, true≢false}
+use mathlib.Core.Path.{◌≡◌, refl, sym, ◌∙◌}
+use mathlib.Core.Bool.{false, and-eq-true_iff}
 use mathlib.Core.List.{List, [], ◌∷◌}
+use Rattle.std.proofs.Common.{Ok}
 use Prim.Native.Nat.{ℕ, suc, ◌+◌, ◌-◌, ◌*◌, ◌%◌}
 use native.Mathlib.Omega.{arith}
+use Rattle.std.proofs.lemmas.Bool.Decides.{nat_tests}
 use lib.Dec.{eqb}
 use lib.ListN.{length, get_or, take, drop, take-append-drop, drop_of_length-le}
 use lib.Seq.{drop-cons, drop-drop, drop-length}
@@ -12,44 +14,24 @@ use Rattle.little_endian.specs.Bytes.{bytes_of, AreBytes}
 use Rattle.little_endian.proofs.Numbers.{bytes_of-number_at}
 use Rattle.vector_types.specs.Answers.{accepted_as}
 use Rattle.vector_types.specs.Layout.{has_byte, byte_of, named_kind, by_byte, length_before_type, entry_count, layout_row}
-use Rattle.vector_types.specs.Read.{of_kind, read_of}
+use Rattle.vector_types.specs.Read.{read_of}
 use Rattle.blob_writer.specs.Write.{tail_of, blob_of}
 use Rattle.blob_writer.specs.Rewritten.{rewritten}
 use Rattle.vector_types.specs.declared.VectorType.{VectorType}
-use Rattle.vector_types.specs.declared.Named.{Named}
-use Rattle.vector_types.specs.declared.Named.TheVariants.{Kind, Unsupported, Unknown}
-use Rattle.vector_types.specs.declared.VectorType.TheVariants.{Float32Dense, Float64Dense, Float32Sparse, Float1Bit, Float8}
+use Rattle.vector_types.specs.declared.VectorType.TheVariants.{Float32Dense, Float64Dense, Float32Sparse}
 use Rattle.vector_types.specs.declared.Mode.TheVariants.{Plain}
 use Rattle.vector_types.proofs.Bodies.{body_is}
 use Rattle.vector_types.proofs.Views.{view-facts}
 use Rattle.vector_types.proofs.Ends.{even-untyped, odd_typed, named-typed}
 use Rattle.blob_writer.proofs.Rewritten.{rewritten-as}
 
--- ---- a byte that names a kind is that kind's
-abbrev byte_named : Named → ℕ
-byte_named (Kind k) = byte_of k
-byte_named Unsupported = 0
-byte_named Unknown = 0
-
-module _ (b : ℕ) (k : VectorType) where
-  row : (this : VectorType) (c : Bool) (rest : Named) → eqb b (byte_of this) ≡ c → (rest ≡ Kind k → b ≡ byte_of k)
-      → cond c (Kind this) rest ≡ Kind k → b ≡ byte_of k
-  row this true rest e next names = eqb-true b (byte_of this) e ∙ ap byte_named names
-  row this false rest e next names = next names
-
-  unnamed : (c : Bool) → cond c Unsupported Unknown ≡ Kind k → b ≡ byte_of k
-  unnamed true names = absurd (true≢false (sym (ap (λ (n : Named). of_kind n (λ _. true)) names)))
-  unnamed false names = absurd (true≢false (sym (ap (λ (n : Named). of_kind n (λ _. true)) names)))
-
-  named-byte : by_byte b ≡ Kind k → b ≡ byte_of k
-  unfolding by_byte
-  named-byte =
-      row Float32Dense (eqb b 1) _ refl
-      (row Float64Dense (eqb b 2) _ refl
-      (row Float1Bit (eqb b 3) _ refl (row Float8 (eqb b 4) _ refl (row Float32Sparse (eqb b 9) _ refl (unnamed (eqb b 5 || eqb b 6))))))
+-- a byte that names a kind is that kind's
+named-byte : (b : ℕ) (k : VectorType) → by_byte b ≡ Ok k → b ≡ byte_of k
+unfolding by_byte
+named-byte b k names = grind (arith, nat_tests)
 
 -- what stands after the bytes before the type byte: that byte
-type-byte : (s : List ℕ) (k : VectorType) → named_kind s ≡ Kind k → has_byte 1 k ≡ false → drop (length_before_type s) s ≡ byte_of k ∷ []
+type-byte : (s : List ℕ) (k : VectorType) → named_kind s ≡ Ok k → has_byte 1 k ≡ false → drop (length_before_type s) s ≡ byte_of k ∷ []
 type-byte s k names other =
     let last = named-typed s k names other in
     let byte = named-byte (get_or s (length_before_type s) 0) k (sym (odd_typed s (length_before_type s) last.one_more last.even).0 ∙ names) in

@@ -1,35 +1,34 @@
 -- What is written reads back as the same kind, dims and body, with that body's readings: a kind at a time, then as the writer's caller has it.
-use mathlib.Core.Path.{◌≡◌, refl, sym, ap, ◌∙◌}
-use mathlib.Core.Bool.{Bool, true, false, cond, ◌&&◌}
+use mathlib.Core.Path.{◌≡◌, refl, ap, ◌∙◌}
+use mathlib.Core.Bool.{true, false, ◌&&◌}
 use mathlib.Core.List.{List, [], ◌∷◌, ◌++◌, append-nil, append_assoc}
-use Prim.Native.Nat.{ℕ, suc, ◌+◌, ◌-◌, ◌*◌, ◌/◌, ◌%◌, ◌<◌, ◌≤◌}
+use Rattle.std.proofs.Common.{Result, Ok, Err, None}
+use Prim.Native.Nat.{ℕ, ◌+◌, ◌-◌, ◌*◌, ◌/◌, ◌%◌, ◌<◌, ◌≤◌}
 use native.Mathlib.Omega.{arith}
-use lib.Dec.{ltb, eqb}
-use lib.ListN.{length, take, drop, length-append}
+use lib.Dec.{eqb}
+use lib.ListN.{length, take, drop, length-append, length-drop}
 use lib.Seq.{take-append_seam, take_at}
 use borrow.Author.Tests.{lt-ltb, le-ltb, ltb-false, eqb-true, eqb-false, not-false}
 use Rattle.little_endian.specs.Bytes.{bytes_of, u32_at}
 use Rattle.little_endian.proofs.Numbers.{number_at-left, number_at-right, number_at-bytes_of}
-use Rattle.vector_types.specs.Answers.{Given, none, given, first_given, unless, readings_of, view_of, accepted_as, needing}
+use Rattle.vector_types.specs.Answers.{first_given, test_room, readings_of, view_of, accepted_as}
 use Rattle.vector_types.specs.Layout.{max_blob_length, max_dims, ceil, has_trailing_count, body_fits, by_byte, has_index_outside}
 use Rattle.vector_types.specs.Read.{read_of}
 use Rattle.vector_types.specs.Parts.{body_of}
-use Rattle.blob_writer.specs.Answers.{written, write_refused}
 use Rattle.blob_writer.specs.Write.{filler, trailing_bits, trailing_bytes, tail_of, blob_of, write_refusals, write_of, WriteOutcome, write_leaving, write_outcome}
 use Rattle.vector_types.specs.declared.Refusal.{Refusal}
+use Rattle.vector_types.specs.declared.Refusal.TheVariants.{DimsOverLimit, OutputTooShort}
 use Rattle.vector_types.specs.declared.VectorType.{VectorType}
 use Rattle.vector_types.specs.declared.VectorType.TheVariants.{Float32Dense, Float64Dense, Float32Sparse, Float1Bit, Float8}
 use Rattle.vector_types.specs.declared.View.{View}
-use Rattle.vector_types.specs.declared.ReadAnswer.TheVariants.{Accepted}
 use Rattle.vector_types.specs.declared.Mode.{Mode}
 use Rattle.vector_types.specs.declared.Mode.TheVariants.{Plain}
-use Rattle.blob_writer.specs.declared.WriteAnswer.{WriteAnswer}
-use Rattle.blob_writer.specs.declared.WriteAnswer.TheVariants.{Written, Refused as WriteRefused}
 use Rattle.vector_types.proofs.Bodies.{body_is}
-use Rattle.vector_types.proofs.Given.{none_passed, first-append, accepted-same-view}
+use Rattle.vector_types.proofs.Given.{none_passed, passed_none, first-append, unless-accepted}
 use Rattle.vector_types.proofs.Modes.{shown-plainly}
 use Rattle.vector_types.proofs.Ends.{even-untyped}
-use Rattle.blob_writer.proofs.Tails.{length-filler}
+use Rattle.promises.proofs.Onto.{tail-lent, onto-then}
+use Rattle.blob_writer.proofs.Tails.{length-filler, length-blob}
 use Rattle.blob_writer.proofs.Appended.{named-by-tail, count-appended, outside-appended}
 use Rattle.vector_types.proofs.Shapes.{reads-float32, reads-float64, reads-float8, reads-one-bit, reads-sparse}
 
@@ -41,7 +40,7 @@ pub record Writable (k : VectorType) (d : ℕ) (body : List ℕ) : Type 0 where
   pub inside : has_index_outside k d body ≡ false
   pub elements : (has_trailing_count k && eqb d 0) ≡ false
 
-pub writable : (k : VectorType) (d : ℕ) (body : List ℕ) → first_given (write_refusals k d body) ≡ none → Writable k d body
+pub writable : (k : VectorType) (d : ℕ) (body : List ℕ) → first_given (write_refusals k d body) ≡ None → Writable k d body
 unfolding write_refusals
 writable k d body e =
     let c = none_passed (write_refusals k d body) e in
@@ -53,7 +52,7 @@ writable k d body e =
       elements = c.1.1.1.1.0;
     }
 
-pub unrefused : (k : VectorType) (d : ℕ) (body : List ℕ) → Writable k d body → first_given (write_refusals k d body) ≡ none
+pub unrefused : (k : VectorType) (d : ℕ) (body : List ℕ) → Writable k d body → first_given (write_refusals k d body) ≡ None
 unfolding write_refusals
 unrefused k d body w =
     rw (le-ltb max_dims d w.few, w.fit, le-ltb max_blob_length (length (blob_of k d body)) w.short, w.inside, w.elements)
@@ -123,69 +122,64 @@ read_back Float32Sparse d body w = sparse-back d body w
 read_back Float1Bit d body w = one-bit-back d body w
 read_back Float8 d body w = float8-back d body w
 
-pub reads-back : (k : VectorType) (d : ℕ) (body : List ℕ) → first_given (write_refusals k d body) ≡ none
+pub reads-back : (k : VectorType) (d : ℕ) (body : List ℕ) → first_given (write_refusals k d body) ≡ None
     → (read_of Plain (blob_of k d body) ≡ accepted_as k d (length body)) × (body_of (blob_of k d body) ≡ body)
 unfolding blob_of
 reads-back k d body e =
     let view = read_back k d body (writable k d body e) in
     (view, body_is (blob_of k d body) _ view ∙ take-append_seam body (tail_of k d))
 
--- ---- the answer, where no other test holds: 15 is the last
-module _ (k : VectorType) (d : ℕ) (body : List ℕ) (room : ℕ) where
-  abbrev blob : List ℕ
-  blob = blob_of k d body
+-- ---- what was written was refused by no test, the room's included
+pub written-clear : (k : VectorType) (d : ℕ) (body : List ℕ) (room n : ℕ) → write_of k d body room ≡ Ok n
+    → (first_given (write_refusals k d body) ≡ None) × (length (blob_of k d body) ≤ room) × (length (blob_of k d body) ≡ n)
+unfolding write_of write_refusals
+written-clear k d body room n e =
+    let need = length (blob_of k d body) in
+    let tests = write_refusals k d body ++ (test_room OutputTooShort room need ∷ []) in
+    let (given, long) = unless-accepted (first_given tests) (Ok need) n e in
+    let (few, (fit, (short, (inside, (elements, (fits, _)))))) = none_passed tests given in
+    (passed_none (write_refusals k d body) (few, (fit, (short, (inside, (elements, tt))))), ltb-false room need fits, cc)
 
-  by-room : write_of k d body room
-      ≡ unless (unless (first_given (write_refusals k d body)) given (cond (ltb room (length blob)) (given (needing 15 (length blob))) none)) write_refused (written (length blob))
-  unfolding write_of
-  by-room = rw first-append
+-- ---- what no other test refuses is written where there is room
+pub clear_whole : (k : VectorType) (d : ℕ) (body : List ℕ) (room : ℕ) → first_given (write_refusals k d body) ≡ None
+    → (n : ℕ) → n ≡ length (blob_of k d body) → n ≤ room → Ok n ≡ write_of k d body room
+unfolding write_of
+clear_whole k d body room clear n long h = rw (first-append, clear, ← long, le-ltb room n h)
 
-  module _ (clear : first_given (write_refusals k d body) ≡ none) (n : ℕ) (long : n ≡ length blob) where
-    pub clear-short : room < n → write_refused (needing 15 n) ≡ write_of k d body room
-    clear-short h = rw (by-room, clear, ← long, lt-ltb room n h)
+-- ---- the answer by its tests, as the code has them
+pub dims-over : (k : VectorType) (d : ℕ) (body : List ℕ) (room : ℕ) → max_dims < d → write_of k d body room ≡ Err DimsOverLimit
+unfolding write_of write_refusals
+dims-over k d body room h = rw (lt-ltb max_dims d h)
 
-    pub clear_whole : n ≤ room → written n ≡ write_of k d body room
-    clear_whole h = rw (by-room, clear, ← long, le-ltb room n h)
+pub written-room : (k : VectorType) (d : ℕ) (body : List ℕ) (room n : ℕ) → write_of k d body room ≡ Ok n → length body + length (tail_of k d) ≤ room
+written-room k d body room n e = let (_, fits, _) = written-clear k d body room n e in omega (arith, length-blob k d body)
 
-  -- one more than the length written
-  abbrev next_length : WriteAnswer → ℕ
-  next_length (Written n) = suc n
-  next_length (WriteRefused r) = 0
-
-  unless-written : (g : Given) (fails : Bool) (r : Refusal) (need n : ℕ) → unless (unless g given (cond fails (given r) none)) write_refused (written need) ≡ written n
-      → (g ≡ none) × (fails ≡ false) × (need ≡ n)
-  unless-written none true r need n e = let z = ap next_length e in absurd (omega arith)
-  unless-written none false r need n e = let z = ap next_length e in (refl, refl, omega arith)
-  unless-written (given g) fails r need n e = let z = ap next_length e in absurd (omega arith)
-
-  pub written-clear : (n : ℕ) → write_of k d body room ≡ written n
-      → (first_given (write_refusals k d body) ≡ none) × (length blob ≤ room) × (length blob ≡ n)
-  written-clear n e =
-      let (clear, fits, long) = unless-written (first_given (write_refusals k d body)) (ltb room (length blob)) (needing 15 (length blob)) (length blob) n (rw by-room at e) in
-      (clear, ltb-false room (length blob) fits, long)
+pub ruleset outcomes = (dims-over, written-room, tail-lent, length-drop, onto-then)
 
 -- ---- as the writer's caller has it: the first n bytes of the buffer, where n is the answer
-pub written-blob : (k : VectorType) (d : ℕ) (body out : List ℕ) (n : ℕ) → write_of k d body (length out) ≡ written n
-    → (first_given (write_refusals k d body) ≡ none) × (length (blob_of k d body) ≡ n) × (take n (write_outcome k d body out).out ≡ blob_of k d body)
+pub written-blob : (k : VectorType) (d : ℕ) (body out : List ℕ) (n : ℕ) → write_of k d body (length out) ≡ Ok n
+    → (first_given (write_refusals k d body) ≡ None) × (length (blob_of k d body) ≡ n) × (take n (write_outcome k d body out).out ≡ blob_of k d body)
 unfolding write_outcome
 written-blob k d body out n e =
     let blob = blob_of k d body in
     let (clear, _, long) = written-clear k d body (length out) n e in
     (clear, long, rw e (take_at blob (drop (length blob) out) n long))
 
-pub written-reads-back : (k : VectorType) (d : ℕ) (body out : List ℕ) (n : ℕ) → write_of k d body (length out) ≡ written n
+pub written-reads-back : (k : VectorType) (d : ℕ) (body out : List ℕ) (n : ℕ) → write_of k d body (length out) ≡ Ok n
     → (read_of Plain (take n (write_outcome k d body out).out) ≡ accepted_as k d (length body)) × (body_of (take n (write_outcome k d body out).out) ≡ body)
 written-reads-back k d body out n e = let (clear, _, left) = written-blob k d body out n e in rw left (reads-back k d body clear)
 
 -- in any mode it holds the readings of its body
-pub written-readings : (mode : Mode) (k : VectorType) (d : ℕ) (body out : List ℕ) (n : ℕ) → write_of k d body (length out) ≡ written n
-    → (v : View) → read_of mode (take n (write_outcome k d body out).out) ≡ Accepted v → v.readings.0 ≡ readings_of k d (length body)
+pub written-readings : (mode : Mode) (k : VectorType) (d : ℕ) (body out : List ℕ) (n : ℕ) → write_of k d body (length out) ≡ Ok n
+    → (v : View) → read_of mode (take n (write_outcome k d body out).out) ≡ Ok v → v.readings.0 ≡ readings_of k d (length body)
 written-readings mode k d body out n e v shows =
     let plain = shown-plainly mode (take n (write_outcome k d body out).out) v shows in
-    ap (λ (w : View). w.readings.0) (accepted-same-view v (view_of k d (length body)) (sym plain ∙ (written-reads-back k d body out n e).0))
+    let back = (written-reads-back k d body out n e).0 in
+    let same : v ≡ view_of k d (length body) = cc in
+    ap (λ (w : View). w.readings.0) same
 
 -- an outcome, part by part
-pub write-outcome-parts : (k : VectorType) (d : ℕ) (body out : List ℕ) (r : WriteAnswer) (o : List ℕ) → write_leaving r o ≡ write_outcome k d body out
+pub write-outcome-parts : (k : VectorType) (d : ℕ) (body out : List ℕ) (r : Result ℕ Refusal) (o : List ℕ) → write_leaving r o ≡ write_outcome k d body out
     → (r ≡ write_of k d body (length out)) × (o ≡ (write_outcome k d body out).out)
 unfolding write_outcome
 write-outcome-parts k d body out r o e = (ap (λ (x : WriteOutcome). x.answer) e, ap (λ (x : WriteOutcome). x.out) e)

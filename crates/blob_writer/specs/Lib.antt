@@ -1,4 +1,3 @@
-pub mod Answers
 pub mod Write
 pub mod Inner
 pub mod Rewritten

@@ -1,14 +1,13 @@
 -- What the writer answers and leaves: the blob of each kind, and the refusals of docs/RULES.md in the writer's order.
-use Rattle.std.specs.Prelude.{ℕ, ◌+◌, ◌-◌, ◌*◌, ◌/◌, ◌%◌, Bool, cond, not, ◌&&◌, List, [], ◌∷◌, ◌++◌, ltb, eqb, length}
+use Rattle.std.specs.Prelude.{ℕ, ◌+◌, ◌-◌, ◌*◌, ◌/◌, ◌%◌, Bool, cond, not, ◌&&◌, List, [], ◌∷◌, ◌++◌, ltb, eqb, length, Result, Ok, Err}
 use Rattle.promises.specs.Onto.{onto}
 use Rattle.little_endian.specs.Bytes.{bytes_of}
 use Rattle.vector_types.specs.Answers.{Test, test, test_first, test_room, first_given, unless}
 use Rattle.vector_types.specs.Layout.{max_blob_length, max_dims, ceil, has_byte, has_trailing_count, body_fits, is_outside}
 use Rattle.vector_types.specs.declared.VectorType.{VectorType}
 use Rattle.vector_types.specs.declared.VectorType.TheVariants.{Float32Dense, Float64Dense, Float32Sparse, Float1Bit, Float8}
-use Rattle.blob_writer.specs.Answers.{written, write_refused}
-use Rattle.blob_writer.specs.declared.WriteAnswer.{WriteAnswer}
-use Rattle.blob_writer.specs.declared.WriteAnswer.TheVariants.{Written, Refused}
+use Rattle.vector_types.specs.declared.Refusal.{Refusal}
+use Rattle.vector_types.specs.declared.Refusal.TheVariants.{LengthOverLimit, BodyLengthUnfit, IndexNotBelowDims, DimsOverLimit, OutputTooShort, WriterDims0}
 
 -- a zero byte where one is asked for
 abbrev pub zero_if : Bool → List ℕ
@@ -42,31 +41,31 @@ blob_of k d body = body ++ tail_of k d
 unfoldable pub write_refusals : VectorType → ℕ → List ℕ → List Test
 unfolding body_fits blob_of
 write_refusals k d body =
-    test 9 (ltb max_dims d)
-    ∷ test 7 (not (body_fits k d (length body)))
-    ∷ test 1 (ltb max_blob_length (length (blob_of k d body)))
-    ∷ test_first 8 (has_byte 9 k) (is_outside body (length body / 8) d) (length body / 8)
-    ∷ test 16 (has_trailing_count k && eqb d 0)
+    test DimsOverLimit (ltb max_dims d)
+    ∷ test BodyLengthUnfit (not (body_fits k d (length body)))
+    ∷ test LengthOverLimit (ltb max_blob_length (length (blob_of k d body)))
+    ∷ test_first IndexNotBelowDims (has_byte 9 k) (is_outside body (length body / 8) d) (length body / 8)
+    ∷ test WriterDims0 (has_trailing_count k && eqb d 0)
     ∷ []
 
--- the answer where the buffer has `room` bytes: 15, the last refusal, carries the blob's length
-unfoldable pub write_of : VectorType → ℕ → List ℕ → ℕ → WriteAnswer
+-- the answer where the buffer has `room` bytes: the blob's length, which the last refusal carries too
+unfoldable pub write_of : VectorType → ℕ → List ℕ → ℕ → Result ℕ Refusal
 unfolding write_refusals blob_of
 write_of k d body room =
     let need = length (blob_of k d body) in
-    unless (first_given (write_refusals k d body ++ (test_room 15 room need ∷ []))) write_refused (written need)
+    unless (first_given (write_refusals k d body ++ (test_room OutputTooShort room need ∷ []))) Err (Ok need)
 
 -- the buffer afterwards: the blob over its first bytes if it is written, else as it was
-abbrev pub buffer_after : WriteAnswer → List ℕ → List ℕ → List ℕ
-buffer_after (Written n) blob out = onto blob out
-buffer_after (Refused r) blob out = out
+abbrev pub buffer_after : Result ℕ Refusal → List ℕ → List ℕ → List ℕ
+buffer_after (Ok n) blob out = onto blob out
+buffer_after (Err r) blob out = out
 
 -- the outcome of a call: the answer, and the buffer afterwards
 pub record WriteOutcome : Type 0 where
-  pub answer : WriteAnswer
+  pub answer : Result ℕ Refusal
   pub out : List ℕ
 
-abbrev pub write_leaving : WriteAnswer → List ℕ → WriteOutcome
+abbrev pub write_leaving : Result ℕ Refusal → List ℕ → WriteOutcome
 write_leaving r out = record { answer = r; out = out }
 
 unfoldable pub write_outcome : VectorType → ℕ → List ℕ → List ℕ → WriteOutcome

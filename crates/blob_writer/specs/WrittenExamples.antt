@@ -1,41 +1,31 @@
 -- Examples of writing, and of blobs that were read and written again: one table each, and one statement about all of it, which antt computes.
-use Rattle.std.specs.Prelude.{◌≡◌, refl, List, [], ◌∷◌, ◌++◌, map, ℕ, length, replicate}
+use Rattle.std.specs.Prelude.{◌≡◌, refl, List, [], ◌∷◌, ◌++◌, map, ℕ, length, replicate, Result, Ok, Err}
 use Rattle.promises.specs.Onto.{onto}
 use Rattle.little_endian.specs.Bytes.{number_at, bytes_of}
-use Rattle.vector_types.specs.Answers.{refusal, needing, naming}
 use Rattle.vector_types.specs.Search.{first_from}
 use Rattle.vector_types.specs.Layout.{named_kind, by_byte, length_before_type, body_fits, layout_row}
 use Rattle.vector_types.specs.Read.{read_of, refusals, shown}
 use Rattle.vector_types.specs.Parts.{body_of}
-use Rattle.blob_writer.specs.Answers.{written, write_refused}
 use Rattle.blob_writer.specs.Write.{tail_of, blob_of, write_refusals, write_of, write_leaving, write_outcome}
 use Rattle.blob_writer.specs.Rewritten.{rewritten}
 use Rattle.vector_types.specs.declared.VectorType.{VectorType}
 use Rattle.vector_types.specs.declared.VectorType.TheVariants.{Float32Dense, Float64Dense, Float32Sparse, Float1Bit, Float8}
-use Rattle.blob_writer.specs.declared.WriteAnswer.{WriteAnswer}
+use Rattle.vector_types.specs.declared.Refusal.{Refusal}
+use Rattle.vector_types.specs.declared.Refusal.TheVariants.{BodyLengthUnfit, IndexNotBelowDims, DimsOverLimit, OutputTooShort, WriterDims0}
 
 -- a kind, dims and body, what the writer answers, and the blob that it writes
 pub record Example : Type 0 where
   pub kind : VectorType
   pub dims : ℕ
   pub body : List ℕ
-  pub answer : WriteAnswer
+  pub answer : Result ℕ Refusal
   pub blob : List ℕ
 
 abbrev pub writes : VectorType → ℕ → List ℕ → List ℕ → Example
-writes k d body blob = record { kind = k; dims = d; body = body; answer = written (length blob); blob = blob }
+writes k d body blob = record { kind = k; dims = d; body = body; answer = Ok (length blob); blob = blob }
 
-abbrev pub refuses : VectorType → ℕ → List ℕ → WriteAnswer → Example
-refuses k d body r = record { kind = k; dims = d; body = body; answer = r; blob = [] }
-
-abbrev pub refuse : ℕ → WriteAnswer
-refuse n = write_refused (refusal n)
-
-abbrev pub wrong : ℕ → WriteAnswer
-wrong j = write_refused (naming 8 j)
-
-abbrev pub short : ℕ → WriteAnswer
-short need = write_refused (needing 15 need)
+abbrev pub refuses : VectorType → ℕ → List ℕ → Refusal → Example
+refuses k d body r = record { kind = k; dims = d; body = body; answer = Err r; blob = [] }
 
 -- bodies: 1.0 in both widths, 1.0 at one index and at two, and a Float8 body whose padding is not zero
 abbrev pub one32 : List ℕ
@@ -64,17 +54,17 @@ writing =
     ∷ writes Float8 1 byte8 (byte8 ++ (0 ∷ 3 ∷ 4 ∷ []))
     ∷ writes Float32Sparse 2 (entry 1) (entry 1 ++ (2 ∷ 0 ∷ 0 ∷ 0 ∷ 9 ∷ []))
     ∷ writes Float32Dense 5 (replicate 20 0x11) (replicate 20 0x11)
-    ∷ refuses Float32Dense 65537 [] (refuse 9)
-    ∷ refuses Float32Sparse 65537 [] (refuse 9)
-    ∷ refuses Float32Dense 2 one32 (refuse 7)
-    ∷ refuses Float1Bit 0 (0xaa ∷ []) (refuse 7)
-    ∷ refuses Float32Sparse 2 (entry 2) (wrong 0)
-    ∷ refuses Float32Sparse 2 (two 0 2) (wrong 1)
-    ∷ refuses Float32Sparse 2 (two 2 3) (wrong 0)
-    ∷ refuses Float1Bit 0 [] (refuse 16)
-    ∷ refuses Float8 0 (replicate 8 0) (refuse 16)
-    ∷ refuses Float32Sparse 3 (two 0 2) (short 21)
-    ∷ refuses Float64Dense 3 (replicate 24 0) (short 25)
+    ∷ refuses Float32Dense 65537 [] DimsOverLimit
+    ∷ refuses Float32Sparse 65537 [] DimsOverLimit
+    ∷ refuses Float32Dense 2 one32 BodyLengthUnfit
+    ∷ refuses Float1Bit 0 (0xaa ∷ []) BodyLengthUnfit
+    ∷ refuses Float32Sparse 2 (entry 2) (IndexNotBelowDims 0)
+    ∷ refuses Float32Sparse 2 (two 0 2) (IndexNotBelowDims 1)
+    ∷ refuses Float32Sparse 2 (two 2 3) (IndexNotBelowDims 0)
+    ∷ refuses Float1Bit 0 [] WriterDims0
+    ∷ refuses Float8 0 (replicate 8 0) WriterDims0
+    ∷ refuses Float32Sparse 3 (two 0 2) (OutputTooShort 21)
+    ∷ refuses Float64Dense 3 (replicate 24 0) (OutputTooShort 25)
     ∷ []
 
 -- a buffer of 20 bytes

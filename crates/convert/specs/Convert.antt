@@ -1,39 +1,28 @@
 -- What a conversion answers and leaves: the reader's refusal, then 17, then 15, each with the need; else the new kind, dims and body, and the new vector's readings.
-use Rattle.std.specs.Prelude.{ℕ, List, [], ◌∷◌, length}
+use Rattle.std.specs.Prelude.{ℕ, List, [], ◌∷◌, length, Result, Ok, Err}
 use Rattle.promises.specs.Onto.{onto}
-use Rattle.vector_types.specs.Answers.{view_of, test_room, first_given, unless}
+use Rattle.vector_types.specs.Answers.{accepted_as, test_room, first_given, unless}
 use Rattle.vector_types.specs.Read.{read_of}
 use Rattle.vector_types.specs.Parts.{body_of}
 use Rattle.vector_types.specs.declared.VectorType.{VectorType}
+use Rattle.vector_types.specs.declared.View.{View}
 use Rattle.vector_types.specs.declared.Refusal.{Refusal}
-use Rattle.vector_types.specs.declared.ReadAnswer.{ReadAnswer}
-use Rattle.vector_types.specs.declared.ReadAnswer.TheVariants.{Accepted, Refused as Unread}
+use Rattle.vector_types.specs.declared.Refusal.TheVariants.{OutputTooShort, ScratchTooShort}
 use Rattle.vector_types.specs.declared.Mode.TheVariants.{Plain}
 use Rattle.convert_parts.specs.Result.{result_of, scratch_body}
-use Rattle.convert.specs.declared.ConvertAnswer.{ConvertAnswer}
-use Rattle.convert.specs.declared.ConvertAnswer.TheVariants.{Converted, Refused}
-
--- the number of an answer by the rules, 0 where nothing is refused
-abbrev pub convert_number : ConvertAnswer → ℕ
-convert_number (Converted v) = 0
-convert_number (Refused r) = r.number
-
--- a new body of m bytes
-abbrev pub converted_to : VectorType → ℕ → ℕ → ConvertAnswer
-converted_to k d m = Converted (view_of k d m)
 
 -- a conversion: its answer, and what it puts at the start of scratch and of the output
 pub record Conversion : Type 0 where
-  pub answer : ConvertAnswer
+  pub answer : Result View Refusal
   pub scratch : List ℕ
   pub out : List ℕ
 
-abbrev pub conversion : ConvertAnswer → List ℕ → List ℕ → Conversion
+abbrev pub conversion : Result View Refusal → List ℕ → List ℕ → Conversion
 conversion r scratch out = record { answer = r; scratch = scratch; out = out }
 
 -- a refusal puts nothing
 abbrev pub refusing : Refusal → Conversion
-refusing r = conversion (Refused r) [] []
+refusing r = conversion (Err r) [] []
 
 -- of a body of the kind k to the kind t, where scratch and the output have so many bytes
 unfoldable pub body_conversion : VectorType → VectorType → ℕ → List ℕ → ℕ → ℕ → Conversion
@@ -41,13 +30,13 @@ unfolding result_of scratch_body
 body_conversion k t d body scratch room =
     let dense = scratch_body k t d body in
     let new = result_of k t d body in
-    unless (first_given (test_room 17 scratch (length dense) ∷ test_room 15 room (length new) ∷ [])) refusing
-    (conversion (converted_to t d (length new)) dense new)
+    unless (first_given (test_room ScratchTooShort scratch (length dense) ∷ test_room OutputTooShort room (length new) ∷ [])) refusing
+    (conversion (accepted_as t d (length new)) dense new)
 
 -- of a blob: what is not read is not converted
-abbrev pub read_conversion : ReadAnswer → List ℕ → VectorType → ℕ → ℕ → Conversion
-read_conversion (Accepted v) body t scratch room = body_conversion v.kind t v.dims.0 body scratch room
-read_conversion (Unread r) body t scratch room = refusing r
+abbrev pub read_conversion : Result View Refusal → List ℕ → VectorType → ℕ → ℕ → Conversion
+read_conversion (Ok v) body t scratch room = body_conversion v.kind t v.dims.0 body scratch room
+read_conversion (Err r) body t scratch room = refusing r
 
 unfoldable pub conversion_of : List ℕ → VectorType → ℕ → ℕ → Conversion
 unfolding body_conversion
@@ -55,11 +44,11 @@ conversion_of s t scratch room = read_conversion (read_of Plain s) (body_of s) t
 
 -- the outcome of a call: the answer, and the two buffers afterwards
 pub record ConvertOutcome : Type 0 where
-  pub answer : ConvertAnswer
+  pub answer : Result View Refusal
   pub scratch : List ℕ
   pub out : List ℕ
 
-abbrev pub convert_leaving : ConvertAnswer → List ℕ → List ℕ → ConvertOutcome
+abbrev pub convert_leaving : Result View Refusal → List ℕ → List ℕ → ConvertOutcome
 convert_leaving r scratch out = record { answer = r; scratch = scratch; out = out }
 
 abbrev pub outcome_of : Conversion → List ℕ → List ℕ → ConvertOutcome

@@ -4,39 +4,14 @@
 mod dispatch;
 
 ghost use Rattle.std.specs.Prelude.{◌≡◌, length};
-ghost use Rattle.vector_types.specs.Answers.{needing};
-ghost use Rattle.vector_types.specs.Read.{read_of};
-ghost use Rattle.vector_types.specs.Parts.{body_of};
-ghost use Rattle.vector_types.specs.declared.ReadAnswer.TheVariants.{Accepted};
-ghost use Rattle.vector_types.specs.declared.Mode.TheVariants.{Plain};
 ghost use Rattle.convert_parts.specs.Inner.Fitting.{Fitting};
-ghost use Rattle.convert.specs.Convert.{converted_to, body_conversion, convert_leaving, outcome_of, convert_outcome};
-ghost use Rattle.convert.specs.declared.ConvertAnswer.TheVariants.{Refused};
+ghost use Rattle.convert.specs.Convert.{body_conversion, convert_leaving, outcome_of, convert_outcome};
 
 use dispatch::{put_result, result_length, scratch_length};
-use vector_types::{Dims, Mode, ReadAnswer, Refusal, VectorType, View};
-
-// What was made, or a refusal.
-#[derive(Clone, Copy)]
-pub enum ConvertAnswer {
-    Converted(View),
-    Refused(Refusal),
-}
-
-fn converted(target: VectorType, dims: usize, length: usize) -> ConvertAnswer
-    ensures { result ≡ converted_to target dims length }
-{
-    ConvertAnswer::Converted(View::of(target, Dims(dims), length))
-}
-
-// A buffer is too short: 17 for scratch, 15 for the output.
-fn short(number: u8, need: usize) -> ConvertAnswer
-    ensures { result ≡ Refused (needing number need) }
-{
-    ConvertAnswer::Refused(Refusal::needing(number, need))
-}
+use vector_types::{Dims, Refusal, Vector, VectorType, View};
 
 // Converts a body of a kind and dims.
+#[tactic(auto, unfolding(crate::specs::Convert::body_conversion), using(crate::proofs::Shown::lengths))]
 fn convert_body(
     kind: VectorType,
     dims: usize,
@@ -44,48 +19,35 @@ fn convert_body(
     target: VectorType,
     scratch: &mut [u8],
     out: &mut [u8],
-) -> ConvertAnswer
+) -> Result<View, Refusal>
     requires { Fitting kind dims body.now }
     ensures { convert_leaving result scratch.new out.new
         ≡ outcome_of (body_conversion kind target dims body.now (length scratch.old) (length out.old)) scratch.old out.old }
 {
     let whole = scratch_length(kind, target, dims);
     if scratch.len() < whole {
-        return short(17, whole);
+        return Err(Refusal::ScratchTooShort(whole));
     }
     let need = result_length(kind, target, dims, body);
     if out.len() < need {
-        return short(15, need);
+        return Err(Refusal::OutputTooShort(need));
     }
     put_result(kind, target, dims, body, need, scratch, out);
-    converted(target, dims, need)
-}
-
-// Converts the body of a view.
-fn convert_view(
-    blob: &[u8],
-    view: View,
-    target: VectorType,
-    scratch: &mut [u8],
-    out: &mut [u8],
-) -> ConvertAnswer
-    requires { read_of Plain blob.now ≡ Accepted view }
-    ensures { convert_leaving result scratch.new out.new
-        ≡ outcome_of (body_conversion view.kind target view.dims.0 (body_of blob.now) (length scratch.old) (length out.old)) scratch.old out.old }
-{
-    let kind = view.kind;
-    let dims = view.dims;
-    let size = view.length;
-    convert_body(kind, dims.0, &blob[..size], target, scratch, out)
+    Ok(View::of(target, Dims(dims), need))
 }
 
 // Converts a blob to a kind: puts the new body at the start of out. Where a sparse blob becomes 1-bit
 // or Float8, its dense body is left at the start of scratch. A refusal changes nothing.
-pub fn convert(blob: &[u8], target: VectorType, scratch: &mut [u8], out: &mut [u8]) -> ConvertAnswer
+#[tactic(auto, unfolding(crate::specs::Convert::convert_outcome, crate::specs::Convert::conversion_of))]
+pub fn convert(
+    blob: &[u8],
+    target: VectorType,
+    scratch: &mut [u8],
+    out: &mut [u8],
+) -> Result<View, Refusal>
     ensures { convert_leaving result scratch.new out.new ≡ convert_outcome blob.now target scratch.old out.old }
 {
-    match vector_types::read(Mode::Plain, blob) {
-        ReadAnswer::Accepted(view) => convert_view(blob, view, target, scratch, out),
-        ReadAnswer::Refused(refusal) => ConvertAnswer::Refused(refusal),
-    }
+    let vector = Vector::from_slice(blob)?;
+    let View { kind, dims, .. } = vector.view;
+    convert_body(kind, dims.0, vector.body(), target, scratch, out)
 }

@@ -3,6 +3,7 @@ use mathlib.Core.Path.{◌≡◌, refl, sym, ap, ◌∙◌}
 use mathlib.Core.Logic.{inl, inr}
 use mathlib.Core.Bool.{Bool, true, false, cond}
 use mathlib.Core.List.{List, [], ◌∷◌, ◌++◌, append_assoc, append-nil}
+use Rattle.std.proofs.Common.{Option, None, Some, Result, Ok, Err}
 use Prim.Native.Nat.{ℕ, ◌+◌, ◌*◌, ◌<◌, ◌≤◌}
 use native.Mathlib.Nat.{add-zero}
 use native.Mathlib.Omega.{arith}
@@ -19,7 +20,7 @@ use Rattle.little_endian.specs.Bytes.{u32_at, bytes_of}
 use Rattle.little_endian.proofs.Numbers.{number_at-take, number_at-left, number_at-right, number_at-bytes_of, length-bytes_of}
 use Rattle.little_endian.proofs.Put.{length-put}
 use Rattle.vector_types.specs.Layout.{max_dims}
-use Rattle.vector_types.specs.Answers.{accepted_as}
+use Rattle.vector_types.specs.Answers.{number_of, accepted_as}
 use Rattle.vector_types.specs.Read.{read_of}
 use Rattle.vector_types.specs.Parts.{body_of}
 use Rattle.vector_types.specs.declared.VectorType.TheVariants.{Float32Dense}
@@ -28,14 +29,13 @@ use Rattle.vector_types.proofs.Ends.{even-untyped}
 use Rattle.vector_types.proofs.Shapes.{reads-float32}
 use Rattle.bodies.specs.Elements.{dense_element}
 use Rattle.convert_parts.proofs.Through.{float-at}
-use Rattle.vecs.specs.Vecs.{bytes_left, vector_of, vector_at, elements_at, byte_element, byte_floats}
+use Rattle.vecs.specs.Vecs.{vector_of, vector_at, elements_at, byte_element, byte_floats}
 use Rattle.vecs.specs.Cases.{Case, ended, over, cut, whole, CaseHolds, case_answer}
 use Rattle.vecs.specs.Append.{vector_length, vector_bytes, append_outcome}
 use Rattle.vecs.specs.Reading.{ShowsVector, ReadsAs, Filling, empty_filling, after_append, after_appends, appended_body, appended_bodies}
 use Rattle.vecs.specs.declared.Found.{Found}
-use Rattle.vecs.specs.declared.VecsAnswer.{VecsAnswer}
-use Rattle.vecs.specs.declared.VecsAnswer.TheVariants.{Vector, End, Refused}
-use Rattle.vecs.proofs.AtPlace.{VectorFacts, vector-facts, at-end, count_cut, count-over, elements-cut, vector-whole, end-past, elements-are, length-elements}
+use Rattle.vector_types.specs.declared.Refusal.{Refusal}
+use Rattle.vecs.proofs.AtPlace.{VectorFacts, vector-facts, at-end, file-cut, count-over, vector-whole, end-past, elements-are, length-elements}
 use Rattle.vecs.proofs.Appended.{length-vector, EitherWay, append-either, filled_more}
 
 -- ---- one case answers, once over the width
@@ -43,14 +43,7 @@ module _ (w : ℕ) (file : List ℕ) (place : ℕ) where
   pub case-answers : (c : Case) → CaseHolds c w file place → vector_at w file place ≡ case_answer c w file place
   case-answers ended h = at-end w file place h
   case-answers over (counted, many) = count-over w file place (omega arith) (omega arith) many
-  case-answers cut (inside, inl short) = count_cut w file place inside (omega arith)
-  case-answers cut (inside, inr (few, short)) = by_count (ltb (bytes_left file place) 4) refl
-    where
-      by_count : (b : Bool) → ltb (bytes_left file place) 4 ≡ b → vector_at w file place ≡ case_answer cut w file place
-      by_count true h = count_cut w file place inside (ltb-true (bytes_left file place) 4 h)
-      by_count false h =
-          let counted = ltb-false (bytes_left file place) 4 h in
-          elements-cut w file place inside counted few (omega arith)
+  case-answers cut (inside, short) = file-cut w file place inside short
   case-answers whole (few, fits) = vector-whole w file place (omega arith) (omega arith) few (omega arith)
 
   some-case : (c : Case) × CaseHolds c w file place
@@ -69,10 +62,10 @@ module _ (w : ℕ) (file : List ℕ) (place : ℕ) where
           (whole, (ltb-false max_dims (u32_at file place) j, ltb-false (length file) (place + 4 + w * u32_at file place) k))
 
   -- the case that an answer tells
-  abbrev case_in : VecsAnswer → Case
-  case_in (Vector v) = whole
-  case_in End = ended
-  case_in (Refused r) = cond (eqb r.number 9) over cut
+  abbrev case_in : Result (Option Found) Refusal → Case
+  case_in (Ok (Some v)) = whole
+  case_in (Ok None) = ended
+  case_in (Err r) = cond (eqb (number_of r) 9) over cut
 
   case-told : (c : Case) → case_in (case_answer c w file place) ≡ c
   case-told ended = refl
@@ -108,7 +101,7 @@ pub record Inside (w : ℕ) (file : List ℕ) (place : ℕ) (v : Found) : Type 0
   pub above : place < v.next
   pub within : v.next ≤ length file
 
-module _ (w : ℕ) (file : List ℕ) (place : ℕ) (v : Found) (e : vector_at w file place ≡ Vector v) where
+module _ (w : ℕ) (file : List ℕ) (place : ℕ) (v : Found) (e : vector_at w file place ≡ Ok (Some v)) where
   facts : VectorFacts w file place v
   facts = vector-facts w file place v e
 
@@ -132,7 +125,7 @@ module _ (w : ℕ) (file : List ℕ) (place : ℕ) (v : Found) (e : vector_at w 
         sym (part-taken other v.start n (omega (arith, reaches, ends)))
         ∙ ap (drop v.start) (rw (← ends) same) ∙ part-taken file v.start n (omega (arith, ends, vector-inside.within))
 
-    same_answer : vector_at w other place ≡ Vector v
+    same_answer : vector_at w other place ≡ Ok (Some v)
     same_answer =
         let next : v.next ≡ place + 4 + w * u32_at file place = ap (λ (u : Found). u.next) facts.is in
         rw (facts.is, ← same_count)
@@ -142,7 +135,7 @@ module _ (w : ℕ) (file : List ℕ) (place : ℕ) (v : Found) (e : vector_at w 
     shown-before = record { answer = same_answer; part = elements-are w other place v same_answer ∙ same-elements ∙ sym (elements-are w file place v e) }
 
 -- ---- fvecs: the elements that are shown are a Float32Dense blob of their own, of as many dims
-pub elements-accepted : (file : List ℕ) (place : ℕ) (v : Found) → vector_at 4 file place ≡ Vector v
+pub elements-accepted : (file : List ℕ) (place : ℕ) (v : Found) → vector_at 4 file place ≡ Ok (Some v)
     → read_of Plain (elements_at 4 file place) ≡ accepted_as Float32Dense v.dims.0 (4 * v.dims.0)
 elements-accepted file place v e =
     let s = elements_at 4 file place in
@@ -155,7 +148,7 @@ elements-accepted file place v e =
 pub byte-exact : (b : ℕ) → b < 256 → HasValue (of_int binary32 (pos b)) false b 1
 byte-exact b h = of-whole binary32 b (omega arith)
 
-pub bvecs-element : (file : List ℕ) (place : ℕ) (v : Found) → vector_at 1 file place ≡ Vector v → (i : ℕ) → i < v.dims.0
+pub bvecs-element : (file : List ℕ) (place : ℕ) (v : Found) → vector_at 1 file place ≡ Ok (Some v) → (i : ℕ) → i < v.dims.0
     → dense_element binary32 (byte_floats (elements_at 1 file place)) i ≡ of_int binary32 (pos (get_or file (v.start + i) 0))
 bvecs-element file place v e i h =
     let s = elements_at 1 file place in

@@ -1,5 +1,5 @@
 -- Appending a Float32Dense blob to an fvecs file in a lent buffer: the answer, and the buffer afterwards.
-use Rattle.std.specs.Prelude.{ℕ, ◌+◌, ◌-◌, ◌*◌, not, List, [], ◌∷◌, ◌++◌, length}
+use Rattle.std.specs.Prelude.{ℕ, ◌+◌, ◌-◌, ◌*◌, not, List, [], ◌∷◌, ◌++◌, length, Result, Ok, Err}
 use Rattle.little_endian.specs.Bytes.{bytes_of, put}
 use Rattle.vector_types.specs.Answers.{Test, test, test_room, first_given, unless}
 use Rattle.vector_types.specs.Layout.{has_byte}
@@ -7,14 +7,8 @@ use Rattle.vector_types.specs.Read.{read_of}
 use Rattle.vector_types.specs.Parts.{body_of}
 use Rattle.vector_types.specs.declared.View.{View}
 use Rattle.vector_types.specs.declared.Refusal.{Refusal}
-use Rattle.vector_types.specs.declared.ReadAnswer.{ReadAnswer}
-use Rattle.vector_types.specs.declared.ReadAnswer.TheVariants.{Accepted, Refused as ReadRefused}
+use Rattle.vector_types.specs.declared.Refusal.TheVariants.{KindsDiffer, OutputTooShort}
 use Rattle.vector_types.specs.declared.Mode.TheVariants.{Plain}
-use Rattle.vecs.specs.declared.AppendAnswer.{AppendAnswer}
-use Rattle.vecs.specs.declared.AppendAnswer.TheVariants.{Filled, Refused}
-
-abbrev pub append_refused : Refusal → AppendAnswer
-append_refused r = Refused r
 
 -- a vector of d elements in an fvecs file: how many bytes it has, and which
 abbrev pub vector_length : ℕ → ℕ
@@ -25,34 +19,34 @@ vector_bytes d body = bytes_of 4 d ++ body
 
 -- the refusals of a blob that the reader accepts: another kind, and fewer bytes after the fill than are needed
 abbrev pub append_refusals : View → ℕ → List Test
-append_refusals v room = test 13 (not (has_byte 1 v.kind)) ∷ test_room 15 room (vector_length v.dims.0) ∷ []
+append_refusals v room = test KindsDiffer (not (has_byte 1 v.kind)) ∷ test_room OutputTooShort room (vector_length v.dims.0) ∷ []
 
 -- the answer, where a buffer of `size` bytes is filled up to `fill`: its new fill. A fill past the end leaves no room
-abbrev pub append_read : ReadAnswer → ℕ → ℕ → AppendAnswer
-append_read (Accepted v) size fill =
-    unless (first_given (append_refusals v (size - fill))) append_refused (Filled (fill + vector_length v.dims.0))
-append_read (ReadRefused r) size fill = Refused r
+abbrev pub append_read : Result View Refusal → ℕ → ℕ → Result ℕ Refusal
+append_read (Ok v) size fill =
+    unless (first_given (append_refusals v (size - fill))) Err (Ok (fill + vector_length v.dims.0))
+append_read (Err r) size fill = Err r
 
-unfoldable pub append_of : List ℕ → ℕ → ℕ → AppendAnswer
+unfoldable pub append_of : List ℕ → ℕ → ℕ → Result ℕ Refusal
 unfolding read_of
 append_of blob size fill = append_read (read_of Plain blob) size fill
 
 -- how many elements an answer shows: none on a refusal
-abbrev pub shown_dims : ReadAnswer → ℕ
-shown_dims (Accepted v) = v.dims.0
-shown_dims (ReadRefused r) = 0
+abbrev pub shown_dims : Result View Refusal → ℕ
+shown_dims (Ok v) = v.dims.0
+shown_dims (Err r) = 0
 
 -- the buffer afterwards: the vector from the fill on if it is appended, else as it was
-abbrev pub appended_after : AppendAnswer → List ℕ → List ℕ → ℕ → List ℕ
-appended_after (Filled n) vector out fill = put out fill vector
-appended_after (Refused r) vector out fill = out
+abbrev pub appended_after : Result ℕ Refusal → List ℕ → List ℕ → ℕ → List ℕ
+appended_after (Ok n) vector out fill = put out fill vector
+appended_after (Err r) vector out fill = out
 
 -- the outcome of a call: the answer, and the buffer afterwards
 pub record AppendOutcome : Type 0 where
-  pub answer : AppendAnswer
+  pub answer : Result ℕ Refusal
   pub out : List ℕ
 
-abbrev pub append_leaving : AppendAnswer → List ℕ → AppendOutcome
+abbrev pub append_leaving : Result ℕ Refusal → List ℕ → AppendOutcome
 append_leaving r out = record { answer = r; out = out }
 
 unfoldable pub append_outcome : List ℕ → List ℕ → ℕ → AppendOutcome

@@ -1,21 +1,19 @@
 -- A file read from a place on vector by vector, and blobs appended one a call.
-use Rattle.std.specs.Prelude.{ℕ, ◌≡◌, List, [], ◌∷◌, ◌++◌}
+use Rattle.std.specs.Prelude.{ℕ, ◌≡◌, List, [], ◌∷◌, ◌++◌, None, Some, Result, Ok, Err}
 use Rattle.vector_types.specs.Parts.{body_of}
+use Rattle.vector_types.specs.declared.Refusal.{Refusal}
 use Rattle.vecs.specs.Vecs.{vector_at, elements_at}
 use Rattle.vecs.specs.Append.{AppendOutcome, append_outcome}
 use Rattle.vecs.specs.declared.Found.{Found}
-use Rattle.vecs.specs.declared.VecsAnswer.TheVariants.{Vector, End}
-use Rattle.vecs.specs.declared.AppendAnswer.{AppendAnswer}
-use Rattle.vecs.specs.declared.AppendAnswer.TheVariants.{Filled, Refused}
 
 -- a vector is at a place, with these elements
 pub record ShowsVector (w : ℕ) (file : List ℕ) (place : ℕ) (v : Found) (elements : List ℕ) : Type 0 where
-  pub answer : vector_at w file place ≡ Vector v
+  pub answer : vector_at w file place ≡ Ok (Some v)
   pub part : elements_at w file place ≡ elements
 
 -- the vectors of a file from a place on, each read at the next place of the one before it, are these, and then the file ends
 abbrev pub ReadsAs : ℕ → List ℕ → ℕ → List (List ℕ) → Type 0
-ReadsAs w file place [] = vector_at w file place ≡ End
+ReadsAs w file place [] = vector_at w file place ≡ Ok None
 ReadsAs w file place (elements ∷ more) = (v : Found) × (ShowsVector w file place v elements × ReadsAs w file v.next more)
 
 -- a buffer, and how many of its first bytes are filled
@@ -27,9 +25,9 @@ abbrev pub empty_filling : List ℕ → Filling
 empty_filling out = record { fill = 0; out = out }
 
 -- the fill that a caller goes on with: the one last answered
-abbrev pub next_fill : AppendAnswer → ℕ → ℕ
-next_fill (Filled n) fill = n
-next_fill (Refused r) fill = fill
+abbrev pub next_fill : Result ℕ Refusal → ℕ → ℕ
+next_fill (Ok n) fill = n
+next_fill (Err r) fill = fill
 
 -- after a call, and after a call for each blob
 abbrev pub after_outcome : AppendOutcome → ℕ → Filling
@@ -43,9 +41,9 @@ after_appends f [] = f
 after_appends f (blob ∷ blobs) = after_appends (after_append f blob) blobs
 
 -- the body of a blob that is appended, and those of the blobs that are
-abbrev pub appended_body : AppendAnswer → List ℕ → List (List ℕ)
-appended_body (Filled n) blob = body_of blob ∷ []
-appended_body (Refused r) blob = []
+abbrev pub appended_body : Result ℕ Refusal → List ℕ → List (List ℕ)
+appended_body (Ok n) blob = body_of blob ∷ []
+appended_body (Err r) blob = []
 
 abbrev pub appended_bodies : Filling → List (List ℕ) → List (List ℕ)
 appended_bodies f [] = []

@@ -1,5 +1,4 @@
 -- The loop fills, float by float.
-use Prim.Native.Nat.{◌-◌}
 use lib.ListN.{length}
 use lib.Ieee.{binary32}
 use Rattle.convert_parts.specs.Dense.{floats_of}
@@ -9,6 +8,3 @@ use Rattle.vecs.proofs.reading.put_floats.Given as goal
 
 abbrev pub invariant-loop-i : goal.invariant-loop-i
 invariant-loop-i l = FilledSoFar (floats_of binary32 (byte_element l.s)) (length l.s) l.initial.out l.out l.i
-
-abbrev pub decreases-loop-i : goal.decreases-loop-i
-decreases-loop-i l = length l.s - l.i
