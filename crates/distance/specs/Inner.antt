@@ -1,2 +1,2 @@
 -- Words of the contracts of helpers: no contract of an entry point names them.
-pub mod Table
+pub mod Existing

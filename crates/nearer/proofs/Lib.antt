@@ -1,2 +1,1 @@
-pub mod Compared
 pub mod Determined
