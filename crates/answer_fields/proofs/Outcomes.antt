@@ -7,25 +7,22 @@ use Prim.Native.Nat.{ℕ}
 use lib.ListN.{get_or}
 use lib.Seq.{get_or-set_other}
 use lib.Ieee.{nan, to_bits}
+use Rattle.std.proofs.Common.{Option, None, Some, Result, Ok, Err}
+use Rattle.vector_types.specs.Answers.{detail_of}
 use Rattle.vector_types.specs.declared.Detail.{Detail}
 use Rattle.vector_types.specs.declared.Detail.TheVariants.{Nothing, Needs, Starts, Entry}
-use Rattle.vector_types.specs.declared.ReadAnswer.{ReadAnswer}
-use Rattle.vector_types.specs.declared.ReadAnswer.TheVariants.{Accepted, Refused as ReadRefused}
-use Rattle.blob_writer.specs.declared.WriteAnswer.{WriteAnswer}
-use Rattle.blob_writer.specs.declared.WriteAnswer.TheVariants.{Written, Refused as WriteRefused}
-use Rattle.convert.specs.declared.ConvertAnswer.{ConvertAnswer}
-use Rattle.convert.specs.declared.ConvertAnswer.TheVariants.{Converted, Refused as ConvertRefused}
+use Rattle.vector_types.specs.declared.Refusal.{Refusal}
+use Rattle.vector_types.specs.declared.View.{View}
+use Rattle.distance.specs.Answer.{measured}
 use Rattle.distance.specs.declared.Counts.{Counts}
-use Rattle.distance.specs.declared.DistanceAnswer.{DistanceAnswer}
-use Rattle.distance.specs.declared.DistanceAnswer.TheVariants.{Measured, Refused as DistanceRefused}
-use Rattle.nearer.specs.declared.NearerAnswer.{NearerAnswer}
-use Rattle.nearer.specs.declared.NearerAnswer.TheVariants.{Nearer, Refused as NearerRefused}
-use Rattle.vecs.specs.declared.VecsAnswer.{VecsAnswer}
-use Rattle.vecs.specs.declared.VecsAnswer.TheVariants.{Vector, End, Refused as VecsRefused}
-use Rattle.vecs.specs.declared.AppendAnswer.{AppendAnswer}
-use Rattle.vecs.specs.declared.AppendAnswer.TheVariants.{Filled, Refused as AppendRefused}
+use Rattle.distance.specs.declared.Measured.{Measured}
+use Rattle.distance.specs.declared.Which.{Which}
+use Rattle.distance.specs.declared.refused.Refused.{Refused}
+use Rattle.nearer.specs.declared.Among.{Among}
+use Rattle.nearer.specs.declared.Near.{Near}
+use Rattle.vecs.specs.declared.Found.{Found}
 use Rattle.answer_fields.specs.Fields.{distance_field, readings_field, other_readings_field, in_use, set_fields, Unwritten, unreserved, ExportOutcome, export_outcome}
-use Rattle.answer_fields.specs.Exported.{detail_fields, read_fields, write_fields, convert_fields, distance_fields, nearer_fields, vecs_fields, append_fields}
+use Rattle.answer_fields.specs.Exported.{detail_fields, refusal_fields, read_fields, write_fields, convert_fields, distance_fields, nearer_fields, vecs_fields, append_fields}
 
 -- equal outcomes of a function that is lent no buffer are equal beside buffers
 pub with-buffers : (buffers : List (List ℕ)) {x y : ExportOutcome} → x ≡ y → export_outcome x.number x.answer buffers ≡ export_outcome y.number y.answer buffers
@@ -50,36 +47,39 @@ detail-unreserved (Needs n) = refl
 detail-unreserved (Starts place) = refl
 detail-unreserved (Entry entry) = refl
 
-pub read-unreserved : (a : ReadAnswer) → unreserved (read_fields a) ≡ true
-read-unreserved (Accepted v) = refl
-read-unreserved (ReadRefused r) = detail-unreserved r.detail
+refusal-unreserved : (r : Refusal) → unreserved (refusal_fields r) ≡ true
+refusal-unreserved r = detail-unreserved (detail_of r)
 
-pub write-unreserved : (a : WriteAnswer) → unreserved (write_fields a) ≡ true
-write-unreserved (Written n) = refl
-write-unreserved (WriteRefused r) = detail-unreserved r.detail
+pub read-unreserved : (a : Result View Refusal) → unreserved (read_fields a) ≡ true
+read-unreserved (Ok v) = refl
+read-unreserved (Err r) = refusal-unreserved r
 
-pub convert-unreserved : (a : ConvertAnswer) → unreserved (convert_fields a) ≡ true
-convert-unreserved (Converted v) = refl
-convert-unreserved (ConvertRefused r) = detail-unreserved r.detail
+pub write-unreserved : (a : Result ℕ Refusal) → unreserved (write_fields a) ≡ true
+write-unreserved (Ok n) = refl
+write-unreserved (Err r) = refusal-unreserved r
 
-pub distance-unreserved : (a : DistanceAnswer) → unreserved (distance_fields a) ≡ true
-distance-unreserved (Measured x c) = refl
-distance-unreserved (DistanceRefused r w) = detail-unreserved r.detail
+pub convert-unreserved : (a : Result View Refusal) → unreserved (convert_fields a) ≡ true
+convert-unreserved (Ok v) = refl
+convert-unreserved (Err r) = refusal-unreserved r
 
-pub nearer-unreserved : (a : NearerAnswer) → unreserved (nearer_fields a) ≡ true
-nearer-unreserved (Nearer n) = refl
-nearer-unreserved (NearerRefused r w) = detail-unreserved r.detail
+pub distance-unreserved : (a : Result Measured (Refused Which)) → unreserved (distance_fields a) ≡ true
+distance-unreserved (Ok m) = refl
+distance-unreserved (Err e) = refusal-unreserved e.refusal
 
-pub vecs-unreserved : (a : VecsAnswer) → unreserved (vecs_fields a) ≡ true
-vecs-unreserved (Vector v) = refl
-vecs-unreserved End = refl
-vecs-unreserved (VecsRefused r) = detail-unreserved r.detail
+pub nearer-unreserved : (a : Result Near (Refused Among)) → unreserved (nearer_fields a) ≡ true
+nearer-unreserved (Ok n) = refl
+nearer-unreserved (Err e) = refusal-unreserved e.refusal
 
-pub append-unreserved : (a : AppendAnswer) → unreserved (append_fields a) ≡ true
-append-unreserved (Filled n) = refl
-append-unreserved (AppendRefused r) = detail-unreserved r.detail
+pub vecs-unreserved : (a : Result (Option Found) Refusal) → unreserved (vecs_fields a) ≡ true
+vecs-unreserved (Ok (Some v)) = refl
+vecs-unreserved (Ok None) = refl
+vecs-unreserved (Err r) = refusal-unreserved r
+
+pub append-unreserved : (a : Result ℕ Refusal) → unreserved (append_fields a) ≡ true
+append-unreserved (Ok n) = refl
+append-unreserved (Err r) = refusal-unreserved r
 
 pub nan_pattern : (c : Counts)
-    → distance_fields (Measured nan c) ≡ (distance_field, 0x7ff8_0000_0000_0000) ∷ (readings_field, c.first.0) ∷ (other_readings_field, c.second.0) ∷ []
+    → distance_fields (Ok (measured nan c)) ≡ (distance_field, 0x7ff8_0000_0000_0000) ∷ (readings_field, c.first.0) ∷ (other_readings_field, c.second.0) ∷ []
 unfolding to_bits
 nan_pattern c = refl

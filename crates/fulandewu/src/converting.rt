@@ -5,18 +5,16 @@ ghost use Rattle.answer_fields.specs.Fields.{export_outcome};
 ghost use Rattle.answer_fields.specs.Exported.{convert_export};
 ghost use Rattle.fulandewu.specs.Kinds.{converted_by};
 
-use crate::kinds::{Chosen, kind_of};
 use answer_fields::{Answer, report_converted};
-use convert::ConvertAnswer;
+use vector_types::{Refusal, VectorType, View};
 
 // Converts a blob to the kind that a byte names.
-fn convert_as(blob: &[u8], kind: u8, scratch: &mut [u8], out: &mut [u8]) -> ConvertAnswer
+#[tactic(auto, unfolding(crate::specs::Kinds::converted_by))]
+fn convert_as(blob: &[u8], kind: u8, scratch: &mut [u8], out: &mut [u8]) -> Result<View, Refusal>
     ensures { convert_leaving result scratch.new out.new ≡ converted_by blob.now kind scratch.old out.old }
 {
-    match kind_of(kind) {
-        Chosen::Kind(target) => convert::convert(blob, target, scratch, out),
-        Chosen::Refused(refusal) => ConvertAnswer::Refused(refusal),
-    }
+    let target = VectorType::try_from(kind)?;
+    convert::convert(blob, target, scratch, out)
 }
 
 // Puts the body of the kind that a type byte names at the start of out, and reports its dims and length;

@@ -6,7 +6,6 @@
 
 mod converting;
 mod distances;
-mod kinds;
 mod nearest;
 mod reading;
 mod vecs_files;

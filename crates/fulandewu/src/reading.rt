@@ -8,14 +8,15 @@ ghost use Rattle.fulandewu.specs.Modes.{mode_of};
 use answer_fields::{Answer, report_view};
 use vector_types::Mode;
 
-// The mode that a byte names: 0 the plain one, 1 the strict one, and every other byte too.
+// The mode that a byte names: 0 the plain one, 1 the strict one, and every other byte too. The bytes are
+// the C interface's and `Mode` is another crate's, so this is no From.
 fn mode_of(byte: u8) -> Mode
     ensures { result ≡ mode_of byte }
 {
-    if byte == 0 {
-        return Mode::Plain;
+    match byte {
+        0 => Mode::Plain,
+        _ => Mode::Strict,
     }
-    Mode::Strict
 }
 
 // What a blob shows in a mode: its type byte (1, 2, 3, 4 or 9), its dims, and how many of its first bytes

@@ -5,19 +5,16 @@ ghost use Rattle.answer_fields.specs.Fields.{export_outcome};
 ghost use Rattle.answer_fields.specs.Exported.{write_export};
 ghost use Rattle.fulandewu.specs.Kinds.{written_by};
 
-use crate::kinds::{Chosen, kind_of};
 use answer_fields::{Answer, report_written};
-use blob_writer::WriteAnswer;
-use vector_types::Dims;
+use vector_types::{Dims, Refusal, VectorType};
 
 // Writes a blob of the kind that a byte names.
-fn write_as(kind: u8, dims: usize, body: &[u8], out: &mut [u8]) -> WriteAnswer
+#[tactic(auto, unfolding(crate::specs::Kinds::written_by))]
+fn write_as(kind: u8, dims: usize, body: &[u8], out: &mut [u8]) -> Result<usize, Refusal>
     ensures { write_leaving result out.new ≡ written_by kind dims body.now out.old }
 {
-    match kind_of(kind) {
-        Chosen::Kind(named) => blob_writer::write(named, Dims(dims), body, out),
-        Chosen::Refused(refusal) => WriteAnswer::Refused(refusal),
-    }
+    let kind = VectorType::try_from(kind)?;
+    blob_writer::write(kind, Dims(dims), body, out)
 }
 
 // Puts the blob of a type byte, dims and a body at the start of out, and reports its length; where out

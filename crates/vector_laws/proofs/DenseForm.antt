@@ -13,7 +13,7 @@ use Rattle.vector_types.specs.Parts.{body_of}
 use Rattle.vector_types.specs.declared.View.{View}
 use Rattle.vector_types.specs.declared.VectorType.{VectorType}
 use Rattle.vector_types.specs.declared.VectorType.TheVariants.{Float32Dense, Float32Sparse}
-use Rattle.vector_types.specs.declared.ReadAnswer.TheVariants.{Accepted}
+use Rattle.std.specs.Prelude.{Ok}
 use Rattle.vector_types.specs.declared.Mode.TheVariants.{Plain}
 use Rattle.vector_types.proofs.Bodies.{body-facts}
 use Rattle.bodies.specs.Entries.{Rising, entries_of}
@@ -49,14 +49,14 @@ module _ (d : ℕ) (a b : List ℕ) (au : Rising (entries_of a)) (bu : Rising (e
   dense-form-same-value Jaccard h = ap (λ x. some (jaccard_by binary32 x)) (sym (dense-form-same-shares d a b au bu ai bi))
 
 -- ---- two blobs
-inside : (s : List ℕ) (v : View) → read_of Plain s ≡ Accepted v → v.kind ≡ Float32Sparse → has_index_outside Float32Sparse v.dims.0 (body_of s) ≡ false
+inside : (s : List ℕ) (v : View) → read_of Plain s ≡ Ok v → v.kind ≡ Float32Sparse → has_index_outside Float32Sparse v.dims.0 (body_of s) ≡ false
 inside s v e k = subst (λ (k : VectorType). has_index_outside k v.dims.0 (body_of s) ≡ false) k (body-facts s v e).inside
 
-pub dense-form-same-distance : (m : Distance) (s t : List ℕ) (v w : View) → read_of Plain s ≡ Accepted v → read_of Plain t ≡ Accepted w → v.kind ≡ Float32Sparse → w.kind ≡ Float32Sparse
+pub dense-form-same-distance : (m : Distance) (s t : List ℕ) (v w : View) → read_of Plain s ≡ Ok v → read_of Plain t ≡ Ok w → v.kind ≡ Float32Sparse → w.kind ≡ Float32Sparse
     → Rising (entries_of (body_of s)) → Rising (entries_of (body_of t)) → Premises m (body_of s) (body_of t)
     → SameDistance (distance_of m (dense_form binary32 s v) (dense_form binary32 t w)) (distance_of m s t)
 dense-form-same-distance m s t v w p q kv kw su tu asks =
-    dense-forms-related SameDistance (λ r. (refl, refl)) m binary32 s t v w p q (kv ∙ sym kw) (λ x. refl) values
+    dense-forms-related SameDistance (λ r. refl) m binary32 s t v w p q (kv ∙ sym kw) (λ x. refl) values
   where
     values : v.dims.0 ≡ w.dims.0
         → value_of m Float32Dense v.dims.0 (dense_form_body binary32 s v) (dense_form_body binary32 t w) ≡ value_of m v.kind v.dims.0 (body_of s) (body_of t)

@@ -10,31 +10,30 @@ use lib.Seq.{take_at}
 use lib.Ieee.{Float, Format, binary32, binary64}
 use borrow.Author.Tests.{eq-eqb}
 use Rattle.little_endian.specs.Bytes.{width}
-use Rattle.vector_types.specs.Answers.{none, first_given, view_of}
+use Rattle.vector_types.specs.Answers.{first_given, view_of, accepted_as}
 use Rattle.vector_types.specs.Layout.{max_dims, has_byte, has_trailing_count, body_fits}
 use Rattle.vector_types.specs.Read.{read_of}
 use Rattle.vector_types.specs.Parts.{body_of}
 use Rattle.vector_types.specs.declared.Refusal.{Refusal}
 use Rattle.vector_types.specs.declared.View.{View}
 use Rattle.vector_types.specs.declared.VectorType.{VectorType}
-use Rattle.vector_types.specs.declared.ReadAnswer.TheVariants.{Accepted}
+use Rattle.std.specs.Prelude.{None, Result, Ok, Err}
 use Rattle.vector_types.specs.declared.Mode.TheVariants.{Plain}
 use Rattle.vector_types.proofs.SameKind.{own-byte}
 use Rattle.vector_types.proofs.Views.{view-facts}
-use Rattle.blob_writer.specs.Answers.{written}
 use Rattle.blob_writer.specs.Write.{blob_of, tail_of, write_refusals, write_of, write_outcome}
 use Rattle.blob_writer.proofs.Tails.{length-blob}
 use Rattle.blob_writer.proofs.Written.{Writable, clear_whole, unrefused, reads-back, written-blob}
 use Rattle.convert_parts.proofs.Lengths.{length-float32, length-float64, length-scratch}
-use Rattle.convert.specs.Convert.{converted_to, convert_outcome}
+use Rattle.convert.specs.Convert.{convert_outcome}
 use Rattle.convert.proofs.Answered.{conversion-put}
 use Rattle.convert.proofs.Shown.{shown-fitting}
 use Rattle.distance.specs.Values.{value_of}
-use Rattle.distance.specs.Answer.{counts_of, pairing_of, distance_of}
+use Rattle.distance.specs.Answer.{counts_of, pairing_of, distance_of, about_none, measured}
 use Rattle.distance.specs.declared.Distance.{Distance}
-use Rattle.distance.specs.declared.Which.TheVariants.{Neither}
-use Rattle.distance.specs.declared.DistanceAnswer.{DistanceAnswer}
-use Rattle.distance.specs.declared.DistanceAnswer.TheVariants.{Measured, Refused}
+use Rattle.distance.specs.declared.Measured.{Measured}
+use Rattle.distance.specs.declared.refused.Refused.{Refused}
+use Rattle.distance.specs.declared.Which.{Which}
 use Rattle.vector_laws.specs.DenseForm.{dense_kind, dense_blob_length, dense_form_body, dense_form}
 use Rattle.vector_laws.proofs.Measured.{views-related}
 
@@ -61,7 +60,7 @@ no-scratch binary64 k d = rw (and-false (has_byte 9 k))
 abbrev pub dense_form_view : Format → List ℕ → View → View
 dense_form_view f s v = view_of (dense_kind f) v.dims.0 (length (dense_form_body f s v))
 
-module _ (f : Format) (s : List ℕ) (v : View) (e : read_of Plain s ≡ Accepted v) where
+module _ (f : Format) (s : List ℕ) (v : View) (e : read_of Plain s ≡ Ok v) where
   abbrev d : ℕ
   d = v.dims.0
 
@@ -75,24 +74,24 @@ module _ (f : Format) (s : List ℕ) (v : View) (e : read_of Plain s ≡ Accepte
       by binary32 = length-float32 d (body_of s) v.kind (shown-fitting s v e)
       by binary64 = length-float64 d (body_of s) v.kind (shown-fitting s v e)
 
-  unrefusing : first_given (write_refusals (dense_kind f) d new) ≡ none
+  unrefusing : first_given (write_refusals (dense_kind f) d new) ≡ None
   unrefusing = unrefused (dense_kind f) d new (dense-writable f d new (view-facts s v e).few length-new)
 
-  pub dense-form-read : (read_of Plain (dense_form f s v) ≡ Accepted (dense_form_view f s v)) × (body_of (dense_form f s v) ≡ dense_form_body f s v)
+  pub dense-form-read : (read_of Plain (dense_form f s v) ≡ Ok (dense_form_view f s v)) × (body_of (dense_form f s v) ≡ dense_form_body f s v)
   dense-form-read = reads-back (dense_kind f) d new unrefusing
 
   -- with so much room the converter leaves that body at the start of its output, and the writer makes that blob of it
   pub dense-form-made : (scratch out blob : List ℕ) → width f * v.dims.0 ≤ length out → dense_blob_length f v.dims.0 ≤ length blob
-      → ((convert_outcome s (dense_kind f) scratch out).answer ≡ converted_to (dense_kind f) v.dims.0 (width f * v.dims.0))
+      → ((convert_outcome s (dense_kind f) scratch out).answer ≡ accepted_as (dense_kind f) v.dims.0 (width f * v.dims.0))
       × (take (width f * v.dims.0) (convert_outcome s (dense_kind f) scratch out).out ≡ dense_form_body f s v)
-      × (write_of (dense_kind f) v.dims.0 (dense_form_body f s v) (length blob) ≡ written (dense_blob_length f v.dims.0))
+      × (write_of (dense_kind f) v.dims.0 (dense_form_body f s v) (length blob) ≡ Ok (dense_blob_length f v.dims.0))
       × (take (dense_blob_length f v.dims.0) (write_outcome (dense_kind f) v.dims.0 (dense_form_body f s v) blob).out ≡ dense_form f s v)
   unfolding convert_outcome
   dense-form-made scratch out blob h l =
       let k = dense_kind f in
       let none_needed = length-scratch d (body_of s) v.kind k (shown-fitting s v e) ∙ no-scratch f v.kind d in
       let put = conversion-put s k v e (length scratch) (length out) (omega arith) (omega (arith, length-new)) in
-      let goes : write_of k d new (length blob) ≡ written (dense_blob_length f d) = sym (clear_whole k d new (length blob) unrefusing (dense_blob_length f d) (sym (length-dense-blob f d new length-new)) l) in (
+      let goes : write_of k d new (length blob) ≡ Ok (dense_blob_length f d) = sym (clear_whole k d new (length blob) unrefusing (dense_blob_length f d) (sym (length-dense-blob f d new length-new)) l) in (
         rw (put, length-new),
         rw put (take_at new (drop (length new) out) (width f * d) length-new),
         goes,
@@ -100,9 +99,9 @@ module _ (f : Format) (s : List ℕ) (v : View) (e : read_of Plain s ≡ Accepte
       )
 
 -- ---- two blobs of one kind, and their dense forms: over what relates every refusal to itself, and one distance with both counts
-pub dense-forms-related : (R : DistanceAnswer → DistanceAnswer → Type 0) → ((r : Refusal) → R (Refused r Neither) (Refused r Neither))
-    → (m : Distance) (f : Format) (s t : List ℕ) (v w : View) → read_of Plain s ≡ Accepted v → read_of Plain t ≡ Accepted w → v.kind ≡ w.kind
-    → ((x : Float) → R (Measured x (counts_of (dense_form_view f s v) (dense_form_view f t w))) (Measured x (counts_of v w)))
+pub dense-forms-related : (R : Result Measured (Refused Which) → Result Measured (Refused Which) → Type 0) → ((r : Refusal) → R (Err (about_none r)) (Err (about_none r)))
+    → (m : Distance) (f : Format) (s t : List ℕ) (v w : View) → read_of Plain s ≡ Ok v → read_of Plain t ≡ Ok w → v.kind ≡ w.kind
+    → ((x : Float) → R (Ok (measured x (counts_of (dense_form_view f s v) (dense_form_view f t w)))) (Ok (measured x (counts_of v w))))
     → (v.dims.0 ≡ w.dims.0 → value_of m (dense_kind f) v.dims.0 (dense_form_body f s v) (dense_form_body f t w) ≡ value_of m v.kind v.dims.0 (body_of s) (body_of t))
     → R (distance_of m (dense_form f s v) (dense_form f t w)) (distance_of m s t)
 unfolding distance_of

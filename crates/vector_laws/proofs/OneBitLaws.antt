@@ -29,9 +29,9 @@ use Rattle.vector_types.specs.Read.{read_of}
 use Rattle.vector_types.specs.Parts.{body_of}
 use Rattle.vector_types.specs.declared.VectorType.TheVariants.{Float1Bit}
 use Rattle.vector_types.specs.declared.View.{View}
-use Rattle.vector_types.specs.declared.ReadAnswer.TheVariants.{Accepted}
+use Rattle.std.specs.Prelude.{Ok}
 use Rattle.vector_types.specs.declared.Mode.TheVariants.{Plain}
-use Rattle.vector_types.proofs.Given.{accepted-same-view}
+use Rattle.vector_types.proofs.Modes.{one-view}
 use Rattle.vector_types.proofs.Views.{view-facts}
 use Rattle.vector_types.proofs.Bodies.{body_is, body-facts}
 use Rattle.distance_sums.specs.Dense.{is_zero}
@@ -39,10 +39,9 @@ use Rattle.distance_sums.specs.OneBit.{whole_bits, differing, bit_cosine}
 use Rattle.distance_sums.specs.Values.{cosine_of}
 use Rattle.distance_sums.proofs.Counts.{xor-digits, tally-le, byte_more}
 use Rattle.distance.specs.Values.{value_of}
-use Rattle.distance.specs.Answer.{counts_of, distance_of}
+use Rattle.distance.specs.Answer.{counts_of, distance_of, measured}
 use Rattle.distance.specs.declared.Counts.{Counts}
 use Rattle.distance.specs.declared.Distance.TheVariants.{Cos}
-use Rattle.distance.specs.declared.DistanceAnswer.TheVariants.{Measured}
 use Rattle.vector_laws.specs.BitsApart.{bits_apart, dims_each}
 use Rattle.vector_laws.proofs.Measured.{measured-alike, alike-measured}
 
@@ -96,7 +95,7 @@ module _ (a b : List ℕ) (B : AreBytes a) (C : AreBytes b) where
 -- ---- a 1-bit blob of d elements
 record OneBit (d : ℕ) (s : List ℕ) : Type 0 where
   view : View
-  read : read_of Plain s ≡ Accepted view
+  read : read_of Plain s ≡ Ok view
   kind : view.kind ≡ Float1Bit
   dims : view.dims.0 ≡ d
 
@@ -110,7 +109,7 @@ abbrev or_nan : Option Float → Float
 or_nan none = nan
 or_nan (some x) = x
 
-pub one-bit-readings : (s : List ℕ) (v : View) → read_of Plain s ≡ Accepted v → v.kind ≡ Float1Bit → v.readings ≡ readings v.dims.0
+pub one-bit-readings : (s : List ℕ) (v : View) → read_of Plain s ≡ Ok v → v.kind ≡ Float1Bit → v.readings ≡ readings v.dims.0
 one-bit-readings s v e k = ap readings ((view-facts s v e).counted ∙ rw k)
 
 dims-readings : {d : ℕ} {s : List ℕ} (o : OneBit d s) → o.view.readings ≡ readings d
@@ -121,11 +120,11 @@ dims-each o other = ap₂ (λ m n. record { first = m; second = n }) (dims-readi
 
 module _ {d : ℕ} {s : List ℕ} (o : OneBit d s) where
   -- what is measured against it is one too, the distance is the count of bits that differ, and both hold dims readings
-  measured-one-bit : (t : List ℕ) (x : Float) {c : Counts} → distance_of Cos s t ≡ Measured x c → OneBit d t × (bit_cosine (bits_apart d s t) ≡ x) × (c ≡ dims_each d)
+  measured-one-bit : (t : List ℕ) (x : Float) {c : Counts} → distance_of Cos s t ≡ Ok (measured x c) → OneBit d t × (bit_cosine (bits_apart d s t) ≡ x) × (c ≡ dims_each d)
   unfolding value_of cosine_of
   measured-one-bit t x {c} e =
       let p = measured-alike Cos s t x c e in
-      let same = accepted-same-view p.first o.view (sym p.first_read ∙ o.read) in
+      let same = one-view Plain Plain s p.first o.view p.first_read o.read in
       let kind : p.first.kind ≡ Float1Bit = ap (λ (v : View). v.kind) same ∙ o.kind in
       let dims : p.first.dims.0 ≡ d = ap (λ (v : View). v.dims.0) same ∙ o.dims in
       let other : OneBit d t = record { view = p.second; read = p.second_read; kind = sym p.kind ∙ kind; dims = sym p.dims ∙ dims } in (
@@ -146,7 +145,7 @@ module _ {d : ℕ} {s : List ℕ} (o : OneBit d s) where
   unfolding differing
   few-apart t = omega (arith, o.dims, (view-facts s o.view o.read).few, tally-le xor-digits (body_of s) (body_of t) (whole_bits d))
 
-  exact-count : (t : List ℕ) (x : Float) {c : Counts} → distance_of Cos s t ≡ Measured x c → HasValue x false (bits_apart d s t) 1
+  exact-count : (t : List ℕ) (x : Float) {c : Counts} → distance_of Cos s t ≡ Ok (measured x c) → HasValue x false (bits_apart d s t) 1
   unfolding bit_cosine
   exact-count t x e =
       subst (λ (y : Float). HasValue y false (bits_apart d s t) 1) (measured-one-bit t x e).1 (of-whole binary64 (bits_apart d s t) (omega (arith, few-apart t)))
@@ -166,7 +165,7 @@ zero-whole (fin s m i) (suc n) e v =
 pub counts-triangle : (d : ℕ) (s t u : List ℕ) → bits_apart d s u ≤ bits_apart d s t + bits_apart d t u
 counts-triangle d s t u = differing-triangle (body_of s) (body_of t) (body_of u) _
 
-module _ (s : List ℕ) (v : View) (e : read_of Plain s ≡ Accepted v) (k : v.kind ≡ Float1Bit) where
+module _ (s : List ℕ) (v : View) (e : read_of Plain s ≡ Ok v) (k : v.kind ≡ Float1Bit) where
   abbrev d : ℕ
   d = v.dims.0
 
@@ -174,12 +173,12 @@ module _ (s : List ℕ) (v : View) (e : read_of Plain s ≡ Accepted v) (k : v.k
   one_bit = record { view = v; read = e; kind = k; dims = refl }
 
   -- whatever is measured against it, both hold dims readings
-  pub measured-dims-each : (t : List ℕ) (x : Float) (c : Counts) → distance_of Cos s t ≡ Measured x c → c ≡ dims_each v.dims.0
+  pub measured-dims-each : (t : List ℕ) (x : Float) (c : Counts) → distance_of Cos s t ≡ Ok (measured x c) → c ≡ dims_each v.dims.0
   measured-dims-each t x c g = (measured-one-bit one_bit t x g).2
 
   -- another of the same dims is measured against it, by the count
-  pub cosine-counts : (t : List ℕ) (w : View) → read_of Plain t ≡ Accepted w → w.kind ≡ Float1Bit → v.dims.0 ≡ w.dims.0
-      → distance_of Cos s t ≡ Measured (bit_cosine (bits_apart v.dims.0 s t)) (dims_each v.dims.0)
+  pub cosine-counts : (t : List ℕ) (w : View) → read_of Plain t ≡ Ok w → w.kind ≡ Float1Bit → v.dims.0 ≡ w.dims.0
+      → distance_of Cos s t ≡ Ok (measured (bit_cosine (bits_apart v.dims.0 s t)) (dims_each v.dims.0))
   unfolding value_of cosine_of one_bit
   cosine-counts t w g l same =
       let other : OneBit d t = record { view = w; read = g; kind = l; dims = sym same } in
@@ -187,10 +186,10 @@ module _ (s : List ℕ) (v : View) (e : read_of Plain s ≡ Accepted v) (k : v.k
       (record { first = v; second = w; first_read = e; second_read = g; kind = k ∙ sym l; dims = same; value = rw k; counted = dims-each one_bit other })
 
   -- the f64 that is answered is the count
-  pub count-exact : (t : List ℕ) (x : Float) → distance_of Cos s t ≡ Measured x (dims_each v.dims.0) → HasValue x false (bits_apart v.dims.0 s t) 1
+  pub count-exact : (t : List ℕ) (x : Float) → distance_of Cos s t ≡ Ok (measured x (dims_each v.dims.0)) → HasValue x false (bits_apart v.dims.0 s t) 1
   count-exact t x e = exact-count one_bit t x e
 
-  pub cosine-zero : (t : List ℕ) (x : Float) → AreBytes s → AreBytes t → distance_of Cos s t ≡ Measured x (dims_each v.dims.0)
+  pub cosine-zero : (t : List ℕ) (x : Float) → AreBytes s → AreBytes t → distance_of Cos s t ≡ Ok (measured x (dims_each v.dims.0))
       → (is_zero x ≡ true → body_of s ≡ body_of t) × (body_of s ≡ body_of t → is_zero x ≡ true)
   unfolding bit_cosine eq
   cosine-zero t x B C g =
@@ -201,7 +200,7 @@ module _ (s : List ℕ) (v : View) (e : read_of Plain s ≡ Accepted v) (k : v.k
       )
 
   -- by way of t: the sum of two f64s is exact, and so no less than the third
-  pub detour-exact : (t u : List ℕ) (x y : Float) → distance_of Cos s t ≡ Measured x (dims_each v.dims.0) → distance_of Cos t u ≡ Measured y (dims_each v.dims.0)
+  pub detour-exact : (t u : List ℕ) (x y : Float) → distance_of Cos s t ≡ Ok (measured x (dims_each v.dims.0)) → distance_of Cos t u ≡ Ok (measured y (dims_each v.dims.0))
       → HasValue (add binary64 x y) false (bits_apart v.dims.0 s t + bits_apart v.dims.0 t u) 1
   unfolding bit_cosine
   detour-exact t u x y p q =
@@ -211,7 +210,7 @@ module _ (s : List ℕ) (v : View) (e : read_of Plain s ≡ Accepted v) (k : v.k
       let b = few-apart other u in
       rw (← first, ← second, add-int binary64 (pos (bits_apart d s t)) (pos (bits_apart d t u)) (omega arith) (omega arith)) (of-whole binary64 _ (omega arith))
 
-  pub cosine-triangle : (t u : List ℕ) (x y z : Float) → distance_of Cos s t ≡ Measured x (dims_each v.dims.0) → distance_of Cos t u ≡ Measured y (dims_each v.dims.0) → distance_of Cos s u ≡ Measured z (dims_each v.dims.0)
+  pub cosine-triangle : (t u : List ℕ) (x y z : Float) → distance_of Cos s t ≡ Ok (measured x (dims_each v.dims.0)) → distance_of Cos t u ≡ Ok (measured y (dims_each v.dims.0)) → distance_of Cos s u ≡ Ok (measured z (dims_each v.dims.0))
       → T (le z (add binary64 x y))
   cosine-triangle t u x y z p q r =
       le_of_values z (add binary64 x y) (bits_apart d s u) 1 (bits_apart d s t + bits_apart d t u) 1 (zero-lt-suc 0) (zero-lt-suc 0)

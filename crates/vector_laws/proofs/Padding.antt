@@ -18,15 +18,14 @@ use Rattle.vector_types.specs.Read.{read_of}
 use Rattle.vector_types.specs.Parts.{body_of}
 use Rattle.vector_types.specs.declared.VectorType.{VectorType}
 use Rattle.vector_types.specs.declared.VectorType.TheVariants.{Float32Dense, Float64Dense, Float32Sparse, Float1Bit, Float8}
-use Rattle.vector_types.specs.declared.Named.TheVariants.{Kind}
 use Rattle.vector_types.specs.declared.View.{View}
-use Rattle.vector_types.specs.declared.ReadAnswer.TheVariants.{Accepted}
+use Rattle.std.specs.Prelude.{Ok}
 use Rattle.vector_types.specs.declared.Mode.{Mode}
 use Rattle.vector_types.specs.declared.Mode.TheVariants.{Plain, Strict}
-use Rattle.vector_types.proofs.Given.{accepted-same-view}
 use Rattle.vector_types.proofs.Ends.{named-typed}
 use Rattle.vector_types.proofs.ByKind.{read-float8}
 use Rattle.vector_types.proofs.Strict.{strict-other}
+use Rattle.vector_types.proofs.Modes.{one-view}
 use Rattle.vector_types.proofs.Views.{view-facts}
 use Rattle.vector_types.proofs.Bodies.{body_is}
 use Rattle.bodies.specs.Elements.{alpha_of, shift_of, float8_element}
@@ -108,12 +107,12 @@ module _ {d : ℕ} {a a' : List ℕ} (s : SameElements d a a') where
   result-same Float8 other = absurd (other refl)
 
 -- ---- two blobs, of which one is accepted
-module _ (s s' : List ℕ) (v : View) (e : read_of Plain s ≡ Accepted v) (k : v.kind ≡ Float8) (same : AlikeButPadding v.dims.0 s s') where
+module _ (s s' : List ℕ) (v : View) (e : read_of Plain s ≡ Ok v) (k : v.kind ≡ Float8) (same : AlikeButPadding v.dims.0 s s') where
   abbrev d : ℕ
   d = v.dims.0
 
-  names : named_kind s ≡ Kind Float8
-  names = (view-facts s v e).names ∙ ap Kind k
+  names : named_kind s ≡ Ok Float8
+  names = (view-facts s v e).names ∙ ap Ok k
 
   -- how long the body is, the bytes before the type byte, and the blob
   long : v.length ≡ 4 * ceil d 4 + 8
@@ -131,7 +130,7 @@ module _ (s s' : List ℕ) (v : View) (e : read_of Plain s ≡ Accepted v) (k : 
   end_same : (i : ℕ) → 4 * ceil d 4 + 8 < i → get_or s i 0 ≡ get_or s' i 0
   end_same i past = same.same_bytes i (λ pad. omega arith) (λ place. omega (arith, before))
 
-  names' : named_kind s' ≡ Kind Float8
+  names' : named_kind s' ≡ Ok Float8
   unfolding named_kind
   names' = rw (← same.same_length, ← end_same (length s - 1) (omega (arith, ends))) names
 
@@ -141,7 +140,7 @@ module _ (s s' : List ℕ) (v : View) (e : read_of Plain s ≡ Accepted v) (k : 
       let count = end_same (length s - 1 - 1) (omega (arith, ends)) in
       read-float8 s' (rw (← same.same_length) short) names' ∙ rw (← same.same_length, ← count) (sym (read-float8 s short names))
 
-  accepted' : read_of Plain s' ≡ Accepted v
+  accepted' : read_of Plain s' ≡ Ok v
   accepted' = same-plain-read ∙ e
 
   pub padding-same-read : (mode : Mode) → read_of mode s' ≡ read_of mode s
@@ -168,11 +167,11 @@ module _ (s s' : List ℕ) (v : View) (e : read_of Plain s ≡ Accepted v) (k : 
   }
 
   -- ---- what is answered
-  kind-is : (w : View) → read_of Plain s ≡ Accepted w → w.kind ≡ Float8
-  kind-is w g = rw (accepted-same-view w v (sym g ∙ e)) k
+  kind-is : (w : View) → read_of Plain s ≡ Ok w → w.kind ≡ Float8
+  kind-is w g = rw (one-view Plain Plain s w v g e) k
 
-  dims-are : (w : View) → read_of Plain s ≡ Accepted w → w.dims.0 ≡ d
-  dims-are w g = ap (λ (x : View). x.dims.0) (accepted-same-view w v (sym g ∙ e))
+  dims-are : (w : View) → read_of Plain s ≡ Ok w → w.dims.0 ≡ d
+  dims-are w g = ap (λ (x : View). x.dims.0) (one-view Plain Plain s w v g e)
 
   pub padding-same-distance : (m : Distance) (u : List ℕ) → (distance_of m s' u ≡ distance_of m s u) × (distance_of m u s' ≡ distance_of m u s)
   unfolding distance_of

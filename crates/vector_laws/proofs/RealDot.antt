@@ -13,7 +13,7 @@ use Rattle.vector_types.specs.Read.{read_of}
 use Rattle.vector_types.specs.Parts.{body_of}
 use Rattle.vector_types.specs.declared.View.{View}
 use Rattle.vector_types.specs.declared.VectorType.TheVariants.{Float1Bit}
-use Rattle.vector_types.specs.declared.ReadAnswer.TheVariants.{Accepted}
+use Rattle.std.specs.Prelude.{Ok}
 use Rattle.vector_types.specs.declared.Mode.TheVariants.{Plain, Strict}
 use Rattle.vector_types.proofs.Views.{view-facts}
 use Rattle.vector_types.proofs.Bodies.{body_is}
@@ -22,9 +22,8 @@ use Rattle.vector_types.proofs.Strict.{strict-unused}
 use Rattle.bodies.proofs.Lengths.{one-bit-length}
 use Rattle.distance_sums.specs.OneBit.{whole_bits}
 use Rattle.distance.specs.Values.{value_of}
-use Rattle.distance.specs.Answer.{counts_of, distance_of}
+use Rattle.distance.specs.Answer.{counts_of, distance_of, measured}
 use Rattle.distance.specs.declared.Distance.TheVariants.{Dot}
-use Rattle.distance.specs.declared.DistanceAnswer.TheVariants.{Measured}
 use Rattle.vector_laws.specs.DenseForm.{dense_kind, dense_form_body, dense_form}
 use Rattle.vector_laws.specs.RealDot.{BothUnusedZero}
 use Rattle.vector_laws.proofs.OneBitLaws.{one-bit-readings}
@@ -37,7 +36,7 @@ dense-readings binary32 d m = refl
 dense-readings binary64 d m = refl
 
 -- ---- a 1-bit blob that is read
-module _ (s : List ℕ) (v : View) (e : read_of Plain s ≡ Accepted v) (k : v.kind ≡ Float1Bit) where
+module _ (s : List ℕ) (v : View) (e : read_of Plain s ≡ Ok v) (k : v.kind ≡ Float1Bit) where
   body-bit : (i : ℕ) → i < 8 * v.length → bit_at (body_of s) i ≡ bit_at s i
   body-bit i h = rw (body_is s v e, get_or-take v.length s (i / 8) 0 (omega arith))
 
@@ -49,10 +48,10 @@ module _ (s : List ℕ) (v : View) (e : read_of Plain s ≡ Accepted v) (k : v.k
   same-readings f = ap readings (dense-readings f v.dims.0 _) ∙ sym (one-bit-readings s v e k)
 
 -- ---- two such blobs
-pub dot-real : (f : Format) (s t : List ℕ) (v w : View) → read_of Plain s ≡ Accepted v → read_of Plain t ≡ Accepted w → v.kind ≡ Float1Bit → w.kind ≡ Float1Bit
+pub dot-real : (f : Format) (s t : List ℕ) (v w : View) → read_of Plain s ≡ Ok v → read_of Plain t ≡ Ok w → v.kind ≡ Float1Bit → w.kind ≡ Float1Bit
     → BothUnusedZero s t v w → distance_of Dot (dense_form f s v) (dense_form f t w) ≡ distance_of Dot s t
 unfolding value_of
-dot-real f s t v w p q kv kw (zs, zt) = dense-forms-related ◌≡◌ (λ r. refl) Dot f s t v w p q (kv ∙ sym kw) (λ x. ap (Measured x) counted) values
+dot-real f s t v w p q kv kw (zs, zt) = dense-forms-related ◌≡◌ (λ r. refl) Dot f s t v w p q (kv ∙ sym kw) (λ x. ap (λ c. Ok (measured x c)) counted) values
   where
     counted : counts_of (dense_form_view f s v) (dense_form_view f t w) ≡ counts_of v w
     counted = ap₂ (λ m n. record { first = m; second = n }) (same-readings s v p kv f) (same-readings t w q kw f)
@@ -68,7 +67,7 @@ dot-real f s t v w p q kv kw (zs, zt) = dense-forms-related ◌≡◌ (λ r. ref
     values same = rw (← same, kv, kw) (ap some (dot-real-bodies f v.dims.0 (body_of s) (body_of t) (view-facts s v p).few (agree same)))
 
 -- what the strict mode accepts meets the premise
-pub strict-dot-real : (f : Format) (s t : List ℕ) (v w : View) → read_of Strict s ≡ Accepted v → read_of Strict t ≡ Accepted w → v.kind ≡ Float1Bit → w.kind ≡ Float1Bit
+pub strict-dot-real : (f : Format) (s t : List ℕ) (v w : View) → read_of Strict s ≡ Ok v → read_of Strict t ≡ Ok w → v.kind ≡ Float1Bit → w.kind ≡ Float1Bit
     → distance_of Dot (dense_form f s v) (dense_form f t w) ≡ distance_of Dot s t
 strict-dot-real f s t v w p q kv kw =
     let a = shown-plainly Strict s v p in

@@ -7,7 +7,7 @@ use Rattle.vector_types.specs.Read.{read_of}
 use Rattle.vector_types.specs.Parts.{body_of}
 use Rattle.vector_types.specs.declared.View.{View}
 use Rattle.vector_types.specs.declared.VectorType.TheVariants.{Float32Sparse}
-use Rattle.vector_types.specs.declared.ReadAnswer.TheVariants.{Accepted}
+use Rattle.std.specs.Prelude.{Ok}
 use Rattle.vector_types.specs.declared.Mode.TheVariants.{Strict}
 use Rattle.vector_types.proofs.Bodies.{body-indices-rise}
 use Rattle.vector_types.proofs.Modes.{shown-plainly}
@@ -19,12 +19,12 @@ use Rattle.distance.specs.declared.Distance.TheVariants.{L2, Jaccard}
 use Rattle.vector_laws.specs.DenseForm.{dense_form, Premises, SameDistance}
 use Rattle.vector_laws.proofs.DenseForm.{dense-form-same-distance}
 
-pub strict-rises : (s : List ℕ) (v : View) → read_of Strict s ≡ Accepted v → v.kind ≡ Float32Sparse → Rising (entries_of (body_of s))
+pub strict-rises : (s : List ℕ) (v : View) → read_of Strict s ≡ Ok v → v.kind ≡ Float32Sparse → Rising (entries_of (body_of s))
 strict-rises s v e k =
     let plain = shown-plainly Strict s v e in
     body-indices-rise s v plain k ((strict-indices-rise s v plain k).0 e)
 
-module _ (s t : List ℕ) (v w : View) (p : read_of Strict s ≡ Accepted v) (q : read_of Strict t ≡ Accepted w) (kv : v.kind ≡ Float32Sparse) (kw : w.kind ≡ Float32Sparse) where
+module _ (s t : List ℕ) (v w : View) (p : read_of Strict s ≡ Ok v) (q : read_of Strict t ≡ Ok w) (kv : v.kind ≡ Float32Sparse) (kw : w.kind ≡ Float32Sparse) where
   pub strict-dense-form-same-distance : (m : Distance) → Premises m (body_of s) (body_of t) → SameDistance (distance_of m (dense_form binary32 s v) (dense_form binary32 t w)) (distance_of m s t)
   strict-dense-form-same-distance m asks =
       dense-form-same-distance m s t v w (shown-plainly Strict s v p) (shown-plainly Strict t w q) kv kw (strict-rises s v p kv) (strict-rises t w q kw) asks

@@ -15,7 +15,7 @@ use Rattle.vector_types.specs.Parts.{body_of}
 use Rattle.vector_types.specs.declared.VectorType.{VectorType}
 use Rattle.vector_types.specs.declared.VectorType.TheVariants.{Float32Dense, Float64Dense, Float32Sparse, Float1Bit, Float8}
 use Rattle.vector_types.specs.declared.View.{View}
-use Rattle.vector_types.specs.declared.ReadAnswer.TheVariants.{Accepted}
+use Rattle.std.specs.Prelude.{Ok}
 use Rattle.vector_types.specs.declared.Mode.TheVariants.{Plain}
 use Rattle.bodies.specs.Elements.{dense_element, float8_element}
 use Rattle.bodies.proofs.Elements.{dense-fits, float8-fits}
@@ -92,7 +92,7 @@ pairing-swap : (v w : View) → pairing_of v w ≡ pairing_of w v
 pairing-swap v w = rw (eqb_swap v.dims.0 w.dims.0, eqb_swap (byte_of v.kind) (byte_of w.kind))
 
 -- ---- two blobs
-pub distance-swap : (m : Distance) (s t : List ℕ) (v w : View) → read_of Plain s ≡ Accepted v → read_of Plain t ≡ Accepted w → symmetric m v.kind ≡ true
+pub distance-swap : (m : Distance) (s t : List ℕ) (v w : View) → read_of Plain s ≡ Ok v → read_of Plain t ≡ Ok w → symmetric m v.kind ≡ true
     → distance_of m s t ≡ exchanged (distance_of m t s)
 unfolding distance_of
 distance-swap m s t v w e g o =

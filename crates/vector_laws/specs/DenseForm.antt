@@ -1,5 +1,5 @@
 -- A blob as a dense one of either width, what each distance asks of two sparse bodies so that it stays the same, and what staying the same means.
-use Rattle.std.specs.Prelude.{ℕ, ◌+◌, ◌*◌, ◌<◌, ◌≡◌, false, List, T}
+use Rattle.std.specs.Prelude.{ℕ, ◌+◌, ◌*◌, ◌<◌, ◌≡◌, false, List, T, Result, Ok, Err}
 use Rattle.std.specs.Float.{Format, binary32, binary64}
 use Rattle.std.specs.Float.Ieee.Scale.{finite}
 use Rattle.little_endian.specs.Bytes.{f32_at}
@@ -14,8 +14,9 @@ use Rattle.distance_sums.specs.Dense.{Products, is_zero}
 use Rattle.distance_sums.specs.Sparse.{sparse_products}
 use Rattle.distance.specs.declared.Distance.{Distance}
 use Rattle.distance.specs.declared.Distance.TheVariants.{Cos, L2, Dot, Jaccard}
-use Rattle.distance.specs.declared.DistanceAnswer.{DistanceAnswer}
-use Rattle.distance.specs.declared.DistanceAnswer.TheVariants.{Measured, Refused}
+use Rattle.distance.specs.declared.Measured.{Measured}
+use Rattle.distance.specs.declared.refused.Refused.{Refused}
+use Rattle.distance.specs.declared.Which.{Which}
 
 -- the dense kind whose elements have the width f, and how long its blob of d elements is
 abbrev pub dense_kind : Format → VectorType
@@ -51,8 +52,8 @@ Premises Dot a b = AllFinite a × AllFinite b
 Premises Jaccard a b = Unit
 
 -- both answers are the same distance, whatever the counts, or both are the same refusal about the same blob
-abbrev pub SameDistance : DistanceAnswer → DistanceAnswer → Type 0
-SameDistance (Measured x c) (Measured y d) = x ≡ y
-SameDistance (Measured x c) (Refused r w) = ⊥
-SameDistance (Refused r w) (Measured y d) = ⊥
-SameDistance (Refused r w) (Refused q u) = (r ≡ q) × (w ≡ u)
+abbrev pub SameDistance : Result Measured (Refused Which) → Result Measured (Refused Which) → Type 0
+SameDistance (Ok x) (Ok y) = x.distance ≡ y.distance
+SameDistance (Ok x) (Err r) = ⊥
+SameDistance (Err r) (Ok y) = ⊥
+SameDistance (Err r) (Err q) = r ≡ q

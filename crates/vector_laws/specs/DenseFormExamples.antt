@@ -1,19 +1,19 @@
 -- Sparse blobs whose distances change when they become Float32Dense, one for each premise of `dense-form-same-distance` (proofs/DenseForm.antt):
 -- one table, which antt computes, and what the strict mode answers to the blobs whose indices do not rise.
-use Rattle.std.specs.Prelude.{◌≡◌, refl, List, [], ◌∷◌, ◌++◌, map, false, ℕ, eqb}
+use Rattle.std.specs.Prelude.{◌≡◌, refl, List, [], ◌∷◌, ◌++◌, map, false, ℕ, eqb, Result, Ok, Err}
 use Rattle.std.specs.Float.{Format, binary32, binary64}
 use Rattle.std.specs.Float.Ieee.{add, sub, mul, div, neg, eq, lt, of_bits}
 use Rattle.float_laws.specs.Running.{running}
 use Rattle.little_endian.specs.Bytes.{number_at, bytes_of, put}
 use Rattle.rounding.specs.Root.{root}
-use Rattle.vector_types.specs.Answers.{refused, naming}
+use Rattle.vector_types.specs.declared.View.{View}
+use Rattle.vector_types.specs.declared.Refusal.{Refusal}
+use Rattle.vector_types.specs.declared.Refusal.TheVariants.{SparseOrder}
 use Rattle.vector_types.specs.Search.{first_from}
 use Rattle.vector_types.specs.Layout.{named_kind, by_byte, length_before_type, body_fits, layout_row}
 use Rattle.vector_types.specs.Read.{read_of, refusals, shown}
 use Rattle.vector_types.specs.Parts.{body_of}
 use Rattle.blob_writer.specs.Write.{tail_of, blob_of}
-use Rattle.vector_types.specs.declared.ReadAnswer.{ReadAnswer}
-use Rattle.vector_types.specs.declared.ReadAnswer.TheVariants.{Accepted, Refused as Unread}
 use Rattle.vector_types.specs.declared.VectorType.TheVariants.{Float32Sparse}
 use Rattle.vector_types.specs.declared.Mode.TheVariants.{Plain, Strict}
 use Rattle.convert_parts.specs.Spread.{spread}
@@ -21,13 +21,14 @@ use Rattle.convert_parts.specs.Result.{result_of}
 use Rattle.distance_sums.specs.Extremes.{lesser, greater}
 use Rattle.distance_sums.specs.Dense.{products_with, squares_with, dots_with, shares_with}
 use Rattle.bodies.specs.Merged.{merged}
-use Rattle.distance.specs.Answer.{counts, distance_of}
+use Rattle.distance.specs.Answer.{counts, measured, distance_of}
 use Rattle.distance_sums.specs.Examples.{one_bytes, two_bytes, nan_pattern}
 use Rattle.distance.specs.declared.Counts.{Counts}
 use Rattle.distance.specs.declared.Distance.{Distance}
 use Rattle.distance.specs.declared.Distance.TheVariants.{Cos, L2, Dot, Jaccard}
-use Rattle.distance.specs.declared.DistanceAnswer.{DistanceAnswer}
-use Rattle.distance.specs.declared.DistanceAnswer.TheVariants.{Measured}
+use Rattle.distance.specs.declared.Measured.{Measured}
+use Rattle.distance.specs.declared.refused.Refused.{Refused}
+use Rattle.distance.specs.declared.Which.{Which}
 use Rattle.vector_laws.specs.DenseForm.{dense_form}
 
 -- two sparse blobs, the readings that they hold, and the patterns of their distance and of that of their dense forms
@@ -51,9 +52,9 @@ changes measure (s, m) (t, n) x y =
     ∷ []
 
 -- the dense form of a blob, by what the reader answers
-abbrev pub dense_form_in : Format → ReadAnswer → List ℕ → List ℕ
-dense_form_in f (Accepted v) s = dense_form f s v
-dense_form_in f (Unread r) s = s
+abbrev pub dense_form_in : Format → Result View Refusal → List ℕ → List ℕ
+dense_form_in f (Ok v) s = dense_form f s v
+dense_form_in f (Err r) s = s
 
 abbrev pub as_dense : Format → List ℕ → List ℕ
 as_dense f s = dense_form_in f (read_of Plain s) s
@@ -108,11 +109,11 @@ table =
     -- the sum of products is 0, and no norm is
     ++ changes Cos (small 0, 1) (small 1, 1) nan_pattern 0x3ff0_0000_0000_0000
 
-abbrev pub answer : ℕ → Counts → DistanceAnswer
-answer bits c = Measured (of_bits binary64 bits) c
+abbrev pub answer : ℕ → Counts → Result Measured (Refused Which)
+answer bits c = Ok (measured (of_bits binary64 bits) c)
 
 -- as they are, and as dense ones, which hold dims readings each: two
-abbrev pub defined : Example → DistanceAnswer × DistanceAnswer
+abbrev pub defined : Example → Result Measured (Refused Which) × Result Measured (Refused Which)
 defined e =
     let s = e.first_blob in
     let t = e.second_blob in
@@ -127,6 +128,6 @@ pub all-change : map (λ (e : Example). eqb e.sparse e.dense) table ≡ map (λ 
 all-change = refl
 
 -- the strict mode refuses the two whose indices do not rise, and names entry 1
-pub not-rising-refused : map (read_of Strict) (repeating ∷ falling ∷ []) ≡ refused (naming 10 1) ∷ refused (naming 10 1) ∷ []
+pub not-rising-refused : map (read_of Strict) (repeating ∷ falling ∷ []) ≡ Err (SparseOrder 1) ∷ Err (SparseOrder 1) ∷ []
 unfolding read_of named_kind by_byte length_before_type body_fits refusals shown first_from number_at bytes_of put layout_row tail_of blob_of
 not-rising-refused = refl

@@ -1,11 +1,11 @@
 -- The dot of two 1-bit blobs, and of the two as Float32Dense and as Float64Dense: one table, which antt computes. In the third pair one blob has an
 -- unused bit set, and the dots differ; the strict mode refuses that blob.
-use Rattle.std.specs.Prelude.{◌≡◌, refl, List, [], ◌∷◌, map, ℕ}
+use Rattle.std.specs.Prelude.{◌≡◌, refl, List, [], ◌∷◌, map, ℕ, Result, Err}
 use Rattle.std.specs.Float.{binary32, binary64}
 use Rattle.std.specs.Float.Ieee.{add, mul, neg, of_int, of_bits, to_bits}
 use Rattle.float_laws.specs.Running.{running, total}
 use Rattle.little_endian.specs.Bytes.{number_at, bytes_of}
-use Rattle.vector_types.specs.Answers.{accepted_as, refused, refusal}
+use Rattle.vector_types.specs.Answers.{accepted_as}
 use Rattle.vector_types.specs.Search.{first_from}
 use Rattle.vector_types.specs.Layout.{named_kind, by_byte, length_before_type, body_fits, layout_row}
 use Rattle.vector_types.specs.Read.{read_of, refusals, shown}
@@ -17,7 +17,10 @@ use Rattle.convert_parts.specs.Pieces.{pieces}
 use Rattle.convert_parts.specs.Result.{result_of}
 use Rattle.distance.specs.Answer.{counts, distance_of}
 use Rattle.distance.specs.declared.Distance.TheVariants.{Dot}
-use Rattle.distance.specs.declared.DistanceAnswer.{DistanceAnswer}
+use Rattle.distance.specs.declared.Measured.{Measured}
+use Rattle.distance.specs.declared.refused.Refused.{Refused}
+use Rattle.distance.specs.declared.Which.{Which}
+use Rattle.vector_types.specs.declared.Refusal.TheVariants.{UnusedBitSet}
 use Rattle.vector_laws.specs.DenseFormExamples.{answer, as_dense}
 
 -- two blobs of so many elements, the pattern of their dot, and that of both dense forms
@@ -51,19 +54,19 @@ table =
     ∷ []
 
 -- as 1-bit blobs, as Float32Dense and as Float64Dense; all hold dims readings
-abbrev pub defined : Pair → List DistanceAnswer
+abbrev pub defined : Pair → List (Result Measured (Refused Which))
 defined p =
     let s = p.first_blob in
     let t = p.second_blob in
     distance_of Dot s t ∷ distance_of Dot (as_dense binary32 s) (as_dense binary32 t) ∷ distance_of Dot (as_dense binary64 s) (as_dense binary64 t) ∷ []
 
-abbrev pub stated : Pair → List DistanceAnswer
+abbrev pub stated : Pair → List (Result Measured (Refused Which))
 stated p = map (λ (n : ℕ). answer n (counts p.dims p.dims)) (p.one_bit ∷ p.dense ∷ p.dense ∷ [])
 
 pub table-holds : map defined table ≡ map stated table
 unfolding distance_of read_of body_of named_kind by_byte length_before_type body_fits refusals shown number_at bytes_of layout_row tail_of blob_of result_of pieces running total add mul neg of_int of_bits to_bits
 table-holds = refl
 
-pub unused-set-refused : map (read_of Strict) (none_set ∷ one_set ∷ []) ≡ accepted_as Float1Bit 1 1 ∷ refused (refusal 11) ∷ []
+pub unused-set-refused : map (read_of Strict) (none_set ∷ one_set ∷ []) ≡ accepted_as Float1Bit 1 1 ∷ Err UnusedBitSet ∷ []
 unfolding read_of named_kind by_byte length_before_type body_fits refusals shown layout_row first_from
 unused-set-refused = refl
