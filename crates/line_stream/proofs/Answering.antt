@@ -7,10 +7,7 @@ use Prim.Native.Nat.{ℕ, ◌+◌, ◌-◌, ◌<◌, ◌≤◌}
 use native.Mathlib.Omega.{arith}
 use borrow.Author.Tests.{le-leb, lt-leb}
 use lib.Dec.{leb}
-use borrow.Rule.Slice.PartMut.{put_mid}
-use lib.ListN.{length, take, drop, length-append}
-use Rattle.promises.specs.Puts.{Puts}
-use Rattle.promises.proofs.Puts.{puts-same, puts_none, puts_then}
+use lib.ListN.{length, length-append}
 use Rattle.lines.specs.Printed.{numbered_reply, numbered_replies}
 use Rattle.line_stream.specs.Inner.Serving.{answered_lines}
 use Rattle.line_stream.proofs.Cutting.{replies-append}
@@ -48,36 +45,36 @@ module _ (reply : List ℕ → List ℕ) (longest : ℕ) where
   some-answered n room (l ∷ ls) fits some = rw (answered-some n room l ls fits) (omega arith)
 
   -- of all lines, of which the first has a number after `before`, some are done and others are ahead: b is the number of the last that is done,
-  -- `filled` bytes of o, which was out, are the replies, and those ahead are answered as far as there is room
-  pub record Answered (all done ahead : List (List ℕ)) (before : ℕ) (out o : List ℕ) (b filled : ℕ) : Type 0 where
+  -- the replies o are put, and those ahead are answered as far as there is room
+  pub record Answered (all done ahead : List (List ℕ)) (before room : ℕ) (o : List ℕ) (b : ℕ) : Type 0 where
     pub numbered : b ≡ before + length done
-    pub replies : Puts (numbered_replies reply (before + 1) done) out filled o
-    pub rest : answered_lines reply longest (before + 1) (length out) all ≡ done ++ answered_lines reply longest (b + 1) (length out - filled) ahead
+    pub replies : o ≡ numbered_replies reply (before + 1) done
+    pub rest : answered_lines reply longest (before + 1) room all ≡ done ++ answered_lines reply longest (b + 1) (room - length o) ahead
 
-  pub none-answered : (all : List (List ℕ)) (before : ℕ) (out : List ℕ) → Answered all [] all before out out before 0
+  pub none-answered : (all : List (List ℕ)) (before room : ℕ) → Answered all [] all before room [] before
   unfolding numbered_replies
-  none-answered all before out =
-      let whole : length out - 0 ≡ length out = omega arith in
-      record { numbered = omega arith; replies = puts_none out; rest = rw whole refl }
+  none-answered all before room =
+      let whole : room - 0 ≡ room = omega arith in
+      record { numbered = omega arith; replies = refl; rest = rw whole refl }
 
-  -- the reply to the next line, for which the part of out after the other replies was lent
-  pub next-answered : {all done : List (List ℕ)} {l : List ℕ} {ls : List (List ℕ)} {before : ℕ} {out o ys : List ℕ} {b filled n : ℕ} → Answered all done (l ∷ ls) before out o b filled
-      → length o ≡ length out → longest ≤ length o - filled → Puts (numbered_reply (b + 1) (reply l)) (take (length o - filled) (drop filled o)) n ys
-      → Answered all (done ++ (l ∷ [])) ls before out (put_mid filled (length o - filled) o ys) (b + 1) (filled + n)
+  -- the reply to the next line
+  pub next-answered : {all done : List (List ℕ)} {l : List ℕ} {ls : List (List ℕ)} {before room : ℕ} {o o' : List ℕ} {b : ℕ} → Answered all done (l ∷ ls) before room o b
+      → longest ≤ room - length o → o' ≡ o ++ numbered_reply (b + 1) (reply l) → Answered all (done ++ (l ∷ [])) ls before room o' (b + 1)
   unfolding numbered_replies
-  next-answered {all} {done} {l} {ls} {before} {out} {o} {ys} {b} {filled} {n} s same room put =
+  next-answered {all} {done} {l} {ls} {before} {room} {o} {o'} {b} s fits put =
       let number : before + 1 + length done ≡ b + 1 = omega (arith, s.numbered) in
       let replies : numbered_replies reply (before + 1) done ++ numbered_reply (b + 1) (reply l) ≡ numbered_replies reply (before + 1) (done ++ (l ∷ []))
       = rw (replies-append reply (before + 1) done (l ∷ []), number, append-nil) refl in
-      let fewer : length out - filled - length (numbered_reply (b + 1) (reply l)) ≡ length out - (filled + n) = omega (arith, put.size) in
+      let size : length o' ≡ length o + length (numbered_reply (b + 1) (reply l)) = ap length put ∙ length-append o (numbered_reply (b + 1) (reply l)) in
+      let fewer : room - length o - length (numbered_reply (b + 1) (reply l)) ≡ room - length o' = omega (arith, size) in
       record {
         numbered = omega (arith, s.numbered, length-append done (l ∷ []));
-        replies = puts-same replies (puts_then s.replies put);
-        rest = s.rest ∙ rw (answered-some (b + 1) (length out - filled) l ls (omega (arith, same, room)), fewer, append_assoc) refl;
+        replies = put ∙ ap (λ t. t ++ numbered_reply (b + 1) (reply l)) s.replies ∙ replies;
+        rest = s.rest ∙ rw (answered-some (b + 1) (room - length o) l ls fits, fewer, append_assoc) refl;
       }
 
   -- no line is ahead, or there is no room for the next reply: those that are done are all that are answered
-  pub answered-stopped : {all done ahead : List (List ℕ)} {before : ℕ} {out o : List ℕ} {b filled : ℕ} → Answered all done ahead before out o b filled
-      → (ahead ≡ []) ⊎ (length out - filled < longest) → done ≡ answered_lines reply longest (before + 1) (length out) all
-  answered-stopped {done = done} {ahead} {out = out} {b = b} {filled} s stop =
-      sym (s.rest ∙ ap (λ (ls : List (List ℕ)). done ++ ls) (answered-none (b + 1) (length out - filled) ahead stop) ∙ append-nil done)
+  pub answered-stopped : {all done ahead : List (List ℕ)} {before room : ℕ} {o : List ℕ} {b : ℕ} → Answered all done ahead before room o b
+      → (ahead ≡ []) ⊎ (room - length o < longest) → done ≡ answered_lines reply longest (before + 1) room all
+  answered-stopped {done = done} {ahead} {room = room} {o} {b} s stop =
+      sym (s.rest ∙ ap (λ (ls : List (List ℕ)). done ++ ls) (answered-none (b + 1) (room - length o) ahead stop) ∙ append-nil done)

@@ -1,19 +1,44 @@
 -- Laws of a text cut into lines: it may be cut in two anywhere, and of an unfinished line no more need be kept than its reply depends on.
 use mathlib.Core.Path.{◌≡◌, refl, ap, ◌∙◌, sym}
-use mathlib.Core.Bool.{Bool, true, false, cond}
+use mathlib.Core.Bool.{Bool, true, false, cond, not}
 use mathlib.Core.List.{List, [], ◌∷◌, ◌++◌, append_assoc, append-nil}
 use Prim.Native.Nat.{ℕ, zero, suc, ◌+◌, ◌-◌, ◌<◌, ◌≤◌}
 use native.Mathlib.Omega.{arith}
 use native.Mathlib.Decide.{dec_lt}
-use borrow.Author.Tests.{lt-ltb}
+use borrow.Author.Tests.{lt-ltb, eqb-true}
 use lib.Dec.{eqb}
 use lib.ListN.{length, take, drop, length-append, length-drop, take-append-drop}
 use lib.Seq.{take_all, take-take, take-append-le, take-length, length-take-le}
-use Rattle.byte_slices.specs.Bytes.{index_of, index_after}
+use Rattle.std.specs.List.{position_or_len}
 use Rattle.promises.proofs.Onto.{tail-lent}
 use Rattle.lines.specs.Text.{newline}
 use Rattle.lines.specs.Printed.{limited, numbered_replies}
 use Rattle.line_stream.specs.Inner.Stream.{ended_lines, unfinished_line}
+
+-- where the first newline of a text stands, or the text's length where it has none, as std has it
+abbrev pub newline_at : List ℕ → ℕ
+newline_at s = position_or_len (λ x. eqb x newline) s
+
+abbrev newline_after : Bool → ℕ → ℕ
+newline_after found k = cond (not found) (1 + k) 0
+
+pub newline-le : (s : List ℕ) → newline_at s ≤ length s
+newline-le [] = omega arith
+newline-le (x ∷ s) = by (eqb x newline) (newline-le s)
+  where
+    by : (e : Bool) → newline_at s ≤ length s → newline_after e (newline_at s) ≤ suc (length s)
+    by true h = omega arith
+    by false h = omega arith
+
+-- the first newline stands where it is found
+pub newline_taken : (s : List ℕ) → newline_at s < length s → take (suc (newline_at s)) s ≡ take (newline_at s) s ++ (newline ∷ [])
+newline_taken [] h = absurd (omega arith)
+newline_taken (x ∷ s) h = by (eqb x newline) refl (newline_taken s) h
+  where
+    by : (e : Bool) → eqb x newline ≡ e → (newline_at s < length s → take (suc (newline_at s)) s ≡ take (newline_at s) s ++ (newline ∷ []))
+        → newline_after e (newline_at s) < suc (length s) → take (suc (newline_after e (newline_at s))) (x ∷ s) ≡ take (newline_after e (newline_at s)) (x ∷ s) ++ (newline ∷ [])
+    by true e ih h = rw (eqb-true x newline e)
+    by false e ih h = let one : 1 + newline_at s ≡ suc (newline_at s) = omega arith in rw one (ap (λ (l : List ℕ). x ∷ l) (ih (omega arith)))
 
 -- a text cut in two
 pub ended-append : (l s t : List ℕ) → ended_lines l (s ++ t) ≡ ended_lines l s ++ ended_lines (unfinished_line l s) t
@@ -39,40 +64,40 @@ unfinished-append l (b ∷ s) t = go (eqb b newline) (unfinished-append [] s t) 
     go false p q = q
 
 -- the bytes up to the first newline belong to one line
-pub before-newline : (l s : List ℕ) → (ended_lines l (take (index_of newline s) s) ≡ []) × (unfinished_line l (take (index_of newline s) s) ≡ l ++ take (index_of newline s) s)
-unfolding ended_lines unfinished_line index_of
+pub before-newline : (l s : List ℕ) → (ended_lines l (take (newline_at s) s) ≡ []) × (unfinished_line l (take (newline_at s) s) ≡ l ++ take (newline_at s) s)
+unfolding ended_lines unfinished_line
 before-newline l [] = (refl, sym (append-nil l))
 before-newline l (x ∷ s) = go (eqb x newline) refl (before-newline (l ++ (x ∷ [])) s)
   where
     go : (e : Bool) → eqb x newline ≡ e
-        → (ended_lines (l ++ (x ∷ [])) (take (index_of newline s) s) ≡ []) × (unfinished_line (l ++ (x ∷ [])) (take (index_of newline s) s) ≡ (l ++ (x ∷ [])) ++ take (index_of newline s) s)
-        → (ended_lines l (take (index_after e (index_of newline s)) (x ∷ s)) ≡ []) × (unfinished_line l (take (index_after e (index_of newline s)) (x ∷ s)) ≡ l ++ take (index_after e (index_of newline s)) (x ∷ s))
+        → (ended_lines (l ++ (x ∷ [])) (take (newline_at s) s) ≡ []) × (unfinished_line (l ++ (x ∷ [])) (take (newline_at s) s) ≡ (l ++ (x ∷ [])) ++ take (newline_at s) s)
+        → (ended_lines l (take (newline_after e (newline_at s)) (x ∷ s)) ≡ []) × (unfinished_line l (take (newline_after e (newline_at s)) (x ∷ s)) ≡ l ++ take (newline_after e (newline_at s)) (x ∷ s))
     go true e p = (refl, sym (append-nil l))
-    go false e p = rw (e) (p.0, p.1 ∙ append_assoc l (x ∷ []) _)
+    go false e p = let one : 1 + newline_at s ≡ suc (newline_at s) = omega arith in rw (one, e) (p.0, p.1 ∙ append_assoc l (x ∷ []) _)
 
 -- and with the newline they are that line
-pub with_newline : (l s : List ℕ) → let p = take (index_of newline s) s in (ended_lines l (p ++ (newline ∷ [])) ≡ (l ++ p) ∷ []) × (unfinished_line l (p ++ (newline ∷ [])) ≡ [])
+pub with_newline : (l s : List ℕ) → let p = take (newline_at s) s in (ended_lines l (p ++ (newline ∷ [])) ≡ (l ++ p) ∷ []) × (unfinished_line l (p ++ (newline ∷ [])) ≡ [])
 unfolding ended_lines unfinished_line
 with_newline l s =
-    let p = take (index_of newline s) s in
+    let p = take (newline_at s) s in
     let o = before-newline l s in
     (ended-append l p (newline ∷ []) ∙ rw (o.0, o.1), unfinished-append l p (newline ∷ []))
 
 -- a text in which no newline is found
-pub none-ended : (l s : List ℕ) → index_of newline s ≡ length s → (ended_lines l s ≡ []) × (unfinished_line l s ≡ l ++ s)
+pub none-ended : (l s : List ℕ) → newline_at s ≡ length s → (ended_lines l s ≡ []) × (unfinished_line l s ≡ l ++ s)
 none-ended l s e =
-    let all : take (index_of newline s) s ≡ s = rw e (take-length s) in
+    let all : take (newline_at s) s ≡ s = rw e (take-length s) in
     rw all at (before-newline l s)
 
 -- in a text that ends no line no newline is found, nor in the first bytes of a longer text
-pub found-later : (l s : List ℕ) (k : ℕ) → k ≤ length s → ended_lines l (take k s) ≡ [] → k + index_of newline (drop k s) ≡ index_of newline s
-unfolding ended_lines index_of index_after
+pub found-later : (l s : List ℕ) (k : ℕ) → k ≤ length s → ended_lines l (take k s) ≡ [] → k + newline_at (drop k s) ≡ newline_at s
+unfolding ended_lines
 found-later l s zero le e = omega arith
 found-later l [] (suc k) le e = absurd (omega arith)
 found-later l (x ∷ s) (suc k) le e = go (eqb x newline) e (λ p. found-later (l ++ (x ∷ [])) s k (omega arith) p)
   where
-    go : (t : Bool) → cond t (l ∷ ended_lines [] (take k s)) (ended_lines (l ++ (x ∷ [])) (take k s)) ≡ [] → (ended_lines (l ++ (x ∷ [])) (take k s) ≡ [] → k + index_of newline (drop k s) ≡ index_of newline s)
-        → suc k + index_of newline (drop k s) ≡ index_after t (index_of newline s)
+    go : (t : Bool) → cond t (l ∷ ended_lines [] (take k s)) (ended_lines (l ++ (x ∷ [])) (take k s)) ≡ [] → (ended_lines (l ++ (x ∷ [])) (take k s) ≡ [] → k + newline_at (drop k s) ≡ newline_at s)
+        → suc k + newline_at (drop k s) ≡ newline_after t (newline_at s)
     go true e p = let z : ◌≡◌ {A = ℕ} 0 1 = cc in absurd (omega arith)
     go false e p = omega (arith, p e)
 

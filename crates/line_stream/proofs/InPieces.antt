@@ -9,9 +9,10 @@ use borrow.Author.Tests.{eq-eqb, ne_eqb}
 use lib.ListN.{length, take, length-append, length-take}
 use lib.Seq.{take-nil}
 use Rattle.lines.specs.Text.{newline}
-use Rattle.lines.specs.Parts.{parts_of, in_front, last_unless_empty, lines_of}
+use Rattle.lines.specs.Parts.{parts_of, last_unless_empty, lines_of}
 use Rattle.lines.specs.Printed.{numbered_replies, printed_of}
-use Rattle.lines.proofs.Parting.{parts-some}
+use Rattle.std.specs.List.{onto_first}
+use Rattle.std.proofs.lemmas.List.Splits.{length-slice_split}
 use Rattle.line_stream.specs.Inner.Stream.{ended_lines, unfinished_line, kept_of, last_newline, Progress, initial, after_piece, after_pieces, at_end, written_for}
 use Rattle.line_stream.proofs.Cutting.{ended-append, unfinished-append, cut-unfinished, count_same, DependsOnFirst, replies-append, cut-replies}
 
@@ -25,7 +26,7 @@ unfolding on_first
 first-none [] = refl
 first-none (p ∷ ps) = refl
 
-first_more : (l : List ℕ) (x : ℕ) (ps : List (List ℕ)) → 0 < length ps → on_first l (in_front x ps) ≡ on_first (l ++ (x ∷ [])) ps
+first_more : (l : List ℕ) (x : ℕ) (ps : List (List ℕ)) → 0 < length ps → on_first l (onto_first x ps) ≡ on_first (l ++ (x ∷ [])) ps
 unfolding on_first
 first_more l x [] h = absurd (omega arith)
 first_more l x (p ∷ ps) h = rw append_assoc
@@ -37,10 +38,10 @@ parts l (x ∷ s) = go (eqb x newline) (parts [] s) (parts (l ++ (x ∷ [])) s)
   where
     go : (e : Bool) → on_first [] (parts_of newline s) ≡ ended_lines [] s ++ (unfinished_line [] s ∷ [])
         → on_first (l ++ (x ∷ [])) (parts_of newline s) ≡ ended_lines (l ++ (x ∷ [])) s ++ (unfinished_line (l ++ (x ∷ [])) s ∷ [])
-        → on_first l (cond e ([] ∷ parts_of newline s) (in_front x (parts_of newline s)))
+        → on_first l (cond e ([] ∷ parts_of newline s) (onto_first x (parts_of newline s)))
         ≡ cond e (l ∷ ended_lines [] s) (ended_lines (l ++ (x ∷ [])) s) ++ (cond e (unfinished_line [] s) (unfinished_line (l ++ (x ∷ [])) s) ∷ [])
     go true p q = rw (append-nil l, ← first-none (parts_of newline s), p)
-    go false p q = first_more l x (parts_of newline s) (parts-some newline s) ∙ q
+    go false p q = first_more l x (parts_of newline s) (omega (arith, length-slice_split (λ y. eqb y newline) s)) ∙ q
 
 last-after : (ps : List (List ℕ)) (l : List ℕ) → last_unless_empty (ps ++ (l ∷ [])) ≡ ps ++ last_unless_empty (l ∷ [])
 unfolding last_unless_empty

@@ -1,7 +1,6 @@
 -- Laws of an input in pieces, for the loops of the programs
 pub mod Keeping
 pub mod Cutting
-pub mod NumberedReply
 pub mod Answering
 pub mod Serving
 pub mod Determined

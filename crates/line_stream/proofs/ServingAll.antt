@@ -56,8 +56,8 @@ pub turn-shorter : (size at passed : ℕ) (more : Bool) → (more ≡ true → 0
 turn-shorter size at passed true some le = omega (arith, some refl)
 turn-shorter size at passed false some le = omega arith
 
-module _ (text : List ℕ) (at : ℕ) {reply : List ℕ → List ℕ} {longest : ℕ} {out out' : List ℕ} {b : ℕ} {r : ServedLines}
-    (s : Serves reply longest (take (length text - at) (drop at text)) b out out' r) where
+module _ (text : List ℕ) (at : ℕ) {reply : List ℕ → List ℕ} {longest room : ℕ} {out : List ℕ} {b : ℕ} {r : ServedLines}
+    (s : Serves reply longest (take (length text - at) (drop at text)) b room out r) where
   -- lines of the rest are served
   pub more-served : {before : ℕ} {held : HeldLine} → held.before ≡ b → TextServedUpTo text before at held
       → TextServedUpTo text before (at + r.at) (record { count = 0; before = r.before })
@@ -80,8 +80,9 @@ module _ (text : List ℕ) (at : ℕ) {reply : List ℕ → List ℕ} {longest :
   pub none_left : r.more ≡ false → ended_lines [] (drop (at + r.at) text) ≡ []
   none_left e = rw (← drop-drop r.at at text, ← tail-lent at text) (serves-no-more reply longest s e)
 
-  pub rest-shorter : longest ≤ length out → at + r.at ≤ length text → length text - (at + r.at) + cond r.more 1 0 < length text - at + 1
-  rest-shorter fits le = turn-shorter (length text) at r.at r.more (serves-some reply longest s fits) le
+  -- each turn but the last passes bytes
+  pub rest-shorter : longest ≤ room → at + r.at ≤ length text → r.more ≡ true → length text - (at + r.at) < length text - at
+  rest-shorter fits le more = omega (arith, serves-some reply longest s fits more)
 
 pub all-served : {text : List ℕ} {before at : ℕ} {held : HeldLine} → TextServedUpTo text before at held → ended_lines [] (drop at text) ≡ []
     → ServesAll text before (record { at = at; before = held.before })

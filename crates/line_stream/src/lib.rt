@@ -4,13 +4,12 @@
 
 pub mod ending;
 
-ghost use Rattle.std.specs.Prelude.{◌≡◌, ◌+◌, ◌≤◌, ◌<◌, min, length, take, drop};
-ghost use Rattle.promises.specs.Onto.{onto};
+ghost use Rattle.std.specs.Prelude.{◌≡◌, ◌+◌, ◌≤◌, ◌<◌, length, take, drop, IfOk, OnErr};
 ghost use Rattle.promises.specs.Puts.{Puts};
 ghost use Rattle.line_stream.specs.Inner.Stream.{kept_of};
-ghost use Rattle.line_stream.specs.Inner.Reading.{Reads, HoldsPiece, HoldsText};
+ghost use Rattle.line_stream.specs.Inner.Reading.{HoldsPiece, HoldsText};
 
-use std::io::Read;
+use std::io::{self, Read};
 
 // The line that starts a text: how many of its bytes were looked at and hold no newline, and how many
 // lines came before it.
@@ -21,13 +20,11 @@ pub struct HeldLine {
 }
 
 // The lines of a text that are answered: those up to `at`, where the next one starts, which `before`
-// lines come before. Their replies fill `filled` bytes, and `more` says that lines are left, for whose
-// replies there was no room.
+// lines come before. `more` says that lines are left, for whose replies there was no room.
 #[derive(Clone, Copy)]
 pub struct ServedLines {
     pub at: usize,
     pub before: u64,
-    pub filled: usize,
     pub more: bool,
 }
 
@@ -40,55 +37,31 @@ pub struct ServedText {
 }
 
 // A text at the start of a buffer, up to `end`: the first `count` bytes are those that were kept. `left`
-// bytes may still be read; `more` says that the input may go on, and `failed` that a read failed.
+// bytes may still be read, and `more` says that the input may go on.
 #[derive(Clone, Copy)]
 pub struct InputText {
     pub count: usize,
     pub end: usize,
     pub left: u64,
     pub more: bool,
-    pub failed: bool,
 }
 
-// What a read answers: how many bytes came, 0 at the end of the input, or that it failed.
-#[derive(Clone, Copy)]
-enum Piece {
-    Bytes(usize),
-    Failed,
-}
-
-// Reads a piece of the input in behind the first `count` bytes of the buffer. Where fewer bytes are
-// left than the buffer has, none come.
-fn read_behind<R: Read>(input: &mut R, buffer: &mut [u8], count: usize, left: u64) -> Piece
+// Reads a piece of the input in behind the first `count` bytes of the buffer, and answers how many bytes
+// came, 0 at the end of the input. Where fewer bytes are left than the buffer has, none come.
+fn read_behind<R: Read>(
+    input: &mut R,
+    buffer: &mut [u8],
+    count: usize,
+    left: u64,
+) -> io::Result<usize>
     requires { count ≤ length buffer.old }
-    ensures { Reads count left buffer.old buffer.new result }
+    ensures front { take count buffer.new ≡ take count buffer.old }
+    ensures fits { IfOk result (λ n. (count + n ≤ length buffer.old) × (n ≤ left)) }
 {
     if left < buffer.len() as u64 {
-        return Piece::Bytes(0);
+        return Ok(0);
     }
-    match input.read(&mut buffer[count..]) {
-        Ok(n) => Piece::Bytes(n),
-        Err(_) => Piece::Failed,
-    }
-}
-
-fn least(a: usize, b: usize) -> usize
-    ensures { result ≡ min a b }
-{
-    if a < b { a } else { b }
-}
-
-// Moves n bytes from `from` on to the start of the buffer.
-fn shift(buffer: &mut [u8], from: usize, n: usize)
-    requires { from + n ≤ length buffer.old }
-    ensures { buffer.new ≡ onto (take n (drop from buffer.old)) buffer.old }
-{
-    let mut i = 0;
-    while i < n {
-        let at = from + i;
-        buffer[i] = buffer[at];
-        i += 1;
-    }
+    input.read(&mut buffer[count..])
 }
 
 // Keeps the bytes from `from` up to `end` at the start of the buffer, at most `most` of them, and
@@ -98,11 +71,10 @@ fn keep(buffer: &mut [u8], from: usize, end: usize, most: usize) -> usize
     requires end_in_bounds { end ≤ length buffer.old }
     ensures { Puts (kept_of most (drop from (take end buffer.old))) buffer.old result buffer.new }
 {
-    let n = least(most, end - from);
-    if from == 0 {
-        return n;
+    let n = most.min(end - from);
+    if 0 < from {
+        buffer.copy_within(from..from + n, 0);
     }
-    shift(buffer, from, n);
     n
 }
 
@@ -114,31 +86,22 @@ pub fn next_piece<R: Read>(
     end: usize,
     most: usize,
     left: u64,
-) -> InputText
+) -> io::Result<InputText>
     requires at_le_end { at ≤ end }
     requires end_in_bounds { end ≤ length buffer.old }
-    ensures { HoldsPiece (kept_of most (drop at (take end buffer.old))) left buffer.new result }
+    ensures read { IfOk result (HoldsPiece (kept_of most (drop at (take end buffer.old))) left buffer.new) }
+
+    // Where the read fails, what was kept stands at the start.
+    ensures not_read { OnErr result (let kept = kept_of most (drop at (take end buffer.old)) in take (length kept) buffer.new ≡ kept) }
 {
     let count = keep(buffer, at, end, most);
-    let piece = read_behind(input, buffer, count, left);
-    let Piece::Bytes(n) = piece else {
-        return InputText {
-            count,
-            end: count,
-            left,
-            more: false,
-            failed: true,
-        };
-    };
-    let end = count + n;
-    let left = left - n as u64;
-    InputText {
+    let n = read_behind(input, buffer, count, left)?;
+    Ok(InputText {
         count,
-        end,
-        left,
+        end: count + n,
+        left: left - n as u64,
         more: n != 0,
-        failed: false,
-    }
+    })
 }
 
 // At the end of the input: a line that has bytes gets its newline.
@@ -156,7 +119,6 @@ fn last_text(buffer: &mut [u8], count: usize, left: u64) -> InputText
         end,
         left,
         more: false,
-        failed: false,
     }
 }
 
@@ -169,18 +131,18 @@ pub fn next_text<R: Read>(
     end: usize,
     most: usize,
     left: u64,
-) -> InputText
+) -> io::Result<InputText>
     requires at_le_end { at ≤ end }
     requires end_in_bounds { end ≤ length buffer.old }
     requires most_in_bounds { most < length buffer.old }
-    ensures { HoldsText (kept_of most (drop at (take end buffer.old))) left buffer.new result }
+    ensures read { IfOk result (HoldsText (kept_of most (drop at (take end buffer.old))) left buffer.new) }
+
+    // Where the read fails, what was kept stands at the start.
+    ensures not_read { OnErr result (let kept = kept_of most (drop at (take end buffer.old)) in take (length kept) buffer.new ≡ kept) }
 {
-    let text = next_piece(input, buffer, at, end, most, left);
+    let text = next_piece(input, buffer, at, end, most, left)?;
     if text.more {
-        return text;
+        return Ok(text);
     }
-    if text.failed {
-        return text;
-    }
-    last_text(buffer, text.count, left)
+    Ok(last_text(buffer, text.count, left))
 }

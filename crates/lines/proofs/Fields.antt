@@ -1,98 +1,90 @@
--- Laws of the reply to a line by its fields: how many there are, and a field in hexadecimal.
-use mathlib.Core.Path.{◌≡◌, refl, sym, ap, ◌∙◌}
-use mathlib.Core.Bool.{Bool, true, false, cond}
-use mathlib.Core.List.{List, [], ◌∷◌, ◌++◌}
-use Prim.Native.Nat.{ℕ, suc, ◌+◌, ◌-◌, ◌*◌, ◌<◌}
-use native.Mathlib.Omega.{arith}
-use native.Mathlib.Decide.{dec_lt}
-use borrow.Author.Tests.{eq-eqb, ne_eqb}
-use lib.Dec.{lit≤, eqb}
-use lib.ListN.{length, take, drop, length-drop}
-use lib.Seq.{take_at, drop_at, length-take-le}
-use Rattle.byte_slices.specs.Bytes.{index_of}
-use Rattle.promises.specs.Puts.{Puts}
-use Rattle.promises.proofs.Onto.{tail-lent}
-use Rattle.promises.proofs.Puts.{puts-prefix}
+-- Laws of the reply to a line by its fields: the first field and those after it, and a last field that has to be digits, which a tab is not.
+use Rattle.std.proofs.Common.{◌≡◌, refl, sym, ap, Bool, true, false, cond, List, [], ◌∷◌, ◌++◌, ◌∙◌, ℕ, suc, ◌+◌, ◌*◌, ◌<◌, eqb, ltb, length, arith, Option, Some, None, option_and_then, MatchOption}
+use Rattle.std.specs.Option.{option_map_or}
+use Rattle.std.specs.List.{onto_first, join_with_byte}
+use Rattle.std.proofs.lemmas.List.Splits.{slice_split-cons_no, length-slice_split, join_with_byte-slice_split}
+use borrow.Author.Tests.{ne_eqb}
 use Rattle.lines.specs.Text.{tab}
-use Rattle.lines.specs.Hex.{digit_of, hex_bytes}
+use Rattle.lines.specs.Hex.{digit_of, number_from, pattern_of, hex_pair, hex_bytes, decoded_of}
 use Rattle.lines.specs.Parts.{parts_of, fields_of}
 use Rattle.lines.specs.Fields.{malformed, ReplyTo, exactly, from_hex}
-use Rattle.lines.proofs.Pairs.{hex_bytes-few}
-use Rattle.lines.proofs.Parting.{index-le, parts_at, parts_last, parts-some}
 
--- ---- how many fields there are
--- the text after the first field, as it is lent
-abbrev pub after_field : ℕ → List ℕ → List ℕ
-after_field end s = take (length s - (end + 1)) (drop (end + 1) s)
-
--- the first field and the text after it have fewer bytes than both
-pub fields_within : (s : List ℕ) (end : ℕ) → end < length s → length (take end s) + length (after_field end s) < length s
-fields_within s end less = omega (arith, less, length-take-le end s (omega arith), ap length (tail-lent (end + 1) s), length-drop (end + 1) s)
-
--- a text without a tab is one field, and fewer than asked for
-pub fields-few : (n : ℕ) (g : ReplyTo (suc (suc n))) (s : List ℕ) → index_of tab s ≡ length s → exactly (suc (suc n)) g (fields_of s) ≡ malformed
+-- ---- the first field, and those of the line after it
+pub exactly-first : (n : ℕ) (g : ReplyTo (suc n)) (line f rest : List ℕ) → fields_of line ≡ f ∷ fields_of rest → exactly (suc n) g (fields_of line) ≡ exactly n (g f) (fields_of rest)
 unfolding exactly
-fields-few n g s all = rw (parts_last tab s all)
+exactly-first n g line f rest e = rw e refl
 
--- the first field, and those of the text after it
-pub fields-first : (n : ℕ) (g : ReplyTo (suc n)) (s : List ℕ) (end : ℕ) → end ≡ index_of tab s → end < length s
-    → exactly n (g (take end s)) (fields_of (after_field end s)) ≡ exactly (suc n) g (fields_of s)
+-- one field, and fewer than asked for
+pub exactly-one : (n : ℕ) (g : ReplyTo (suc (suc n))) (line : List ℕ) → fields_of line ≡ line ∷ [] → exactly (suc (suc n)) g (fields_of line) ≡ malformed
 unfolding exactly
-fields-first n g s end e less = rw (tail-lent, parts_at tab s end e less)
+exactly-one n g line e = rw e refl
 
-fields-many : (g : List ℕ → List ℕ) (f : List ℕ) (fs : List (List ℕ)) → 0 < length fs → exactly 1 g (f ∷ fs) ≡ malformed
-unfolding exactly
-fields-many g f [] h = absurd (omega arith)
-fields-many g f (f' ∷ fs) h = refl
-
--- the last field, where a tab in it would make X of it anyway
-pub fields-last : (g : List ℕ → List ℕ) (s : List ℕ) → (index_of tab s < length s → g s ≡ malformed) → exactly 1 g (fields_of s) ≡ g s
-unfolding exactly
-fields-last g s x = elim (dec_lt (index_of tab s) (length s)) [ yes less ↦ several less | no all ↦ single (omega (arith, all, index-le tab s)) ]
+-- ---- the last field, if several fields in its place make X anyway
+pub exactly-last : (g : List ℕ → List ℕ) (s : List ℕ) → (1 < length (fields_of s) → g s ≡ malformed) → exactly 1 g (fields_of s) ≡ g s
+unfolding exactly parts_of
+exactly-last g s x = by (fields_of s) (join_with_byte-slice_split tab s) (omega (arith, length-slice_split (λ y. eqb y tab) s)) x
   where
-    several : index_of tab s < length s → exactly 1 g (fields_of s) ≡ g s
-    several less =
-        let rest = drop (index_of tab s + 1) s in
-        rw (parts_at tab s (index_of tab s) refl less) (fields-many g (take (index_of tab s) s) (parts_of tab rest) (parts-some tab rest) ∙ sym (x less))
+    by : (fs : List (List ℕ)) → join_with_byte tab fs ≡ s → 0 < length fs → (1 < length fs → g s ≡ malformed) → exactly 1 g fs ≡ g s
+    by [] e some x = absurd (omega arith)
+    by (f ∷ []) e some x = ap g e
+    by (f ∷ (f' ∷ fs)) e some x = sym (x (omega arith))
 
-    single : index_of tab s ≡ length s → exactly 1 g (fields_of s) ≡ g s
-    single all = rw (parts_last tab s all)
+-- a digit is no tab, so a text of several fields is neither bytes in hexadecimal nor a pattern
+several-rest : (ps : List (List ℕ)) (x : ℕ) → 1 < length (onto_first x ps) → 1 < length ps
+several-rest [] x h = absurd (omega arith)
+several-rest (p ∷ ps) x h = h
 
--- the last two
-pub fields-last-two : (g : List ℕ → List ℕ → List ℕ) (s : List ℕ) (end : ℕ) → end ≡ index_of tab s → end < length s
-    → ((rest : List ℕ) → index_of tab rest < length rest → g (take end s) rest ≡ malformed)
-    → g (take end s) (after_field end s) ≡ exactly 2 g (fields_of s)
-fields-last-two g s end e less x = sym (fields-last (g (take end s)) (after_field end s) (x (after_field end s))) ∙ fields-first 1 g s end e less
+several-digit : (x : ℕ) (s : List ℕ) {d : ℕ} → digit_of x ≡ Some d → 1 < length (fields_of (x ∷ s)) → 1 < length (fields_of s)
+unfolding parts_of digit_of
+several-digit x s {d} e h =
+    let no : (x ≡ tab → ⊥) = λ is. cc (ap digit_of is) in
+    several-rest _ x (rw (slice_split-cons_no (λ y. eqb y tab) x s (ne_eqb x tab no)) at h)
 
--- ---- fields in hexadecimal
--- a text that is v, of n bytes, and w after it: these bytes, and the part from n on as it is lent
-pub append-parts : {t v w : List ℕ} {n : ℕ} → t ≡ v ++ w → n ≡ length v → (take n t ≡ v) × (take (length t - n) (drop n t) ≡ w)
-append-parts {t} {v} {w} {n} e size = (rw e (take_at v w n (sym size)), tail-lent n t ∙ rw e (drop_at v w n (sym size)))
+several_none : 1 < length (fields_of []) → ⊥
+unfolding parts_of
+several_none h = omega arith
 
-pub cond-malformed : (t : Bool) → cond t malformed malformed ≡ malformed
-cond-malformed true = refl
-cond-malformed false = refl
+several-few : (s : List ℕ) → 1 < length (fields_of s) → 2 * length (hex_bytes s) < length s
+unfolding hex_bytes hex_pair
+several-few [] h = absurd (several_none h)
+several-few (x ∷ []) h = omega arith
+several-few (x ∷ (y ∷ s)) h = by (digit_of x) (digit_of y) refl refl (several-few s)
+  where
+    by : (o p : Option ℕ) → digit_of x ≡ o → digit_of y ≡ p → (1 < length (fields_of s) → 2 * length (hex_bytes s) < length s) → 2 * length (option_map_or (λ byte. byte ∷ hex_bytes s) (hex_pair x y) []) < suc (suc (length s))
+    by None p e f ih = rw e (omega arith)
+    by (Some d) None e f ih = rw (e, f) (omega arith)
+    by (Some d) (Some c) e f ih = rw (e, f) (omega (arith, ih (several-digit y s f (several-digit x (y ∷ s) e h))))
 
-module _ (reply : List ℕ → List ℕ) (field : List ℕ) where
-  -- of a field n bytes were decoded: not all of it, and all of it
-  pub from-hex-part : (n : ℕ) → n ≡ length (hex_bytes field) → (2 * n ≡ length field → ⊥) → malformed ≡ from_hex reply field
-  unfolding from_hex
-  from-hex-part n e less = rw (ne_eqb (2 * length (hex_bytes field)) (length field) (λ all. less (rw e all)))
+pub several-undecoded : (s : List ℕ) → 1 < length (fields_of s) → decoded_of s ≡ None
+unfolding decoded_of
+several-undecoded s h = rw (ne_eqb (2 * length (hex_bytes s)) (length s) (λ e. omega (arith, e, several-few s h))) refl
 
-  pub from-hex-whole : (n : ℕ) → n ≡ length (hex_bytes field) → 2 * n ≡ length field → reply (hex_bytes field) ≡ from_hex reply field
-  unfolding from_hex
-  from-hex-whole n e all = rw (eq-eqb (2 * length (hex_bytes field)) (length field) (rw e at all))
+cond-none : (t : Bool) → cond {A = Option ℕ} t None None ≡ None
+cond-none true = refl
+cond-none false = refl
 
-  pub from-hex-put : {n : ℕ} {l o : List ℕ} → Puts (hex_bytes field) l n o → 2 * n ≡ length field → reply (take n o) ≡ from_hex reply field
-  from-hex-put {n} p all = ap reply (puts-prefix p) ∙ from-hex-whole n p.size all
+several-no_number : (base n : ℕ) (s : List ℕ) → 1 < length (fields_of s) → number_from base n s ≡ None
+unfolding number_from
+several-no_number base n [] h = absurd (several_none h)
+several-no_number base n (x ∷ s) h = by (digit_of x) refl (λ m. several-no_number base m s)
+  where
+    by : (o : Option ℕ) → digit_of x ≡ o → ((m : ℕ) → 1 < length (fields_of s) → number_from base m s ≡ None) → option_and_then (λ d. cond (ltb d base) (number_from base (n * base + d) s) None) o ≡ None
+    by None e ih = refl
+    by (Some d) e ih = rw (ih (n * base + d) (several-digit x s e h)) (cond-none (ltb d base))
 
-  pub from-hex-malformed : reply (hex_bytes field) ≡ malformed → from_hex reply field ≡ malformed
-  unfolding from_hex
-  from-hex-malformed e = rw e (cond-malformed (eqb (2 * length (hex_bytes field)) (length field)))
+pub several-no_pattern : (width : ℕ) (s : List ℕ) → 1 < length (fields_of s) → pattern_of width s ≡ None
+unfolding pattern_of
+several-no_pattern width s h = rw (several-no_number 16 0 s h) (cond-none (eqb (length s) width))
 
-  -- a tab is no digit
-  pub from-hex-tab : index_of tab field < length field → from_hex reply field ≡ malformed
-  unfolding digit_of
-  from-hex-tab less =
-      let few = hex_bytes-few tab field (lit≤ tt) less in
-      sym (from-hex-part (length (hex_bytes field)) refl (λ all. omega (arith, few, all)))
+-- the last field is what has to be bytes in hexadecimal
+pub exactly-last_bytes : (g : List ℕ → List ℕ) (s : List ℕ) → (decoded_of s ≡ None → g s ≡ malformed) → exactly 1 g (fields_of s) ≡ g s
+exactly-last_bytes g s x = exactly-last g s (λ h. x (several-undecoded s h))
+
+-- ---- bytes in hexadecimal
+pub from-hex-some : (reply : List ℕ → List ℕ) (field : List ℕ) {bytes : List ℕ} → decoded_of field ≡ Some bytes → from_hex reply field ≡ reply bytes
+unfolding from_hex
+from-hex-some reply field e = rw e refl
+
+pub from-hex-none : (reply : List ℕ → List ℕ) (field : List ℕ) → decoded_of field ≡ None → from_hex reply field ≡ malformed
+unfolding from_hex
+from-hex-none reply field e = rw e refl

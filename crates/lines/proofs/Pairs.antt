@@ -1,52 +1,53 @@
--- Laws of bytes in hexadecimal, `hex_bytes` and `hex_of`: a turn of the loop of each, their lengths, a text with a byte that is no digit, and that one reads back what the other puts.
-use mathlib.Core.Path.{◌≡◌, refl, ap}
-use mathlib.Core.Bool.{Bool, true, false, cond, ◌&&◌}
-use mathlib.Core.List.{List, [], ◌∷◌}
-use Prim.Native.Nat.{ℕ, zero, suc, ◌+◌, ◌*◌, ◌/◌, ◌%◌, ◌<◌, ◌≤◌}
-use native.Mathlib.Omega.{arith}
+-- Laws of bytes in hexadecimal, `hex_bytes` and `hex_of`: a turn of the loop of each, their lengths, and that one reads back what the other puts.
+use Rattle.std.proofs.Common.{◌≡◌, ◌∙◌, refl, sym, ap, append_assoc, List, [], ◌∷◌, ◌++◌, ℕ, suc, ◌+◌, ◌*◌, ◌/◌, ◌%◌, ◌<◌, ◌≤◌, length, get_or, drop, arith, add-one, drop-cons, Option, Some, None}
+use Rattle.std.proofs.Math.ListN.{drop_of_length-le, length-append}
+use Rattle.std.specs.Option.{option_map_or}
+use borrow.Author.Tests.{lt-ltb, le-ltb, le-leb, lt-leb, eq-eqb}
 use native.Mathlib.Decide.{dec_lt}
-use native.Mathlib.Numerals.{add-one}
-use borrow.Author.Tests.{lt-ltb, le-ltb, le-leb, lt-leb, ne_eqb, ltb-true}
-use lib.Dec.{ltb, lit<}
-use lib.ListN.{length, get_or, drop, length-drop, drop_of_length-le}
-use lib.Seq.{drop-cons}
-use Rattle.byte_slices.specs.Bytes.{index_of, index_after}
 use Rattle.io.specs.Digits.{hex_digit_ascii}
-use Rattle.lines.specs.Hex.{digit_of, hex_pair, hex_bytes, hex_of}
+use Rattle.lines.specs.Hex.{digit_of, hex_pair, hex_bytes, decoded_of, hex_of}
 
--- pairs of digits that are read
-module _ (s : List ℕ) (i : ℕ) where
-  abbrev pair_at : ℕ
-  pair_at = hex_pair (get_or s (2 * i) 0) (get_or s (2 * i + 1) 0)
+-- ---- pairs of digits that are read
+-- what two bytes and the rest are decoded to
+pub hex_bytes-two : {s : List ℕ} (two rest : List ℕ) → s ≡ two ++ rest → length two ≡ 2 → hex_bytes s ≡ option_map_or (λ b. b ∷ hex_bytes rest) (hex_pair (get_or two 0 0) (get_or two 1 0)) []
+unfolding hex_bytes
+hex_bytes-two (a ∷ (b ∷ [])) rest e size = rw e refl
+hex_bytes-two [] rest e size = absurd (omega arith)
+hex_bytes-two (a ∷ []) rest e size = absurd (omega arith)
+hex_bytes-two (a ∷ (b ∷ (c ∷ t))) rest e size = absurd (omega arith)
 
-  drop-pair : 2 * i + 1 < length s → drop (2 * i) s ≡ get_or s (2 * i) 0 ∷ (get_or s (2 * i + 1) 0 ∷ drop (2 * (i + 1)) s)
-  drop-pair more =
-      let first : 2 * i < length s = omega arith in
-      let e : 2 * (i + 1) ≡ suc (2 * i + 1) = omega arith in
-      rw (e, ← drop-cons s (2 * i + 1) 0 more, add-one) (drop-cons s (2 * i) 0 first)
+pub hex_bytes-short : (s : List ℕ) → length s < 2 → hex_bytes s ≡ []
+unfolding hex_bytes
+hex_bytes-short [] h = refl
+hex_bytes-short (a ∷ []) h = refl
+hex_bytes-short (a ∷ (b ∷ s)) h = absurd (omega arith)
 
-  pub hex_bytes-pair : {b : ℕ} → 2 * i + 1 < length s → b ≡ pair_at → b < 256 → hex_bytes (drop (2 * i) s) ≡ b ∷ hex_bytes (drop (2 * (i + 1)) s)
-  unfolding hex_bytes
-  hex_bytes-pair {b} more e small = rw (drop-pair more, ← e, lt-ltb b 256 small)
+pub length-hex_bytes : (s : List ℕ) → 2 * length (hex_bytes s) ≤ length s
+unfolding hex_bytes
+length-hex_bytes [] = omega arith
+length-hex_bytes (a ∷ []) = omega arith
+length-hex_bytes (a ∷ (b ∷ s)) = by (hex_pair a b) (length-hex_bytes s)
+  where
+    by : (o : Option ℕ) → 2 * length (hex_bytes s) ≤ length s → 2 * length (option_map_or (λ x. x ∷ hex_bytes s) o []) ≤ suc (suc (length s))
+    by None h = omega arith
+    by (Some x) h = omega arith
 
-  pub hex_bytes-no-pair : {b : ℕ} → 2 * i + 1 < length s → b ≡ pair_at → 256 ≤ b → hex_bytes (drop (2 * i) s) ≡ []
-  unfolding hex_bytes
-  hex_bytes-no-pair {b} more e big = rw (drop-pair more, ← e, le-ltb b 256 big)
-
-  pub hex_bytes-end : length s / 2 ≤ i → hex_bytes (drop (2 * i) s) ≡ []
-  unfolding hex_bytes
-  hex_bytes-end h = lone (drop (2 * i) s) (omega (arith, length-drop (2 * i) s))
-    where
-      lone : (t : List ℕ) → length t ≤ 1 → hex_bytes t ≡ []
-      lone [] le = refl
-      lone (a ∷ []) le = refl
-      lone (a ∷ (b ∷ t)) le = absurd (omega arith)
-
--- a byte that is put
+-- ---- a byte that is put
 pub hex_of-byte : (s : List ℕ) (i : ℕ) → i < length s
     → hex_of (drop i s) ≡ hex_digit_ascii (get_or s i 0 / 16) ∷ (hex_digit_ascii (get_or s i 0 % 16) ∷ hex_of (drop (i + 1) s))
 unfolding hex_of
 hex_of-byte s i less = rw (add-one, drop-cons s i 0)
+
+-- what was put, with two digits more, and what is then to come
+pub hex_of-put : (s : List ℕ) (i : ℕ) (o : List ℕ) {o' l : List ℕ} → i < length s → o ++ hex_of (drop i s) ≡ l
+    → o' ≡ (o ++ hex_digit_ascii (get_or s i 0 / 16) ∷ []) ++ hex_digit_ascii (get_or s i 0 % 16) ∷ []
+    → (o' ++ hex_of (drop (i + 1) s) ≡ l) × (length o' ≡ length o + 2)
+hex_of-put s i o less e put =
+    let high = hex_digit_ascii (get_or s i 0 / 16) in
+    let low = hex_digit_ascii (get_or s i 0 % 16) in
+    let rest = hex_of (drop (i + 1) s) in
+    let parts = append_assoc (o ++ high ∷ []) (low ∷ []) rest ∙ append_assoc o (high ∷ []) (low ∷ rest) in
+    (rw put (parts ∙ ap (λ t. o ++ t) (sym (hex_of-byte s i less)) ∙ e), rw (put, length-append, length-append) (omega arith))
 
 pub hex_of-end : (s : List ℕ) (i : ℕ) → length s ≤ i → hex_of (drop i s) ≡ []
 unfolding hex_of
@@ -57,73 +58,31 @@ unfolding hex_of
 length-hex_of [] = refl
 length-hex_of (b ∷ s) = omega (arith, length-hex_of s)
 
-pub length-hex_bytes : (s : List ℕ) → 2 * length (hex_bytes s) ≤ length s
-unfolding hex_bytes
-length-hex_bytes [] = omega arith
-length-hex_bytes (a ∷ []) = omega arith
-length-hex_bytes (a ∷ (b ∷ s)) = go (ltb (hex_pair a b) 256) (length-hex_bytes s)
-  where
-    go : (t : Bool) → 2 * length (hex_bytes s) ≤ length s → 2 * length (cond t (hex_pair a b ∷ hex_bytes s) []) ≤ suc (suc (length s))
-    go true h = omega arith
-    go false h = omega arith
+-- ---- all of a text that is decoded
+pub decoded-whole : (s : List ℕ) {n : ℕ} → n ≡ length (hex_bytes s) → 2 * n ≡ length s → decoded_of s ≡ Some (hex_bytes s)
+unfolding decoded_of
+decoded-whole s e all = rw (← e, all, eq-eqb (length s) (length s) refl)
 
-bytes-step : (t : Bool) (p : ℕ) (s : List ℕ) → ltb p 256 ≡ t → ((k : ℕ) → get_or s k 0 < 256) → (k : ℕ) → get_or (cond t (p ∷ s) []) k 0 < 256
-bytes-step true p s e ih zero = ltb-true p 256 e
-bytes-step true p s e ih (suc k) = ih k
-bytes-step false p s e ih k = lit< tt
-
-hex_bytes-bytes : (s : List ℕ) (k : ℕ) → get_or (hex_bytes s) k 0 < 256
-unfolding hex_bytes
-hex_bytes-bytes [] k = lit< tt
-hex_bytes-bytes (a ∷ []) k = lit< tt
-hex_bytes-bytes (a ∷ (b ∷ s)) k = bytes-step (ltb (hex_pair a b) 256) (hex_pair a b) (hex_bytes s) refl (hex_bytes-bytes s) k
-
-pair-digits : (x y : ℕ) → hex_pair x y < 256 → (digit_of x < 16) × (digit_of y < 16)
-unfolding hex_pair
-pair-digits x y h = go (ltb (digit_of x) 16) (ltb (digit_of y) 16) refl refl h
-  where
-    go : (t u : Bool) → ltb (digit_of x) 16 ≡ t → ltb (digit_of y) 16 ≡ u → cond (t && u) (digit_of x * 16 + digit_of y) 256 < 256 → (digit_of x < 16) × (digit_of y < 16)
-    go true true e f p = (ltb-true (digit_of x) 16 e, ltb-true (digit_of y) 16 f)
-    go true false e f p = absurd (omega arith)
-    go false u e f p = absurd (omega arith)
-
-few-step : (t : Bool) (b x y : ℕ) (s : List ℕ) → ltb (hex_pair x y) 256 ≡ t → 16 ≤ digit_of b → (index_of b s < length s → 2 * length (hex_bytes s) < length s)
-    → index_of b (x ∷ (y ∷ s)) < suc (suc (length s)) → 2 * length (cond t (hex_pair x y ∷ hex_bytes s) []) < suc (suc (length s))
-unfolding index_of index_after
-few-step false b x y s e big ih h = omega arith
-few-step true b x y s e big ih h =
-    let (dx, dy) = pair-digits x y (ltb-true (hex_pair x y) 256 e) in
-    let fx = ne_eqb x b (λ p. omega (arith, ap digit_of p)) in
-    let fy = ne_eqb y b (λ p. omega (arith, ap digit_of p)) in
-    let less : index_of b s < length s = omega (arith, rw (fx, fy) at h) in
-    omega (arith, ih less)
-
--- no text with a byte b that is no digit is a blob
-pub hex_bytes-few : (b : ℕ) (s : List ℕ) → 16 ≤ digit_of b → index_of b s < length s → 2 * length (hex_bytes s) < length s
-unfolding hex_bytes
-hex_bytes-few b [] big h = absurd (omega arith)
-hex_bytes-few b (x ∷ []) big h = omega arith
-hex_bytes-few b (x ∷ (y ∷ s)) big h = few-step (ltb (hex_pair x y) 256) b x y s refl big (hex_bytes-few b s big) h
-
-digit_glyph : (d : ℕ) → d < 16 → digit_of (hex_digit_ascii d) ≡ d
+-- ---- what is put is read back
+digit_glyph : (d : ℕ) → d < 16 → digit_of (hex_digit_ascii d) ≡ Some d
 unfolding digit_of
 digit_glyph d h = elim (dec_lt d 10) [ yes less ↦ number less | no more ↦ letter (omega (arith, more)) ]
   where
-    number : d < 10 → digit_of (hex_digit_ascii d) ≡ d
-    number less = rw (lt-ltb d 10 less, le-leb 48 (48 + d) (omega arith), le-leb (48 + d) 57 (omega arith)) (omega arith)
+    number : d < 10 → digit_of (hex_digit_ascii d) ≡ Some d
+    number less = rw (lt-ltb d 10 less, le-leb 48 (48 + d) (omega arith), le-leb (48 + d) 57 (omega arith)) (ap Some (omega arith))
 
-    letter : 10 ≤ d → digit_of (hex_digit_ascii d) ≡ d
+    letter : 10 ≤ d → digit_of (hex_digit_ascii d) ≡ Some d
     letter more =
-        rw (le-ltb d 10 more, le-leb 48 (87 + d) (omega arith), lt-leb (87 + d) 57 (omega arith), le-leb 97 (87 + d) (omega arith), le-leb (87 + d) 102 (omega arith)) (omega arith)
+        rw (le-ltb d 10 more, le-leb 48 (87 + d) (omega arith), lt-leb (87 + d) 57 (omega arith), le-leb 97 (87 + d) (omega arith), le-leb (87 + d) 102 (omega arith)) (ap Some (omega arith))
 
-pair-glyphs : (b : ℕ) → b < 256 → hex_pair (hex_digit_ascii (b / 16)) (hex_digit_ascii (b % 16)) ≡ b
+pair-glyphs : (b : ℕ) → b < 256 → hex_pair (hex_digit_ascii (b / 16)) (hex_digit_ascii (b % 16)) ≡ Some b
 unfolding hex_pair
 pair-glyphs b h =
     let high : b / 16 < 16 = omega arith in
     let low : b % 16 < 16 = omega arith in
-    rw (digit_glyph (b / 16) high, digit_glyph (b % 16) low, lt-ltb (b / 16) 16 high, lt-ltb (b % 16) 16 low) (omega arith)
+    rw (digit_glyph (b / 16) high, digit_glyph (b % 16) low) (ap Some (omega arith))
 
 hex_bytes-hex_of : (s : List ℕ) → ((k : ℕ) → get_or s k 0 < 256) → hex_bytes (hex_of s) ≡ s
 unfolding hex_bytes hex_of
 hex_bytes-hex_of [] h = refl
-hex_bytes-hex_of (b ∷ s) h = rw (pair-glyphs b (h 0), lt-ltb b 256 (h 0), hex_bytes-hex_of s (λ k. h (suc k)))
+hex_bytes-hex_of (b ∷ s) h = rw (pair-glyphs b (h 0), hex_bytes-hex_of s (λ k. h (suc k)))

@@ -1,9 +1,7 @@
 -- Numbers in decimal.
-use Rattle.std.specs.Prelude.{ℕ, zero, suc, ◌/◌, ◌%◌, cond, ◌&&◌, List, [], ◌∷◌, ◌++◌, ltb, leb, length}
+use Rattle.std.specs.Prelude.{ℕ, zero, suc, ◌/◌, ◌%◌, cond, ◌&&◌, List, [], ◌∷◌, ◌++◌, ltb, leb, length, Option, None}
 use Rattle.io.specs.Digits.{hex_digit_ascii}
 use Rattle.lines.specs.Hex.{number_from}
-use Rattle.lines.specs.declared.hex.Parsed.{Parsed}
-use Rattle.lines.specs.declared.hex.Parsed.TheVariants.{Nothing}
 
 -- n, which has at most d digits, with no zero in front
 unfoldable pub decimal_in : ℕ → ℕ → List ℕ
@@ -18,5 +16,5 @@ unfolding decimal_in
 decimal_of n = decimal_in (suc n) n
 
 -- the number that s is in 1 to most digits, which may have zeros in front
-unfoldable pub numeral_of : ℕ → List ℕ → Parsed
-numeral_of most s = cond (ltb 0 (length s) && leb (length s) most) (number_from 10 0 s) Nothing
+unfoldable pub numeral_of : ℕ → List ℕ → Option ℕ
+numeral_of most s = cond (ltb 0 (length s) && leb (length s) most) (number_from 10 0 s) None

@@ -1,7 +1,8 @@
 -- The reply to a line by its fields: to exactly so many of them, by words, and by bytes in hexadecimal. X is the reply to a malformed line.
-use Rattle.std.specs.Prelude.{ℕ, zero, suc, ◌*◌, cond, List, [], ◌∷◌, eqb, length}
-use Rattle.lines.specs.Text.{word, same}
-use Rattle.lines.specs.Hex.{hex_bytes}
+use Rattle.std.specs.Prelude.{◌≡◌, ℕ, zero, suc, cond, List, [], ◌∷◌, ◌++◌, bytes_eq, Option, Some, None, MatchOption}
+use Rattle.std.specs.Option.{option_map_or}
+use Rattle.lines.specs.Text.{word}
+use Rattle.lines.specs.Hex.{decoded_of}
 
 abbrev pub malformed : List ℕ
 malformed = word "X"
@@ -18,11 +19,15 @@ exactly zero reply (f ∷ fs) = malformed
 exactly (suc n) reply [] = malformed
 exactly (suc n) reply (f ∷ fs) = exactly n (reply f) fs
 
--- what a field stands for by a table of words: the first row that has it, or else none
-abbrev pub first_named : {A : Type 0} → List (List ℕ × A) → A → List ℕ → A
-first_named [] none field = none
-first_named (row ∷ rows) none field = cond (same field row.0) row.1 (first_named rows none field)
+-- what a field stands for by a table of words: the first row that has it
+abbrev pub first_named : {A : Type 0} → List (List ℕ × A) → List ℕ → Option A
+first_named [] field = None
+first_named (row ∷ rows) field = cond (bytes_eq field row.0) (Some row.1) (first_named rows field)
 
 -- the reply to the bytes that a field is in hexadecimal; X unless it is whole bytes of two digits each
 unfoldable pub from_hex : (List ℕ → List ℕ) → List ℕ → List ℕ
-from_hex reply field = cond (eqb (2 * length (hex_bytes field)) (length field)) (reply (hex_bytes field)) malformed
+from_hex reply field = option_map_or reply (decoded_of field) malformed
+
+-- what a function promises that puts a reply, if there is one: a malformed line has none, and nothing is put
+abbrev pub PutsUnlessMalformed : List ℕ → List ℕ → Option (Unit {0}) → List ℕ → Type 0
+PutsUnlessMalformed reply out r out' = MatchOption r ((reply ≡ malformed) × (out' ≡ out)) (λ _. out' ≡ out ++ reply)

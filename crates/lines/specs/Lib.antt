@@ -5,4 +5,3 @@ pub mod Parts
 pub mod Fields
 pub mod Printed
 pub mod Examples
-pub mod Inner

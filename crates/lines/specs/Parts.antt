@@ -1,16 +1,11 @@
 -- A text split at a byte: a line into its fields, an input into its lines.
-use Rattle.std.specs.Prelude.{ℕ, cond, List, [], ◌∷◌, eqb}
+use Rattle.std.specs.Prelude.{ℕ, List, [], ◌∷◌, eqb}
+use Rattle.std.specs.List.{slice_split}
 use Rattle.lines.specs.Text.{tab, newline}
-
--- x at the start of the first part
-abbrev pub in_front : ℕ → List (List ℕ) → List (List ℕ)
-in_front x [] = (x ∷ []) ∷ []
-in_front x (p ∷ ps) = (x ∷ p) ∷ ps
 
 -- what stands before, between and after the bytes b of s: one part more than s has of them
 unfoldable pub parts_of : ℕ → List ℕ → List (List ℕ)
-parts_of b [] = [] ∷ []
-parts_of b (x ∷ s) = cond (eqb x b) ([] ∷ parts_of b s) (in_front x (parts_of b s))
+parts_of b s = slice_split (λ x. eqb x b) s
 
 abbrev pub fields_of : List ℕ → List (List ℕ)
 fields_of line = parts_of tab line

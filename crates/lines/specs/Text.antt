@@ -1,5 +1,5 @@
 -- Text as the bytes of its characters. All the text here is ASCII, where a character's code is its byte.
-use Rattle.std.specs.Prelude.{ℕ, Bool, true, false, ◌&&◌, List, [], ◌∷◌, eqb}
+use Rattle.std.specs.Prelude.{ℕ, List, [], ◌∷◌}
 use Prim.Native.Char.{Char, code}
 use Prim.Native.String.{String, [] as none, ◌∷◌ as ◌then◌}
 
@@ -15,10 +15,3 @@ tab = byte "\t"
 
 abbrev pub newline : ℕ
 newline = byte "\n"
-
--- whether two texts are the same
-unfoldable pub same : List ℕ → List ℕ → Bool
-same [] [] = true
-same [] (y ∷ ys) = false
-same (x ∷ xs) [] = false
-same (x ∷ xs) (y ∷ ys) = eqb x y && same xs ys

@@ -1,91 +1,74 @@
 // Numbers and bytes in lower-case hexadecimal, the highest digit first.
-ghost use Rattle.std.specs.Prelude.{◌≡◌, ◌*◌, ◌/◌, ◌≤◌, ◌<◌, ◌^◌, length};
+ghost use Rattle.std.specs.Prelude.{◌≡◌, ◌+◌, ◌*◌, ◌/◌, ◌≤◌, ◌<◌, ◌^◌, ◌++◌, length, IfSome, MatchOption};
 ghost use Rattle.io.specs.Digits.{last_digits, hex_digit_ascii};
-ghost use Rattle.lines.specs.Hex.{digit_of, number_from, pattern_of, hex_pair, hex_bytes, hex_of};
+ghost use Rattle.lines.specs.Hex.{digit_of, number_from, pattern_of, hex_pair, hex_bytes, decoded_of, hex_of};
 ghost use Rattle.promises.specs.Puts.{Puts};
 
-// A number that a text may be.
-#[derive(Clone, Copy)]
-pub enum Parsed {
-    Number(u64),
-    Nothing,
-}
+use buffer::Buffer;
 
-// The value of the digit b, or 16 where b is none.
-pub fn digit(b: u8) -> u64
-    ensures { result ≡ digit_of b }
+// The value of the digit b.
+#[tactic(auto, unfolding(crate::specs::Hex::digit_of))]
+pub fn digit(b: u8) -> Option<u8>
+    ensures value { result ≡ digit_of b }
+    ensures upper_bound { IfSome result (λ d. d < 16) }
 {
-    if b < b'0' {
-        return 16;
+    match b {
+        b'0'..=b'9' => Some(b - b'0'),
+        b'a'..=b'f' => Some(b - b'a' + 10),
+        _ => None,
     }
-    if b <= b'9' {
-        return (b - b'0') as u64;
-    }
-    if b < b'a' {
-        return 16;
-    }
-    if b <= b'f' {
-        return (b - b'a' + 10) as u64;
-    }
-    16
 }
 
 // The number that s is in digits below base.
-pub(crate) fn number(base: u64, s: &[u8]) -> Parsed
+pub(crate) fn number(base: u64, s: &[u8]) -> Option<u64>
     requires { base ^ length s.now ≤ 2 ^ 64 }
     ensures { result ≡ number_from base 0 s.now }
 {
     let mut n: u64 = 0;
-    let mut i = 0;
-    while i < s.len() {
-        let d = digit(s[i]);
+    for b in s {
+        let d = digit(*b)? as u64;
         if base <= d {
-            return Parsed::Nothing;
+            return None;
         }
         n = n * base + d;
-        i += 1;
     }
-    Parsed::Number(n)
+    Some(n)
 }
 
 // The number that s is in exactly `width` digits.
-pub fn pattern(width: usize, s: &[u8]) -> Parsed
+#[tactic(auto, unfolding(crate::specs::Hex::pattern_of))]
+pub fn pattern(width: usize, s: &[u8]) -> Option<u64>
     requires { width ≤ 16 }
     ensures { result ≡ pattern_of width s.now }
 {
     if s.len() != width {
-        return Parsed::Nothing;
+        return None;
     }
     number(16, s)
 }
 
-// Puts n in `width` digits at the start of out, and answers `width`.
-pub fn put_hex(width: usize, n: u64, out: &mut [u8]) -> usize
+// Puts n in `width` digits.
+pub fn put_hex<const N: usize>(width: usize, n: u64, out: &mut Buffer<N>)
     requires le_width { 1 ≤ width }
     requires width_bound { width ≤ 16 }
     requires n_bound { n < 16 ^ width }
-    requires width_in_bounds { width ≤ length out.old }
-    ensures puts { Puts (last_digits 16 width n) out.old result out.new }
-    ensures value { result ≡ width }
+    requires room { length out.old + width ≤ N }
+    ensures puts { out.new ≡ out.old ++ last_digits 16 width n }
+    ensures size { length out.new ≡ length out.old + width }
 {
     let mut text = [0u8; 16];
     let k = io::hex(n, width, &mut text);
-    byte_slices::copy(&text[..k], out)
+    out.extend_from_slice(&text[..k]);
 }
 
-// The byte that two digits are, or 256 where they are not both digits.
-fn pair(a: u8, b: u8) -> u64
+// The byte that two digits are.
+#[tactic(auto, unfolding(crate::specs::Hex::hex_pair))]
+fn pair(a: u8, b: u8) -> Option<u8>
     ensures { result ≡ hex_pair a b }
 {
-    let high = digit(a);
-    let low = digit(b);
-    if 16 <= high {
-        return 256;
-    }
-    if 16 <= low {
-        return 256;
-    }
-    high * 16 + low
+    let high = digit(a)?;
+    let low = digit(b)?;
+    Some(high * 16 + low)
 }
 
 // Decodes s, two digits a byte, up to the first two that are not both digits: puts the bytes at the
@@ -95,18 +78,26 @@ pub fn bytes(s: &[u8], out: &mut [u8]) -> usize
     ensures puts { Puts (hex_bytes s.now) out.old result out.new }
     ensures result_in_bounds { 2 * result ≤ length s.now }
 {
-    let pairs = s.len() / 2;
-    let mut i = 0;
-    while i < pairs {
-        let at = 2 * i;
-        let b = pair(s[at], s[at + 1]);
-        if 256 <= b {
-            return i;
-        }
-        out[i] = b as u8;
-        i += 1;
+    for (n, two) in s.chunks_exact(2).enumerate() {
+        let Some(b) = pair(two[0], two[1]) else {
+            return n;
+        };
+        out[n] = b;
     }
-    i
+    s.len() / 2
+}
+
+// The bytes that all of s is, two digits each; they are put into out.
+#[tactic(auto, unfolding(crate::specs::Hex::decoded_of))]
+pub fn decode<'a>(s: &[u8], out: &'a mut [u8]) -> Option<&'a [u8]>
+    requires { length s.now / 2 ≤ length out.old }
+    ensures { MatchOption result (decoded_of s.now ≡ None) (λ bytes. decoded_of s.now ≡ Some bytes.now) }
+{
+    let n = bytes(s, out);
+    if 2 * n != s.len() {
+        return None;
+    }
+    Some(&out[..n])
 }
 
 // The digit of a number below 16.
@@ -117,19 +108,14 @@ fn glyph(d: u8) -> u8
     if d < 10 { b'0' + d } else { b'a' + (d - 10) }
 }
 
-// Puts s in two digits a byte at the start of out, and answers how many digits there are.
-pub fn put_bytes(s: &[u8], out: &mut [u8]) -> usize
-    requires { 2 * length s.now ≤ length out.old }
-    ensures puts { Puts (hex_of s.now) out.old result out.new }
-    ensures value { result ≡ 2 * length s.now }
+// Puts s in two digits a byte.
+pub fn put_bytes<const N: usize>(s: &[u8], out: &mut Buffer<N>)
+    requires { length out.old + 2 * length s.now ≤ N }
+    ensures puts { out.new ≡ out.old ++ hex_of s.now }
+    ensures size { length out.new ≡ length out.old + 2 * length s.now }
 {
-    let mut i = 0;
-    while i < s.len() {
-        let b = s[i];
-        let at = 2 * i;
-        out[at] = glyph(b / 16);
-        out[at + 1] = glyph(b % 16);
-        i += 1;
+    for b in s {
+        out.push(glyph(*b / 16));
+        out.push(glyph(*b % 16));
     }
-    2 * s.len()
 }

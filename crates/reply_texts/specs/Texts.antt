@@ -9,6 +9,7 @@ use Rattle.lines.specs.Text.{word}
 use Rattle.lines.specs.Hex.{hex_of}
 use Rattle.lines.specs.Printed.{head_of}
 use Rattle.lines.specs.Decimal.{decimal_of}
+use Rattle.vector_types.specs.Answers.{number_of, detail_of}
 use Rattle.vector_types.specs.declared.Refusal.{Refusal}
 use Rattle.vector_types.specs.declared.Detail.{Detail}
 use Rattle.vector_types.specs.declared.Detail.TheVariants.{Nothing, Needs, Starts, Entry}
@@ -29,7 +30,7 @@ detail_text (Starts place) = field_text place
 detail_text (Entry entry) = field_text entry
 
 abbrev pub refusal_text : Refusal → List ℕ
-refusal_text r = marked_text (word "R\t") r.number ++ detail_text r.detail
+refusal_text r = marked_text (word "R\t") (number_of r) ++ detail_text (detail_of r)
 
 -- two numbers after a mark, and bytes after these
 abbrev pub header_text : List ℕ → ℕ → ℕ → List ℕ

@@ -1,6 +1,5 @@
 -- What the loops of the programs promise of a text that starts with a line.
 use Rattle.std.specs.Prelude.{ℕ, ◌+◌, ◌-◌, ◌≤◌, ◌<◌, ◌^◌, cond, ◌≡◌, List, [], ◌∷◌, ltb, leb, length, take, drop}
-use Rattle.promises.specs.Puts.{Puts}
 use Rattle.lines.specs.Printed.{numbered_reply, numbered_replies}
 use Rattle.line_stream.specs.Inner.Stream.{ended_lines, unfinished_line}
 use Rattle.line_stream.specs.declared.HeldLine.{HeldLine}
@@ -20,13 +19,13 @@ module _ (reply : List ℕ → List ℕ) (longest : ℕ) where
   answered_lines n room [] = []
   answered_lines n room (line ∷ lines) = cond (leb longest room) (line ∷ answered_lines (n + 1) (room - length (numbered_reply n (reply line))) lines) []
 
-  -- the lines up to the place `at`, where a line starts, are answered: their replies stand at the start of out
-  pub record Serves (text : List ℕ) (before : ℕ) (out out' : List ℕ) (r : ServedLines) : Type 0 where
+  -- the lines up to the place `at`, where a line starts, are answered, and out is their replies; `room` bytes may be put
+  pub record Serves (text : List ℕ) (before room : ℕ) (out : List ℕ) (r : ServedLines) : Type 0 where
     pub within : r.at ≤ length text
     pub start : unfinished_line [] (take r.at text) ≡ []
-    pub lines : ended_lines [] (take r.at text) ≡ answered_lines (before + 1) (length out) (ended_lines [] text)
+    pub lines : ended_lines [] (take r.at text) ≡ answered_lines (before + 1) room (ended_lines [] text)
     pub numbered : r.before ≡ before + length (ended_lines [] (take r.at text))
-    pub replies : Puts (numbered_replies reply (before + 1) (ended_lines [] (take r.at text))) out r.filled out'
+    pub replies : out ≡ numbered_replies reply (before + 1) (ended_lines [] (take r.at text))
     pub more : r.more ≡ ltb (length (ended_lines [] (take r.at text))) (length (ended_lines [] text))
 
 -- all lines of a text are served, and what is left of it is the unfinished one

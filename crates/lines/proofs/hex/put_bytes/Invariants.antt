@@ -1,12 +1,7 @@
--- `hex::put_bytes` meets its contract. The loop's invariant: the digits of the bytes passed are written, and those of the others are to come.
-use Prim.Native.Nat.{◌-◌, ◌*◌}
-use lib.ListN.{length, drop}
+-- What was put and what is to come make up the text.
+use Rattle.std.proofs.Common.{◌≡◌, ◌+◌, ◌*◌, ◌++◌, drop, length}
 use Rattle.lines.specs.Hex.{hex_of}
-use Rattle.lines.proofs.Writing.{Writing}
 use Rattle.lines.proofs.hex.put_bytes.Given as goal
 
-abbrev pub invariant-loop-i : goal.invariant-loop-i
-invariant-loop-i l = Writing (hex_of l.s) l.initial.out l.out (2 * l.i) (hex_of (drop l.i l.s))
-
-abbrev pub decreases-loop-i : goal.decreases-loop-i
-decreases-loop-i l = length l.s - l.i
+abbrev pub invariant-loop-b : goal.invariant-loop-b
+invariant-loop-b g l = (l.out ++ hex_of (drop l.b-index l.s) ≡ l.initial.out ++ hex_of l.s) × (length l.out ≡ length l.initial.out + 2 * l.b-index)

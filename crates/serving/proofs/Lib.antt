@@ -1,0 +1,2 @@
+-- That the contracts of the loops determine what they answer
+pub mod Determined
