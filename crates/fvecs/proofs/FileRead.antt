@@ -1,37 +1,34 @@
 -- Laws of the program's own loop: what stands in the buffer is what the pieces of the file so far leave.
-use mathlib.Core.Path.{◌≡◌, refl, sym, ap, ap₂, ◌∙◌}
-use mathlib.Core.Bool.{Bool, true, false, cond, false≢true}
-use mathlib.Core.List.{List, [], ◌∷◌, ◌++◌, flatten}
-use Prim.Native.Nat.{ℕ, ◌+◌, ◌<◌, ◌≤◌, ◌^◌}
-use native.Mathlib.Omega.{arith}
-use lib.ListN.{length, take, drop, length-append, length-drop, take-append-drop}
+use Rattle.std.proofs.Common.{◌≡◌, refl, sym, ap, ap₂, ◌∙◌, Bool, true, false, cond, List, [], ◌∷◌, ◌++◌, ℕ, ◌+◌, ◌<◌, ◌≤◌, ◌^◌, length, take, drop, length-append, length-drop, take-append-drop, arith, Option, None, Some, is_some, Result, Ok, Err}
+use mathlib.Core.List.{flatten}
 use lib.Seq.{take_all, take-take, length-take-le}
 use Rattle.line_stream.specs.Inner.Stream.{kept_of}
 use Rattle.line_stream.specs.Inner.Reading.{HoldsPiece}
 use Rattle.line_stream.specs.declared.InputText.{InputText}
 use Rattle.line_stream.proofs.InputRead.{flatten-more}
-use Rattle.vector_types.specs.declared.Detail.{Detail}
-use Rattle.vector_types.specs.declared.Detail.TheVariants.{Nothing, Needs, Starts, Entry}
+use Rattle.vector_types.specs.declared.Refusal.{Refusal}
+use Rattle.vector_types.specs.declared.Refusal.TheVariants.{FileEndsInside}
 use Rattle.vecs.specs.Vecs.{vector_at}
-use Rattle.vecs.specs.declared.VecsAnswer.{VecsAnswer}
-use Rattle.vecs.specs.declared.VecsAnswer.TheVariants.{Vector, End, Refused}
+use Rattle.vecs.specs.declared.Found.{Found}
 use Rattle.vecs_lines.specs.Inner.Rooms.{longest_vector}
-use Rattle.vecs_lines.specs.Inner.Cut.{vectors_of, size_of, rest_of, detail_at, answer_at, is_told, ends_listing}
+use Rattle.vecs_lines.specs.Inner.Cut.{vectors_of, size_of, rest_of, refusal_at, answer_at, told, ends_listing}
 use Rattle.vecs_lines.proofs.Cutting.{part-short, all-cut, rest-none}
 use Rattle.fvecs.specs.Inner.Stream.{FileProgress, none_listed, after_vectors, after_text, after_file_piece, after_file_pieces, ListsOn}
 use Rattle.fvecs.specs.declared.ListedText.{ListedText}
 
 -- a refusal is told or not, wherever its text stands
-told-anywhere : (last : Bool) (place : ℕ) (d : Detail) → is_told last (detail_at place d) ≡ is_told last d
-told-anywhere last place Nothing = refl
-told-anywhere last place (Needs n) = refl
-told-anywhere last place (Starts p) = refl
-told-anywhere last place (Entry j) = refl
+told-anywhere : (last : Bool) (place : ℕ) (r : Refusal) → is_some (told last (refusal_at place r)) ≡ is_some (told last r)
+told-anywhere last place (FileEndsInside p) = by last
+  where
+    by : (b : Bool) → is_some (cond b (Some (FileEndsInside place)) None) ≡ is_some (cond b (Some (FileEndsInside p)) None)
+    by true = refl
+    by false = refl
+told-anywhere last place _ = refl
 
-ends-anywhere : (last : Bool) (place : ℕ) (a : VecsAnswer) → ends_listing last (answer_at place a) ≡ ends_listing last a
-ends-anywhere last place (Vector v) = refl
-ends-anywhere last place End = refl
-ends-anywhere last place (Refused r) = told-anywhere last place r.detail
+ends-anywhere : (last : Bool) (place : ℕ) (a : Result (Option Found) Refusal) → ends_listing last (answer_at place a) ≡ ends_listing last a
+ends-anywhere last place (Ok (Some v)) = refl
+ends-anywhere last place (Ok None) = refl
+ends-anywhere last place (Err r) = told-anywhere last place r
 
 -- ---- how far a listing is after so many bytes: it has no more than these, each vector has bytes, and what is left is short
 record ProgressBounds (bytes : ℕ) (p : FileProgress) : Type 0 where
@@ -43,7 +40,7 @@ bounds-next : (bytes : ℕ) (p : FileProgress) (s : List ℕ) → ProgressBounds
 bounds-next bytes p s h = by p.ended refl
   where
     by : (b : Bool) → p.ended ≡ b → ProgressBounds (bytes + length s) (cond b p (after_text false p (p.rest ++ s)))
-    by true e = record { size = omega (arith, h.size); few = h.few; short = λ on. absurd (false≢true (sym on ∙ e)) }
+    by true e = record { size = omega (arith, h.size); few = h.few; short = λ on. absurd cc }
     by false e =
         let text = p.rest ++ s in
         let all = all-cut text in

@@ -1,13 +1,9 @@
 -- What fvecs prints from a place on, with no bound: nothing at the end of the file, the refusal's line on a refusal, else the vector's line and what is printed from its next place on.
-use mathlib.Core.Path.{◌≡◌, refl, sym, ap, ◌∙◌}
-use mathlib.Core.List.{List, [], ◌++◌}
-use Prim.Native.Nat.{ℕ, zero, suc, ◌+◌, ◌≤◌}
-use native.Mathlib.Omega.{arith}
+use Rattle.std.proofs.Common.{◌≡◌, refl, sym, ap, ◌∙◌, List, [], ◌++◌, ℕ, zero, suc, ◌+◌, ◌≤◌, arith, Option, None, Some, Result, Ok, Err}
 use Rattle.lines.specs.Printed.{numbered_reply}
 use Rattle.vecs.specs.Vecs.{bytes_left, vector_at, elements_at}
 use Rattle.vecs.specs.declared.Found.{Found}
-use Rattle.vecs.specs.declared.VecsAnswer.{VecsAnswer}
-use Rattle.vecs.specs.declared.VecsAnswer.TheVariants.{Vector, End, Refused}
+use Rattle.vector_types.specs.declared.Refusal.{Refusal}
 use Rattle.vecs.proofs.AtPlace.{at-end}
 use Rattle.vecs.proofs.Vecs.{vector-inside}
 use Rattle.vecs_lines.specs.Line.{vector_reply}
@@ -15,11 +11,11 @@ use Rattle.fvecs.specs.Listed.{lines_by, listed_in, listed_from}
 
 module _ (file : List ℕ) where
   -- only what is printed from the next place of a vector on counts
-  lines_same : (place n : ℕ) (more more' : ℕ → ℕ → List ℕ) (a : VecsAnswer) → ((v : Found) → a ≡ Vector v → more v.next (n + 1) ≡ more' v.next (n + 1))
+  lines_same : (place n : ℕ) (more more' : ℕ → ℕ → List ℕ) (a : Result (Option Found) Refusal) → ((v : Found) → a ≡ Ok (Some v) → more v.next (n + 1) ≡ more' v.next (n + 1))
       → lines_by file place n a more ≡ lines_by file place n a more'
-  lines_same place n more more' (Vector v) same = ap (λ (l : List ℕ). numbered_reply n (vector_reply v.dims.0 (elements_at 4 file place)) ++ l) (same v refl)
-  lines_same place n more more' End same = refl
-  lines_same place n more more' (Refused r) same = refl
+  lines_same place n more more' (Ok (Some v)) same = ap (λ (l : List ℕ). numbered_reply n (vector_reply v.dims.0 (elements_at 4 file place)) ++ l) (same v refl)
+  lines_same place n more more' (Ok None) same = refl
+  lines_same place n more more' (Err r) same = refl
 
   in-ended : (f place n : ℕ) → bytes_left file place ≡ 0 → listed_in f file place n ≡ []
   unfolding listed_in

@@ -10,8 +10,7 @@ use Rattle.vector_types.specs.Read.{read_of, refusals, shown}
 use Rattle.vector_types.specs.Parts.{body_of}
 use Rattle.bodies.specs.Merged.{merged}
 use Rattle.distance.specs.Answer.{distance_of}
-use Rattle.lines.specs.Text.{same}
-use Rattle.lines.specs.Hex.{digit_of, hex_pair, hex_bytes}
+use Rattle.lines.specs.Hex.{digit_of, hex_pair, hex_bytes, decoded_of}
 use Rattle.lines.specs.Decimal.{decimal_of}
 use Rattle.lines.specs.Parts.{parts_of}
 use Rattle.lines.specs.Examples.{Example, example, RepliesAs}
@@ -48,6 +47,6 @@ table =
     ∷ []
 
 pub table-holds : RepliesAs vecdist_reply table
-unfolding vecdist_reply parts_of same digit_of hex_pair hex_bytes decimal_of to_bits
+unfolding vecdist_reply parts_of digit_of hex_pair hex_bytes decoded_of decimal_of to_bits
     distance_of read_of body_of named_kind by_byte length_before_type body_fits refusals shown first_from number_at layout_row running total root merged add sub mul div neg eq lt of_int of_bits
 table-holds = refl

@@ -1,13 +1,15 @@
 // What vecdist replies to a line.
 #![tactic(auto)]
 
-ghost use Rattle.std.specs.Prelude.{◌≡◌, ◌+◌, ◌*◌, ◌≤◌, length};
-ghost use Rattle.promises.specs.Puts.{Puts};
+ghost use Rattle.std.specs.Prelude.{◌≡◌, ◌+◌, ◌*◌, ◌≤◌, ◌++◌, length};
 ghost use Rattle.vecdist_lines.specs.Limits.{vecdist_room};
-ghost use Rattle.vecdist_lines.specs.Line.{asked_of, value_text, named_refusal_text, distance_text, distance_found_reply, vecdist_reply};
+ghost use Rattle.vecdist_lines.specs.Line.{asked_of, value_text, named_refusal_text, distance_text, vecdist_reply};
+ghost use Rattle.lines.specs.Fields.{PutsUnlessMalformed};
 
-use distance::{Distance, DistanceAnswer, Which};
-use lines::text::{put_malformed, word_place};
+use buffer::Buffer;
+use distance::{Distance, Measured, Refused, Which, vector_distance};
+use lines::hex::{decode, put_hex};
+use lines::text::{put_head, put_malformed, split_field};
 use reply_texts::put_detail;
 use vector_types::Refusal;
 
@@ -17,112 +19,87 @@ pub const LIMIT: usize = 32768;
 // Room for any reply.
 pub const ROOM: usize = 45;
 
-// The distance that a field names, if any.
-#[derive(Clone, Copy)]
-pub enum Asked {
-    Known(Distance),
-    Unknown,
-}
-
-pub fn asked_of(field: &[u8]) -> Asked
+// The distance that a field names.
+pub fn asked_of(field: &[u8]) -> Option<Distance>
     ensures { result ≡ asked_of field.now }
 {
-    let words = b"cos\tl2\tdot\tjac";
-    match word_place(words, field) {
-        0 => Asked::Known(Distance::Cos),
-        1 => Asked::Known(Distance::L2),
-        2 => Asked::Known(Distance::Dot),
-        3 => Asked::Known(Distance::Jaccard),
-        _ => Asked::Unknown,
+    match field {
+        b"cos" => Some(Distance::Cos),
+        b"l2" => Some(Distance::L2),
+        b"dot" => Some(Distance::Dot),
+        b"jac" => Some(Distance::Jaccard),
+        _ => None,
     }
 }
 
-// Puts a mark and the pattern of a distance in sixteen digits at the start of out.
-pub fn put_value(mark: &[u8], x: f64, out: &mut [u8]) -> usize
-    requires mark_len_bound { length mark.now ≤ 4 }
-    requires vecdist_room_in_bounds { vecdist_room ≤ length out.old }
-    ensures puts { Puts (value_text mark.now x) out.old result out.new }
-    ensures upper_bound { result ≤ 20 }
+// Puts a mark and the pattern of a distance in sixteen digits.
+pub fn put_value<const N: usize>(mark: &[u8], x: f64, out: &mut Buffer<N>)
+    requires { length out.old + length mark.now + 16 ≤ N }
+    ensures puts { out.new ≡ out.old ++ value_text mark.now x }
+    ensures size { length out.new ≡ length out.old + length mark.now + 16 }
 {
-    let head = byte_slices::copy(mark, out);
-    head + lines::hex::put_hex(16, little_endian::bits64(x), &mut out[head..])
+    out.extend_from_slice(mark);
+    put_hex(16, little_endian::bits64(x), out);
 }
 
 // Puts R, the number of a refusal, the name of the blob that it is about, and what it carries, separated
 // by tabs.
-pub fn put_named_refusal(refusal: Refusal, name: &[u8], out: &mut [u8]) -> usize
-    requires name_len { length name.now ≡ 1 }
-    requires vecdist_room_in_bounds { vecdist_room ≤ length out.old }
-    ensures { Puts (named_refusal_text refusal name.now) out.old result out.new }
+pub fn put_named_refusal<const N: usize>(refusal: Refusal, name: &[u8], out: &mut Buffer<N>)
+    requires { length out.old + 44 + length name.now ≤ N }
+    ensures puts { out.new ≡ out.old ++ named_refusal_text refusal name.now }
+    ensures size { length out.new ≤ length out.old + 44 + length name.now }
 {
-    let head = byte_slices::copy(b"R\t", out);
-    let end = head + lines::text::put_head(refusal.number as u64, &mut out[head..]);
-    let named = end + byte_slices::copy(name, &mut out[end..]);
-    let detail = refusal.detail;
-    named + put_detail(detail, &mut out[named..])
+    out.extend_from_slice(b"R\t");
+    put_head(refusal.number() as u64, out);
+    out.extend_from_slice(name);
+    put_detail(refusal.detail(), out);
 }
 
-// Puts an answer at the start of out.
-fn put_answer(answer: DistanceAnswer, out: &mut [u8]) -> usize
-    requires { vecdist_room ≤ length out.old }
-    ensures { Puts (distance_text answer) out.old result out.new }
+// Puts an answer: the counts of readings are not shown.
+#[tactic(auto, unfolding(crate::specs::Line::distance_text))]
+fn put_answer<const N: usize>(answer: Result<Measured, Refused<Which>>, out: &mut Buffer<N>)
+    requires { length out.old + vecdist_room ≤ N }
+    ensures puts { out.new ≡ out.old ++ distance_text answer }
+    ensures size { length out.new ≤ length out.old + vecdist_room }
 {
     match answer {
-        DistanceAnswer::Measured(x, _) => put_value(b"D\t", x, out),
-        DistanceAnswer::Refused(refusal, which) => match which {
-            Which::First => put_named_refusal(refusal, b"a", out),
-            Which::Second => put_named_refusal(refusal, b"b", out),
-            Which::Neither => put_named_refusal(refusal, b"-", out),
-        },
+        Ok(measured) => put_value(b"D\t", measured.distance, out),
+        Err(refused) => {
+            let name = match refused.blob {
+                Some(Which::First) => b"a",
+                Some(Which::Second) => b"b",
+                None => b"-",
+            };
+            put_named_refusal(refused.refusal, name, out)
+        }
     }
 }
 
-// The reply to D|A|B, of which D is found and these are A and B: they are decoded into `decoded`, one
-// after the other.
-fn answer_found(
-    asked: Asked,
-    first: &[u8],
-    second: &[u8],
-    decoded: &mut [u8],
-    out: &mut [u8],
-) -> usize
-    requires second_len_bound { length first.now + length second.now ≤ 2 * length decoded.old }
-    requires vecdist_room_in_bounds { vecdist_room ≤ length out.old }
-    ensures { Puts (distance_found_reply asked first.now second.now) out.old result out.new }
-{
-    let Asked::Known(distance) = asked else {
-        return put_malformed(out);
-    };
-    let m = lines::hex::bytes(first, decoded);
-    if 2 * m != first.len() {
-        return put_malformed(out);
-    }
-    let n = lines::hex::bytes(second, &mut decoded[m..]);
-    if 2 * n != second.len() {
-        return put_malformed(out);
-    }
-    let blobs = &decoded[..m + n];
-    put_answer(
-        distance::vector_distance(distance, &blobs[..m], &blobs[m..]),
-        out,
-    )
-}
-
-// Puts the reply to a line at the start of out, and answers its length; `decoded` is room to work in.
-pub fn answer(line: &[u8], decoded: &mut [u8], out: &mut [u8]) -> usize
+// Puts the reply to D|A|B, of which A and B are decoded one after the other.
+fn put_reply<const N: usize>(line: &[u8], decoded: &mut [u8], out: &mut Buffer<N>) -> Option<()>
     requires line_len_bound { length line.now ≤ 2 * length decoded.old }
-    requires vecdist_room_in_bounds { vecdist_room ≤ length out.old }
-    ensures { Puts (vecdist_reply line.now) out.old result out.new }
+    requires room { length out.old + vecdist_room ≤ N }
+    ensures puts { PutsUnlessMalformed (vecdist_reply line.now) out.old result out.new }
+    ensures size { length out.new ≤ length out.old + vecdist_room }
 {
-    let end = lines::text::field_end(line);
-    if end == line.len() {
-        return put_malformed(out);
+    let (field, blobs) = split_field(line)?;
+    let (first, second) = split_field(blobs)?;
+    let distance = asked_of(field)?;
+    let (front, back) = decoded.split_at_mut(first.len() / 2);
+    let a = decode(first, front)?;
+    let b = decode(second, back)?;
+    put_answer(vector_distance(distance, a, b), out);
+    Some(())
+}
+
+// Puts the reply to a line; `decoded` is room to work in.
+pub fn answer<const N: usize>(line: &[u8], decoded: &mut [u8], out: &mut Buffer<N>)
+    requires line_len_bound { length line.now ≤ 2 * length decoded.old }
+    requires room { length out.old + vecdist_room ≤ N }
+    ensures puts { out.new ≡ out.old ++ vecdist_reply line.now }
+    ensures size { length out.new ≤ length out.old + vecdist_room }
+{
+    if put_reply(line, decoded, out).is_none() {
+        put_malformed(out);
     }
-    let asked = asked_of(&line[..end]);
-    let rest = &line[end + 1..];
-    let stop = lines::text::field_end(rest);
-    if stop == rest.len() {
-        return put_malformed(out);
-    }
-    answer_found(asked, &rest[..stop], &rest[stop + 1..], decoded, out)
 }

@@ -2,5 +2,4 @@
 pub mod Starting
 pub mod Cutting
 pub mod Listing
-pub mod Telling
 pub mod Determined

@@ -1,92 +1,86 @@
 -- Laws of the vectors of a text that are listed, one after another: the turns of the loop of `list`.
-use mathlib.Core.Path.{◌≡◌, refl, sym, ap, ◌∙◌}
-use mathlib.Core.Logic.{◌⊎◌, inl, inr}
-use mathlib.Core.List.{List, [], ◌∷◌, ◌++◌, flatten, append_assoc}
-use Prim.Native.Nat.{ℕ, ◌+◌, ◌-◌, ◌<◌, ◌≤◌}
-use native.Mathlib.Omega.{arith}
-use native.Mathlib.Decide.{dec_lt}
-use borrow.Author.Tests.{lt-ltb, le-ltb}
-use borrow.Rule.Slice.PartMut.{put_mid}
-use lib.Dec.{ltb}
-use lib.ListN.{length, take, drop, length-append, length-drop}
-use lib.Seq.{length-take-le, drop-drop}
-use Rattle.promises.specs.Puts.{Puts}
-use Rattle.promises.proofs.Puts.{puts-same, puts-within}
+use Rattle.std.proofs.Common.{◌≡◌, refl, sym, ap, ◌∙◌, List, [], ◌∷◌, ◌++◌, append_assoc, append-nil, ℕ, ◌+◌, ◌-◌, ◌<◌, ◌≤◌, length, take, drop, length-append, length-drop, arith, Option, None, Some, is_some, IfSome, ltb}
+use borrow.Author.Tests.{le-leb, lt-leb, le-ltb, lt-ltb}
+use lib.Seq.{length-take-le}
+use Rattle.std.specs.List.{concat}
 use Rattle.lines.specs.Printed.{numbered_reply, numbered_replies}
-use Rattle.line_stream.proofs.InputRead.{flatten-more}
-use Rattle.line_stream.proofs.Answering.{Answered, none-answered, next-answered, answered-stopped}
+use Rattle.line_stream.specs.Inner.Serving.{answered_lines}
 use Rattle.vecs_lines.specs.Inner.Rooms.{vector_line_room}
 use Rattle.vecs_lines.specs.Inner.Cut.{first_size, vectors_of, size_of, whole_reply, listed_vectors, Lists}
-use Rattle.vecs_lines.proofs.Cutting.{first-vector, vectors-none, vectors-next, cut-after}
+use Rattle.vecs_lines.proofs.Cutting.{first-vector, vectors-none, vectors-next}
 
--- the vectors up to `at` are listed: b is the number of the last, and `filled` bytes of o, which was out, are their lines
-pub record VectorsListed (text : List ℕ) (before : ℕ) (out o : List ℕ) (at b filled : ℕ) : Type 0 where
-  pub done : List (List ℕ)
-  pub place : at ≡ size_of done
-  pub parts : vectors_of text ≡ done ++ vectors_of (drop at text)
-  pub answered : Answered whole_reply vector_line_room (vectors_of text) done (vectors_of (drop at text)) before out o b filled
+-- ---- the vectors of a text for which there is room, from the front
+module _ (text : List ℕ) (n room : ℕ) where
+  listed-none : first_size text ≡ None → listed_vectors text n room ≡ []
+  unfolding answered_lines
+  listed-none e = rw (vectors-none text e) refl
 
-pub none-listed : (text : List ℕ) (before : ℕ) (out : List ℕ) → VectorsListed text before out out 0 before 0
-unfolding flatten
-none-listed text before out = record { done = []; place = refl; parts = refl; answered = none-answered whole_reply vector_line_room (vectors_of text) before out }
-
--- what a loop's arithmetic needs
-pub record ListedBounds (text : List ℕ) (before : ℕ) (out : List ℕ) (at b filled : ℕ) : Type 0 where
-  pub within : at ≤ length text
-  pub fits : filled ≤ length out
-  pub numbered : b ≤ before + at
-
-pub listed-bounds : {text out o : List ℕ} {before at b filled : ℕ} → VectorsListed text before out o at b filled → length o ≡ length out → ListedBounds text before out at b filled
-listed-bounds {text} {at = at} s same =
-    let c = cut-after s.done (vectors_of (drop at text)) text s.parts in
-    record {
-      within = omega (arith, c.within, s.place);
-      fits = puts-within s.answered.replies same;
-      numbered = omega (arith, c.few, s.place, s.answered.numbered);
-    }
-
--- the next vector
-module _ (text : List ℕ) (at size : ℕ) (first : size ≡ first_size (drop at text)) where
-  ahead_none : size ≡ 0 → vectors_of (drop at text) ≡ []
-  ahead_none e = vectors-none (drop at text) (sym first ∙ e)
-
-  ahead-next : 0 < size → vectors_of (drop at text) ≡ take size (drop at text) ∷ vectors_of (drop (at + size) text)
-  ahead-next some = vectors-next (drop at text) (omega arith) ∙ rw (← first, drop-drop size at text)
-
-  pub next-within : 0 < size → at ≤ length text → at + size ≤ length text
-  next-within some le = omega (arith, (first-vector (drop at text) (omega arith)).within, length-drop at text)
-
-  -- its line, for which the part of out after the other lines was lent
-  pub next-listed : {out o ys : List ℕ} {before b filled n : ℕ} → VectorsListed text before out o at b filled → 0 < size → length o ≡ length out → vector_line_room ≤ length o - filled
-      → Puts (numbered_reply (b + 1) (whole_reply (take size (drop at text)))) (take (length o - filled) (drop filled o)) n ys
-      → VectorsListed text before out (put_mid filled (length o - filled) o ys) (at + size) (b + 1) (filled + n)
-  next-listed s some same room put =
-      let v = take size (drop at text) in
-      let long : length v ≡ size = length-take-le size (drop at text) (omega (arith, (first-vector (drop at text) (omega arith)).within)) in
-      record {
-        done = s.done ++ (v ∷ []);
-        place = omega (arith, s.place, flatten-more s.done v, long);
-        parts = s.parts ∙ rw (ahead-next some) (sym (append_assoc s.done (v ∷ []) (vectors_of (drop (at + size) text))));
-        answered = next-answered whole_reply vector_line_room (rw (ahead-next some) at s.answered) same room put;
-      }
-
-  -- no vector is ahead, or there is no room for the next line
-  pub lists-stopped : {out o : List ℕ} {before b filled : ℕ} → VectorsListed text before out o at b filled → (size ≡ 0) ⊎ (length out - filled < vector_line_room)
-      → Lists text before out o (record { at = at; before = b; filled = filled; more = ltb 0 size })
-  lists-stopped {out} {before = before} s stop =
-      let all : s.done ≡ listed_vectors text before (length out) = answered-stopped whole_reply vector_line_room s.answered (elim stop [ inl e ↦ inl (ahead_none e) | inr less ↦ inr less ]) in
-      record {
-        place = s.place ∙ ap size_of all;
-        numbered = s.answered.numbered ∙ ap (λ (vs : List (List ℕ)). before + length vs) all;
-        lines = puts-same (ap (numbered_replies whole_reply (before + 1)) all) s.answered.replies;
-        more = left s.done s.parts ∙ ap (λ (vs : List (List ℕ)). ltb (length vs) (length (vectors_of text))) all;
-      }
+  listed-full : room < vector_line_room → listed_vectors text n room ≡ []
+  unfolding answered_lines
+  listed-full less = by (vectors_of text)
     where
-      -- vectors are left where there is a next one
-      left : (done : List (List ℕ)) → vectors_of text ≡ done ++ vectors_of (drop at text) → ltb 0 size ≡ ltb (length done) (length (vectors_of text))
-      left done parts =
-          let sum = ap length parts ∙ length-append done (vectors_of (drop at text)) in
-          elim (dec_lt 0 size) [
-            | yes some ↦ lt-ltb 0 size some ∙ sym (lt-ltb (length done) (length (vectors_of text)) (omega (arith, sum, ap length (ahead-next some))))
-            | no none ↦ le-ltb 0 size (omega (arith, none)) ∙ sym (le-ltb (length done) (length (vectors_of text)) (omega (arith, sum, ap length (ahead_none (omega (arith, none))))))
-          ]
+      by : (vs : List (List ℕ)) → answered_lines whole_reply vector_line_room (n + 1) room vs ≡ []
+      by [] = refl
+      by (v ∷ vs) = rw (lt-leb vector_line_room room less) refl
+
+  listed-next : {k : ℕ} → first_size text ≡ Some k → vector_line_room ≤ room
+      → listed_vectors text n room ≡ take k text ∷ listed_vectors (drop k text) (n + 1) (room - length (numbered_reply (n + 1) (whole_reply (take k text))))
+  unfolding answered_lines
+  listed-next e fits = rw (vectors-next text e, le-leb vector_line_room room fits) refl
+
+-- of a text so much is left, b is the number of the last vector before it, and o is out with the lines: what is listed of the rest completes the listing
+abbrev rest_listed : ℕ → List ℕ → ℕ → List ℕ → List (List ℕ)
+rest_listed capacity rest b o = listed_vectors rest b (capacity - length o)
+
+pub record ListedUpTo (capacity : ℕ) (text : List ℕ) (before : ℕ) (out rest : List ℕ) (b : ℕ) (o : List ℕ) : Type 0 where
+  pub within : length rest ≤ length text
+  pub few : b + length rest ≤ before + length text
+  pub place : length text - length rest + size_of (rest_listed capacity rest b o) ≡ size_of (rest_listed capacity text before out)
+  pub numbered : b + length (rest_listed capacity rest b o) ≡ before + length (rest_listed capacity text before out)
+  pub lines : o ++ numbered_replies whole_reply (b + 1) (rest_listed capacity rest b o) ≡ out ++ numbered_replies whole_reply (before + 1) (rest_listed capacity text before out)
+  pub left : length (vectors_of rest) + length (rest_listed capacity text before out) ≡ length (vectors_of text) + length (rest_listed capacity rest b o)
+
+module _ {capacity : ℕ} {text : List ℕ} {before : ℕ} {out rest : List ℕ} {b : ℕ} {o : List ℕ} (s : ListedUpTo capacity text before out rest b o) where
+  -- the listing stops where no vector is left, or where there is no room for the next line
+  pub listed-stopped : IfSome (first_size rest) (λ _. capacity - length o < vector_line_room)
+      → Lists (capacity - length out) text before out o (record { at = length text - length rest; before = b; more = is_some (first_size rest) })
+  unfolding numbered_replies
+  listed-stopped stop =
+      let none : rest_listed capacity rest b o ≡ [] = here (first_size rest) refl stop in
+      let place = rw none at s.place in
+      let numbered = rw none at s.numbered in
+      record { place = omega arith; numbered = omega arith; lines = sym (append-nil o) ∙ rw none at s.lines; more = by (first_size rest) refl (rw none at s.left) }
+    where
+      here : (first : Option ℕ) → first_size rest ≡ first → IfSome first (λ _. capacity - length o < vector_line_room) → rest_listed capacity rest b o ≡ []
+      here None e full = listed-none rest b (capacity - length o) e
+      here (Some k) e full = listed-full rest b (capacity - length o) full
+
+      by : (first : Option ℕ) → first_size rest ≡ first → length (vectors_of rest) + length (rest_listed capacity text before out) ≡ length (vectors_of text) + 0
+          → is_some first ≡ ltb (length (rest_listed capacity text before out)) (length (vectors_of text))
+      by None e left = sym (le-ltb _ _ (omega (arith, ap length (vectors-none rest e))))
+      by (Some k) e left = sym (lt-ltb _ _ (omega (arith, ap length (vectors-next rest e))))
+
+  -- the line of the next vector is put
+  pub listed-on : {k : ℕ} → first_size rest ≡ Some k → vector_line_room ≤ capacity - length o
+      → ListedUpTo capacity text before out (drop k rest) (b + 1) (o ++ numbered_reply (b + 1) (whole_reply (take k rest)))
+  unfolding numbered_replies
+  listed-on {k} some fits =
+      let v = take k rest in
+      let line = numbered_reply (b + 1) (whole_reply v) in
+      let first = first-vector rest some in
+      let size = length-drop k rest in
+      let long : length v ≡ k = length-take-le k rest first.within in
+      let room : capacity - length o - length line ≡ capacity - length (o ++ line) = simp length-append (omega arith) in
+      let next : rest_listed capacity rest b o ≡ v ∷ rest_listed capacity (drop k rest) (b + 1) (o ++ line)
+      = listed-next rest b (capacity - length o) some fits ∙ rw room refl in
+      let place = rw next at s.place in
+      record {
+        within = omega (arith, s.within);
+        few = omega (arith, s.few, first.is);
+        place = omega (arith, place, s.within, length-append v (concat (rest_listed capacity (drop k rest) (b + 1) (o ++ line))));
+        numbered = omega (arith, rw next at s.numbered);
+        lines = append_assoc o line _ ∙ rw next at s.lines;
+        left = omega (arith, s.left, ap length next, ap length (vectors-next rest some));
+      }
+
+pub ruleset turns = (first-vector, listed-on, listed-stopped)

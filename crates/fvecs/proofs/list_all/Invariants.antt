@@ -1,16 +1,10 @@
--- The loop's invariant of `list_all`: the vectors of the text up to `at` are listed.
-use mathlib.Core.Path.{◌≡◌}
-use mathlib.Core.Bool.{false, cond}
-use mathlib.Core.List.{[]}
-use Prim.Native.Nat.{◌+◌, ◌-◌}
-use lib.ListN.{length, drop}
-use Rattle.vecs_lines.specs.Inner.Cut.{vectors_of}
+-- The vectors before the rest are listed.
+use Rattle.std.proofs.Common.{length}
 use Rattle.fvecs.proofs.ListingAll.{TextListedUpTo}
 use Rattle.fvecs.proofs.list_all.Given as goal
 
--- where the loop stops, no vector is left
-abbrev pub invariant-loop-more : goal.invariant-loop-more
-invariant-loop-more g l = TextListedUpTo l.text l.before l.at l.number × (l.more ≡ false → vectors_of (drop l.at l.text) ≡ []) × (length l.out ≡ length l.initial.out)
+abbrev pub invariant-loop-after : goal.invariant-loop-after
+invariant-loop-after g l = TextListedUpTo l.text l.initial.number l.rest l.number
 
-abbrev pub decreases-loop-more : goal.decreases-loop-more
-decreases-loop-more g l = length l.text - l.at + cond l.more 1 0
+abbrev pub decreases-loop-after : goal.decreases-loop-after
+decreases-loop-after g l = length l.rest

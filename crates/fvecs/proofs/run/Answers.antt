@@ -1,51 +1,40 @@
--- `run` is safe and ends.
-use mathlib.Core.Path.{◌≡◌, refl, ◌∙◌}
-use mathlib.Core.Bool.{Bool, true, false, not, ◌&&◌, false≢true}
-use Prim.Native.Nat.{◌+◌, ◌<◌, ◌^◌}
-use native.Mathlib.Omega.{arith}
-use lib.ListN.{length, take}
-use Rattle.line_stream.proofs.ServingAll.{goes_on}
-use Rattle.line_stream.proofs.ReadingText.{left-fewer}
-use Rattle.fvecs.proofs.FileRead.{FileRead, no-file-read, text-counted, piece-listed}
-use Rattle.fvecs.proofs.run.Invariants.{most_read}
-use Rattle.fvecs.proofs.run.Given.{Over}
+-- The next piece stands behind what is left of the last; all its vectors are listed.
+use Rattle.std.proofs.Common.{rules, ◌≡◌, ◌+◌, ◌<◌, ◌^◌, subst, length, Result, Ok, Err, MatchResult, IfOk, arith, take, drop}
+use borrow.Author.Tests.{not-false}
+use Rattle.line_stream.specs.Inner.Stream.{kept_of}
+use Rattle.line_stream.specs.Inner.Reading.{HoldsPiece}
+use Rattle.line_stream.specs.declared.ending.Stopped.{Stopped}
+use Rattle.vecs_lines.specs.Inner.Rooms.{longest_vector}
+use Rattle.fvecs.proofs.FileRead.{no-file-read, text-counted, piece-listed}
 use Rattle.fvecs.proofs.run.Goals as goal
-use Rattle.fvecs.proofs.run.Goals.{In-loop-more, After-next_piece-piece}
+use Rattle.fvecs.proofs.run.Goals.{In_ok-piece}
+use Rattle.fvecs.proofs.run.Given.{Over}
 
--- what was read before a turn
-file-read : (g : Over) (c : In-loop-more g) → let l = c.loop-more in FileRead l.input l.at l.end l.place l.before l.left most_read
-file-read g c = c.loop-more.invariant.0 c.loop-more-test.true
+-- what holds of an answer whose error was mapped
+unmapped : {T E : Type 0} (D : Type 0) (r : Result T E) {y : T} (P : T → Type 0) {Q : E → Type 0} → MatchResult r (λ x. ◌≡◌ {A = Result T D} (Ok y) (Ok x)) Q → (is : (e : E) → Q e → ⊥) → IfOk r P → P y
+unmapped D (Ok x) {y} P e is p = subst P (cc) p
+unmapped D (Err e) P q is p = absurd (is e q)
 
--- what is read is not the last while more may come
-not_last : (more failed : Bool) → more ≡ true → not more && not failed ≡ false
-not_last true failed e = refl
-not_last false failed e = absurd (false≢true e)
+pub loop-piece-init : goal.loop-piece-init
+loop-piece-init g c = no-file-read _ _
+
+read : (g : Over) (c : In_ok-piece g) → let l = c.loop-piece in HoldsPiece (kept_of longest_vector (drop l.at (take l.end l.input))) l.left c.next_piece.new.buffer c.in_ok-piece.piece
+read g c = unmapped Stopped c.next_piece.result _ c.in_ok-piece.ensures.cases (λ e q. q) c.next_piece.ensures.read
 
 -- places and numbers are counted
-ready : (g : Over) (c : After-next_piece-piece g) → let l = c.loop-more in let text = take c.next_piece-piece.result.end c.next_piece-piece.new.buffer in
-    (l.place + length text < 2 ^ 64) × (l.before + length text + 1 < 2 ^ 64)
-ready g c = let text = c.next_piece-piece.ensures in text-counted (c.loop-more.invariant.0 c.loop-more-test.true) text (omega (arith, text.fits, c.next_piece-piece.auto, c.loop-more.invariant.1))
+counted : (g : Over) (c : In_ok-piece g) → let text = take c.in_ok-piece.piece.end c.next_piece.new.buffer in
+    (c.loop-piece.place + length text < 2 ^ 64) × (c.loop-piece.before + length text + 1 < 2 ^ 64)
+counted g c = let piece = read g c in text-counted c.loop-piece.invariant piece (omega (arith, piece.fits, c.next_piece.auto.buffer, c.loop-piece.auto.input, c.requires.input_len))
 
-pub loop-more-init : goal.loop-more-init
-loop-more-init g c = (λ _. no-file-read _ _, c.requires.input_len, refl)
-
-pub list_text-requires-clause-text_bound : goal.list_text-requires-clause-text_bound
-list_text-requires-clause-text_bound g c = (ready g (goal.at.list_text-requires-clause-text_bound g c).After-next_piece-piece).0
-
-pub list_text-requires-clause-text_bound_2 : goal.list_text-requires-clause-text_bound_2
-list_text-requires-clause-text_bound_2 g c = (ready g (goal.at.list_text-requires-clause-text_bound_2 g c).After-next_piece-piece).1
+pub list_text-requires : goal.list_text-requires
+list_text-requires g c = let counted = counted g (goal.at.list_text-requires g c).In_ok-piece in search rules
 
 pub overflow_add-place : goal.overflow_add-place
-overflow_add-place g c = omega (arith, (ready g (goal.at.overflow_add-place g c).After-next_piece-piece).0, c.in_ok-listed.ensures.at_in_bounds)
+overflow_add-place g c =
+    let counted = counted g (goal.at.overflow_add-place g c).In_ok-piece in
+    omega (arith, counted.0, rw c.in-Some.is at c.in_ok-listed.ensures.at_in_bounds)
 
-pub loop-more-smaller : goal.loop-more-smaller
-loop-more-smaller g c = rw c.loop-more-test.true (left-fewer c.next_piece-piece.ensures (c.next_piece-piece.result.more && c.in_ok-listed.listed.more) (λ on. (goes_on _ _ on).0))
-
-pub loop-more-preserved : goal.loop-more-preserved
-loop-more-preserved g c =
-    let r = c.next_piece-piece in
-    let inv = c.loop-more.invariant in (
-      λ e. let on = goes_on _ _ e in piece-listed (file-read g (goal.at.loop-more-preserved g c).In-loop-more) r.ensures on.0 (rw (not_last _ r.result.failed on.0) at (c.in_ok-listed.ensures.lists_on on.1)),
-      r.auto.buffer ∙ inv.1,
-      c.list_text.auto.out ∙ inv.2,
-    )
+pub loop-piece-preserved : goal.loop-piece-preserved
+loop-piece-preserved g c =
+    let piece = read g (goal.at.loop-piece-preserved g c).In_ok-piece in
+    piece-listed c.loop-piece.invariant piece (not-false _ c.if-last.false) (rw (c.in-Some.is, c.if-last.false) at c.in_ok-listed.ensures.lists_on)

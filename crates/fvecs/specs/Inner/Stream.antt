@@ -1,8 +1,9 @@
 -- An fvecs file that comes in pieces: what the program is to write for each.
-use Rattle.std.specs.Prelude.{ℕ, ◌+◌, ◌≡◌, Bool, true, false, cond, List, [], ◌∷◌, ◌++◌, length}
+use Rattle.std.specs.Prelude.{ℕ, ◌+◌, ◌≡◌, Bool, true, false, cond, List, [], ◌∷◌, ◌++◌, length, Option, Result}
 use Rattle.lines.specs.Printed.{numbered_replies}
 use Rattle.vecs.specs.Vecs.{vector_at}
-use Rattle.vecs.specs.declared.VecsAnswer.{VecsAnswer}
+use Rattle.vecs.specs.declared.Found.{Found}
+use Rattle.vector_types.specs.declared.Refusal.{Refusal}
 use Rattle.vecs_lines.specs.Inner.Cut.{vectors_of, size_of, rest_of, whole_reply, answer_at, ends_listing, told_line}
 use Rattle.fvecs.specs.declared.ListedText.{ListedText}
 
@@ -18,7 +19,7 @@ abbrev pub none_listed : FileProgress
 none_listed = record { place = 0; before = 0; rest = []; ended = false; output = [] }
 
 -- what stands after the vectors of a text, which starts at a place of the file
-abbrev pub after_vectors : ℕ → List ℕ → VecsAnswer
+abbrev pub after_vectors : ℕ → List ℕ → Result (Option Found) Refusal
 after_vectors place text = answer_at (place + size_of (vectors_of text)) (vector_at 4 (rest_of text) 0)
 
 -- a text is listed, which starts where the listing stands; `last` says that nothing follows it
