@@ -1,49 +1,64 @@
--- Laws of the replies that append: a buffer within the limit and over it, and the fields of a line.
-use mathlib.Core.Path.{◌≡◌, refl}
-use mathlib.Core.Bool.{Bool, true, false, cond}
-use mathlib.Core.List.{List}
-use Prim.Native.Nat.{ℕ, ◌*◌, ◌<◌, ◌≤◌}
-use native.Mathlib.Omega.{arith}
-use lib.Dec.{eqb, ltb}
-use lib.ListN.{length, take}
-use borrow.Author.Tests.{lt-ltb, le-ltb, eqb-true}
-use Rattle.byte_slices.specs.Bytes.{index_of}
-use Rattle.lines.specs.Text.{tab}
-use Rattle.lines.specs.Hex.{hex_bytes}
+-- Laws of the replies that append: the text of an outcome, and the reply by the fields of a line.
+use Rattle.std.proofs.Common.{◌≡◌, ◌∙◌, refl, Bool, true, false, cond, List, [], ◌∷◌, ℕ, ◌<◌, ◌≤◌, ltb, length, Option, Some, None}
+use Rattle.std.specs.Option.{option_map_or}
+use borrow.Author.Tests.{lt-ltb, le-ltb}
+use Rattle.lines.specs.Hex.{decoded_of}
 use Rattle.lines.specs.Decimal.{numeral_of}
 use Rattle.lines.specs.Parts.{fields_of}
-use Rattle.lines.specs.Fields.{exactly, malformed, from_hex}
-use Rattle.lines.specs.Printed.{limited}
-use Rattle.lines.specs.declared.hex.Parsed.{Parsed}
-use Rattle.lines.specs.declared.hex.Parsed.TheVariants.{Number, Nothing}
-use Rattle.lines.proofs.Fields.{after_field, cond-malformed, from-hex-malformed, from-hex-tab, fields-last-two}
+use Rattle.lines.specs.Fields.{exactly, malformed}
+use Rattle.lines.proofs.Fields.{exactly-first, exactly-one, exactly-last_bytes, from-hex-none, from-hex-some}
 use Rattle.vector_types.specs.Layout.{max_blob_length}
 use Rattle.vecs.specs.Append.{append_outcome}
-use Rattle.probe_append.specs.Appending.{outcome_text, buffer_reply, append_found_reply, append_reply}
+use Rattle.probe_append.specs.Appending.{outcome_text, append_fill_reply, append_reply}
 
--- ---- the limit of the buffer
-module _ (reply : List ℕ → List ℕ) where
-  pub over-limit : (field : List ℕ) → 2 * max_blob_length < length field → malformed ≡ from_hex (limited max_blob_length reply) field
-  unfolding from_hex
-  over-limit field over = by-test (eqb (2 * length (hex_bytes field)) (length field)) refl
+-- ---- fewer than three fields
+pub append-one : (rest : List ℕ) → fields_of rest ≡ rest ∷ [] → exactly 3 append_reply (fields_of rest) ≡ malformed
+append-one rest e = exactly-one 1 append_reply rest e
+
+pub append-two : (rest number more : List ℕ) → fields_of rest ≡ number ∷ fields_of more → fields_of more ≡ more ∷ [] → exactly 3 append_reply (fields_of rest) ≡ malformed
+append-two rest number more e f = exactly-first 2 append_reply rest number more e ∙ exactly-one 0 (append_reply number) more f
+
+-- ---- three: H is no bytes
+limited-malformed : (b : Bool) {x : List ℕ} → x ≡ malformed → cond b malformed x ≡ malformed
+limited-malformed true e = refl
+limited-malformed false e = e
+
+no_blob : (fill : ℕ) (first second : List ℕ) → decoded_of second ≡ None → append_fill_reply fill first second ≡ malformed
+no_blob fill first second none = by (decoded_of first) refl
+  where
+    by : (o : Option (List ℕ)) → decoded_of first ≡ o → append_fill_reply fill first second ≡ malformed
+    by None is = from-hex-none _ first is
+    by (Some buffer) is = from-hex-some _ first is ∙ limited-malformed (ltb max_blob_length (length buffer)) (from-hex-none _ second none)
+
+-- ---- N is a number or none, A is bytes or none, and at most as many as the longest blob
+module _ (rest number more first second : List ℕ) (e : fields_of rest ≡ number ∷ fields_of more) (f : fields_of more ≡ first ∷ fields_of second) where
+  append-numbered : (o : Option ℕ) → o ≡ numeral_of 10 number → exactly 3 append_reply (fields_of rest) ≡ option_map_or (λ fill. append_fill_reply fill first second) o malformed
+  unfolding append_reply
+  append-numbered o is =
+      exactly-first 2 append_reply rest number more e ∙ exactly-first 1 (append_reply number) more first second f
+      ∙ exactly-last_bytes (append_reply number first) second (λ none. by (numeral_of 10 number) none) ∙ rw is
     where
-      by-test : (b : Bool) → eqb (2 * length (hex_bytes field)) (length field) ≡ b → malformed ≡ cond b (limited max_blob_length reply (hex_bytes field)) malformed
-      by-test true e =
-          let all = eqb-true (2 * length (hex_bytes field)) (length field) e in
-          rw (lt-ltb max_blob_length (length (hex_bytes field)) (omega (arith, all, over)))
-      by-test false e = refl
+      by : (o : Option ℕ) → decoded_of second ≡ None → option_map_or (λ fill. append_fill_reply fill first second) o malformed ≡ malformed
+      by None none = refl
+      by (Some fill) none = no_blob fill first second none
 
-  pub within-limit : (s : List ℕ) → length s ≤ max_blob_length → reply s ≡ limited max_blob_length reply s
-  within-limit s within = rw (le-ltb max_blob_length (length s) within)
+  pub append-no_fill : None ≡ numeral_of 10 number → exactly 3 append_reply (fields_of rest) ≡ malformed
+  append-no_fill none = append-numbered None none
 
--- ---- H is the last field
-append-tab : (number : Parsed) (buffer s : List ℕ) → index_of tab s < length s → append_found_reply number buffer s ≡ malformed
-append-tab (Number fill) buffer s less =
-    from-hex-malformed (limited max_blob_length (buffer_reply fill s)) buffer
-    (rw (from-hex-tab (λ blob. outcome_text (append_outcome blob (hex_bytes buffer) fill)) s less) (cond-malformed (ltb max_blob_length (length (hex_bytes buffer)))))
-append-tab Nothing buffer s less = refl
+  module _ (fill : ℕ) (some : Some fill ≡ numeral_of 10 number) where
+    pub append-no_buffer : decoded_of first ≡ None → exactly 3 append_reply (fields_of rest) ≡ malformed
+    append-no_buffer none = append-numbered (Some fill) some ∙ from-hex-none _ first none
 
-pub append-fields : (fill s : List ℕ) (stop : ℕ) → stop ≡ index_of tab s → stop < length s
-    → append_reply fill (take stop s) (after_field stop s) ≡ exactly 2 (append_reply fill) (fields_of s)
-unfolding append_reply
-append-fields fill s stop e less = fields-last-two (append_reply fill) s stop e less (append-tab (numeral_of 10 fill) (take stop s))
+    pub append-no_blob : decoded_of second ≡ None → exactly 3 append_reply (fields_of rest) ≡ malformed
+    append-no_blob none = append-numbered (Some fill) some ∙ no_blob fill first second none
+
+    module _ (buffer : List ℕ) (bytes : decoded_of first ≡ Some buffer) where
+      pub append-over : max_blob_length < length buffer → exactly 3 append_reply (fields_of rest) ≡ malformed
+      append-over over = append-numbered (Some fill) some ∙ from-hex-some _ first bytes ∙ rw (lt-ltb max_blob_length (length buffer) over)
+
+      pub append-blob : length buffer ≤ max_blob_length → (blob : List ℕ) → decoded_of second ≡ Some blob
+          → exactly 3 append_reply (fields_of rest) ≡ outcome_text (append_outcome blob buffer fill)
+      append-blob within blob whole =
+          append-numbered (Some fill) some ∙ from-hex-some _ first bytes ∙ rw (le-ltb max_blob_length (length buffer) within) (from-hex-some _ second whole)
+
+pub ruleset fields = (append-one, append-two, append-no_fill, append-no_buffer, append-no_blob, append-over, append-blob)

@@ -1,10 +1,8 @@
--- The public contract determines its outcome, the answer and the lent bytes: stated over the contract's own reading, so it changes with the contract.
--- Left out are `decoded` and `made`: they are room to work in, and what is in them afterwards is not promised.
-use Prim.Native.Nat.{ℕ}
-use mathlib.Core.List.{List}
+-- The public contract determines its outcome, the bytes that were put: stated over the contract's own reading, so it changes with the contract.
+-- Left out is `rooms`: it is room to work in, and what is in it afterwards is not promised.
+use mathlib.Core.Path.{◌∙◌, sym}
 use Rattle.promises.specs.Determined.{Determined}
-use Rattle.promises.proofs.Puts.{puts-determined}
 use Rattle.probe_append.proofs.append_line.Reads as append-line
 
-pub append-line-determined : (κs : _) (a : _) → Determined {Y = ℕ × List ℕ} (append-line.Post κs a) (λ r x. (r, x.1.1.1.0.now))
-append-line-determined κs a r r' x x' p q = puts-determined p q
+pub append-line-determined : (g : _) (κs : _) (a : _) (v : _) → Determined (append-line.Post g κs a v) (λ r x. x.1.1.0.now)
+append-line-determined g κs a v r r' x x' p q = p.0 ∙ sym q.0

@@ -6,7 +6,10 @@ use Rattle.vector_types.specs.Layout.{max_blob_length, max_dims}
 abbrev pub reply_room : ℕ
 reply_room = 65 + 2 * max_blob_length
 
--- room for the elements that a conversion goes through, and for the longest blob
+-- room for the bytes that a line is decoded to, for the elements that a conversion goes through, and for the longest blob
+abbrev pub decoded_room : ℕ
+decoded_room = 550000
+
 abbrev pub scratch_room : ℕ
 scratch_room = 4 * max_dims
 

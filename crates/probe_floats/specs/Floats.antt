@@ -2,18 +2,17 @@
 --     root|W|F    narrow|F    widen|F    trunc|F
 -- where W is 32 or 64 and F is a float's pattern in lower-case hexadecimal, the highest digit first. The reply is F|, and the
 -- pattern of the result, or for trunc a number of two digits; it is X where W or F is none.
-use Rattle.std.specs.Prelude.{ℕ, cond, List, ◌++◌}
+use Rattle.std.specs.Prelude.{ℕ, List, [], ◌∷◌, ◌++◌, Option}
+use Rattle.std.specs.Option.{option_map_or}
 use Rattle.std.specs.Float.{binary32, binary64}
 use Rattle.std.specs.Float.Ieee.{of_bits, to_bits}
 use Rattle.io.specs.Digits.{last_digits}
 use Rattle.rounding.specs.Root.{root}
 use Rattle.rounding.specs.Narrow.{narrowed}
 use Rattle.rounding.specs.Truncate.{truncated}
-use Rattle.lines.specs.Text.{word, same}
+use Rattle.lines.specs.Text.{word}
 use Rattle.lines.specs.Hex.{pattern_of}
-use Rattle.lines.specs.Fields.{malformed}
-use Rattle.lines.specs.declared.hex.Parsed.{Parsed}
-use Rattle.lines.specs.declared.hex.Parsed.TheVariants.{Number, Nothing}
+use Rattle.lines.specs.Fields.{malformed, first_named}
 use Rattle.probe_floats.specs.declared.Work.{Work}
 use Rattle.probe_floats.specs.declared.Work.TheVariants.{Root32, Root64, Narrow, Widen, Trunc}
 
@@ -36,17 +35,16 @@ work_of Trunc = float_work 8 2 (λ n. truncated (of_bits binary32 n))
 abbrev pub float_text : ℕ → ℕ → List ℕ
 float_text width n = word "F\t" ++ last_digits 16 width n
 
--- the reply of a row to what was found for F
-abbrev pub float_found_text : FloatWork → Parsed → List ℕ
-float_found_text r (Number n) = float_text r.gives (r.result n)
-float_found_text r Nothing = malformed
-
+-- the reply to F by its pattern, if it is one
 unfoldable pub float_reply : Work → List ℕ → List ℕ
-float_reply work field = float_found_text (work_of work) (pattern_of (work_of work).takes field)
+float_reply work field =
+    let w = work_of work in
+    option_map_or (λ n. float_text w.gives (w.result n)) (pattern_of w.takes field) malformed
+
+-- the root that W names
+abbrev pub root_of : List ℕ → Option Work
+root_of width = first_named ((word "32", Root32) ∷ (word "64", Root64) ∷ []) width
 
 unfoldable pub root_reply : List ℕ → List ℕ → List ℕ
 unfolding float_reply
-root_reply width field =
-    cond (same width (word "32")) (float_reply Root32 field)
-    (cond (same width (word "64")) (float_reply Root64 field)
-    malformed)
+root_reply width field = option_map_or (λ work. float_reply work field) (root_of width) malformed

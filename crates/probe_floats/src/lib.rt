@@ -1,14 +1,14 @@
 // The lines about one float: root, narrow, widen, trunc.
 #![tactic(auto)]
 
-ghost use Rattle.std.specs.Prelude.{◌≡◌, ◌≤◌, ◌<◌, ◌^◌, length};
-ghost use Rattle.promises.specs.Puts.{Puts};
+ghost use Rattle.std.specs.Prelude.{◌≡◌, ◌+◌, ◌≤◌, ◌<◌, ◌^◌, ◌++◌, length};
 ghost use Rattle.lines.specs.Parts.{fields_of};
-ghost use Rattle.lines.specs.Fields.{exactly};
-ghost use Rattle.probe_floats.specs.Floats.{work_of, float_text, float_reply, root_reply};
+ghost use Rattle.lines.specs.Fields.{exactly, PutsUnlessMalformed};
+ghost use Rattle.probe_floats.specs.Floats.{work_of, float_text, float_reply, root_of, root_reply};
 
-use lines::hex::Parsed;
-use lines::text::put_malformed;
+use buffer::Buffer;
+use lines::hex::{pattern, put_hex};
+use lines::text::{put_malformed, split_field};
 
 // What is asked of a float's pattern.
 #[derive(Clone, Copy)]
@@ -78,51 +78,72 @@ fn result(work: Work, n: u64) -> u64
     }
 }
 
-// Puts F, a tab and n in `width` digits at the start of out, and answers their length.
-fn put_float(width: usize, n: u64, out: &mut [u8]) -> usize
+// Puts F, a tab and n in `width` digits.
+fn put_float<const N: usize>(width: usize, n: u64, out: &mut Buffer<N>)
     requires le_width { 1 ≤ width }
     requires width_bound { width ≤ 16 }
     requires n_bound { n < 16 ^ width }
-    requires in_bounds { 18 ≤ length out.old }
-    ensures { Puts (float_text width n) out.old result out.new }
+    requires room { length out.old + 18 ≤ N }
+    ensures puts { out.new ≡ out.old ++ float_text width n }
+    ensures size { length out.new ≤ length out.old + 18 }
 {
-    let head = byte_slices::copy(b"F\t", out);
-    let digits = lines::hex::put_hex(width, n, &mut out[head..]);
-    head + digits
+    out.extend_from_slice(b"F\t");
+    put_hex(width, n, out);
+}
+
+// Puts the reply to narrow|F, widen|F or trunc|F, of which the work is found and this is F.
+fn put_float_reply<const N: usize>(work: Work, field: &[u8], out: &mut Buffer<N>) -> Option<()>
+    requires { length out.old + 18 ≤ N }
+    ensures puts { PutsUnlessMalformed (float_reply work field.now) out.old result out.new }
+    ensures size { length out.new ≤ length out.old + 18 }
+{
+    let w = widths(work);
+    let n = pattern(w.takes, field)?;
+    let value = result(work, n);
+    put_float(w.gives, value, out);
+    Some(())
 }
 
 // The reply to narrow|F, widen|F or trunc|F, of which the work is found and this is F.
-pub fn float_line(work: Work, field: &[u8], out: &mut [u8]) -> usize
-    requires { 18 ≤ length out.old }
-    ensures { Puts (float_reply work field.now) out.old result out.new }
+pub fn float_line<const N: usize>(work: Work, field: &[u8], out: &mut Buffer<N>)
+    requires { length out.old + 18 ≤ N }
+    ensures puts { out.new ≡ out.old ++ float_reply work field.now }
+    ensures size { length out.new ≤ length out.old + 18 }
 {
-    let w = widths(work);
-    let found = lines::hex::pattern(w.takes, field);
-    match found {
-        Parsed::Number(n) => {
-            let value = result(work, n);
-            put_float(w.gives, value, out)
-        }
-        Parsed::Nothing => put_malformed(out),
+    if put_float_reply(work, field, out).is_none() {
+        put_malformed(out);
     }
 }
 
-// The reply to root|W|F, of which this is W|F.
-pub fn root_line(rest: &[u8], out: &mut [u8]) -> usize
-    requires { 18 ≤ length out.old }
-    ensures { Puts (exactly 2 root_reply (fields_of rest.now)) out.old result out.new }
+// The root that a width names.
+fn root_of(width: &[u8]) -> Option<Work>
+    ensures { result ≡ root_of width.now }
 {
-    let end = lines::text::field_end(rest);
-    if end == rest.len() {
-        return put_malformed(out);
+    match width {
+        b"32" => Some(Work::Root32),
+        b"64" => Some(Work::Root64),
+        _ => None,
     }
-    let width = &rest[..end];
-    let field = &rest[end + 1..];
-    if width == b"32".as_slice() {
-        return float_line(Work::Root32, field, out);
+}
+
+// Puts the reply to root|W|F, of which this is W|F.
+fn put_root_reply<const N: usize>(rest: &[u8], out: &mut Buffer<N>) -> Option<()>
+    requires { length out.old + 18 ≤ N }
+    ensures puts { PutsUnlessMalformed (exactly 2 root_reply (fields_of rest.now)) out.old result out.new }
+    ensures size { length out.new ≤ length out.old + 18 }
+{
+    let (width, field) = split_field(rest)?;
+    let work = root_of(width)?;
+    put_float_reply(work, field, out)
+}
+
+// The reply to root|W|F, of which this is W|F.
+pub fn root_line<const N: usize>(rest: &[u8], out: &mut Buffer<N>)
+    requires { length out.old + 18 ≤ N }
+    ensures puts { out.new ≡ out.old ++ exactly 2 root_reply (fields_of rest.now) }
+    ensures size { length out.new ≤ length out.old + 18 }
+{
+    if put_root_reply(rest, out).is_none() {
+        put_malformed(out);
     }
-    if width == b"64".as_slice() {
-        return float_line(Work::Root64, field, out);
-    }
-    put_malformed(out)
 }

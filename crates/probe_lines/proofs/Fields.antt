@@ -1,37 +1,34 @@
 -- Laws of the reply to a line by its fields.
-use mathlib.Core.Path.{◌≡◌, refl}
-use mathlib.Core.List.{List, []}
-use Prim.Native.Nat.{ℕ, ◌<◌}
-use lib.ListN.{length, take}
-use Rattle.byte_slices.specs.Bytes.{index_of}
-use Rattle.promises.proofs.Onto.{tail-lent}
-use Rattle.lines.specs.Text.{tab}
+use Rattle.std.proofs.Common.{◌≡◌, refl, sym, ◌∙◌, ap, List, [], ◌∷◌, ℕ, Option, Some, None}
 use Rattle.lines.specs.Parts.{fields_of}
 use Rattle.lines.specs.Fields.{malformed, exactly}
-use Rattle.lines.proofs.Fields.{after_field}
-use Rattle.lines.proofs.Parting.{parts_at, parts_last}
+use Rattle.std.specs.Option.{option_map_or}
 use Rattle.probe_verbs.specs.Verbs.{verb_of}
 use Rattle.probe_verbs.specs.declared.Verb.{Verb}
-use Rattle.probe_verbs.specs.declared.Verb.TheVariants.{Root, Float, Read, Write, Convert, Near, File, Append, Other}
+use Rattle.probe_verbs.specs.declared.Verb.TheVariants.{Root, Float, Read, Write, Convert, Near, File, Append}
 use Rattle.probe_lines.specs.Line.{verb_reply, fields_reply, vecprobe_reply}
 
--- a line that is its first field alone, and one that has more
-pub reply-few : (line : List ℕ) → index_of tab line ≡ length line → vecprobe_reply line ≡ malformed
+-- a line of one field
+pub reply-one : (line : List ℕ) → fields_of line ≡ line ∷ [] → vecprobe_reply line ≡ malformed
 unfolding vecprobe_reply fields_reply verb_reply exactly
-reply-few line all = rw (parts_last tab line all) (go (verb_of line))
+reply-one line e = rw e (by (verb_of line))
   where
-    go : (v : Verb) → verb_reply v [] ≡ malformed
-    go Root = refl
-    go (Float w) = refl
-    go (Read r) = refl
-    go Write = refl
-    go Convert = refl
-    go Near = refl
-    go (File k) = refl
-    go Append = refl
-    go Other = refl
+    none : (verb : Verb) → verb_reply verb [] ≡ malformed
+    none Root = refl
+    none (Float work) = refl
+    none (Read mode) = refl
+    none Write = refl
+    none Convert = refl
+    none Near = refl
+    none (File kind) = refl
+    none Append = refl
 
-pub reply-fields : (line : List ℕ) (end : ℕ) → end ≡ index_of tab line → end < length line
-    → verb_reply (verb_of (take end line)) (fields_of (after_field end line)) ≡ vecprobe_reply line
+    by : (o : Option Verb) → option_map_or (λ verb. verb_reply verb []) o malformed ≡ malformed
+    by None = refl
+    by (Some verb) = none verb
+
+-- a line of more, of which the first is a verb, or none
+pub reply-asked : (line word rest : List ℕ) {o : Option Verb} → fields_of line ≡ word ∷ fields_of rest → o ≡ verb_of word
+    → vecprobe_reply line ≡ option_map_or (λ verb. verb_reply verb (fields_of rest)) o malformed
 unfolding vecprobe_reply fields_reply
-reply-fields line end e less = rw (tail-lent, parts_at tab line end e less)
+reply-asked line word rest e is = rw (e, is) refl

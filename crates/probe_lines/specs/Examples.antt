@@ -17,8 +17,7 @@ use Rattle.distance_sums.specs.Dense.{squares_with}
 use Rattle.nearer.specs.Nearer.{nearer_of}
 use Rattle.vecs.specs.Vecs.{vector_at, elements_at}
 use Rattle.vecs.specs.Append.{append_outcome}
-use Rattle.lines.specs.Text.{same}
-use Rattle.lines.specs.Hex.{digit_of, number_from, pattern_of, hex_pair, hex_bytes, hex_of}
+use Rattle.lines.specs.Hex.{digit_of, number_from, pattern_of, hex_pair, hex_bytes, decoded_of, hex_of}
 use Rattle.lines.specs.Decimal.{decimal_of, numeral_of}
 use Rattle.lines.specs.Parts.{parts_of}
 use Rattle.lines.specs.Examples.{Example, example, RepliesAs}
@@ -143,7 +142,7 @@ appended =
 pub examples-hold :
     RepliesAs vecprobe_reply floats × RepliesAs vecprobe_reply blobs × RepliesAs vecprobe_reply conversions × RepliesAs vecprobe_reply nearest
     × RepliesAs vecprobe_reply files × RepliesAs vecprobe_reply appended
-unfolding parts_of same vecprobe_reply detail_text decimal_of numeral_of pattern_of number_from digit_of hex_pair hex_bytes hex_of
+unfolding parts_of vecprobe_reply detail_text decimal_of numeral_of pattern_of number_from digit_of hex_pair hex_bytes decoded_of hex_of
     root narrowed truncated to_bits read_of write_of first_from body_of
     conversion_of bytes_of number_at put nearer_of vector_at elements_at append_outcome spread running total merged squares_with of_bits of_int add sub mul div neg eq lt le is_nan
 examples-hold = (refl, refl, refl, refl, refl, refl)

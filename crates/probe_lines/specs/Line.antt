@@ -6,6 +6,7 @@
 -- that write a blob, `Near` those about a probe and two candidates, `Files` those about a file of vectors, and `Appending` those that
 -- append to one. The reply to any other line is X.
 use Rattle.std.specs.Prelude.{ℕ, List, [], ◌∷◌}
+use Rattle.std.specs.Option.{option_map_or}
 use Rattle.lines.specs.Parts.{fields_of}
 use Rattle.lines.specs.Fields.{malformed, exactly}
 use Rattle.probe_floats.specs.Floats.{float_reply, root_reply}
@@ -16,7 +17,7 @@ use Rattle.probe_vecs.specs.Files.{file_reply}
 use Rattle.probe_append.specs.Appending.{append_reply}
 use Rattle.probe_verbs.specs.Verbs.{verb_of}
 use Rattle.probe_verbs.specs.declared.Verb.{Verb}
-use Rattle.probe_verbs.specs.declared.Verb.TheVariants.{Root, Float, Read, Write, Convert, Near, File, Append, Other}
+use Rattle.probe_verbs.specs.declared.Verb.TheVariants.{Root, Float, Read, Write, Convert, Near, File, Append}
 
 -- the reply to the other fields
 unfoldable pub verb_reply : Verb → List (List ℕ) → List ℕ
@@ -29,12 +30,11 @@ verb_reply Convert fields = exactly 2 convert_reply fields
 verb_reply Near fields = exactly 4 near_reply fields
 verb_reply (File kind) fields = exactly 2 (file_reply kind) fields
 verb_reply Append fields = exactly 3 append_reply fields
-verb_reply Other fields = malformed
 
 unfoldable pub fields_reply : List (List ℕ) → List ℕ
 unfolding verb_of verb_reply
 fields_reply [] = malformed
-fields_reply (first ∷ fields) = verb_reply (verb_of first) fields
+fields_reply (first ∷ fields) = option_map_or (λ verb. verb_reply verb fields) (verb_of first) malformed
 
 unfoldable pub vecprobe_reply : List ℕ → List ℕ
 unfolding fields_reply

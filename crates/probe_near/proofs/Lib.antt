@@ -1,2 +1,3 @@
--- Laws of the replies about candidates
+-- Laws of the replies
+pub mod Replies
 pub mod Determined

@@ -1,2 +1,1 @@
 pub mod Near
-pub mod Inner

@@ -1,145 +1,85 @@
 // The lines about a probe and two candidates: near.
 #![tactic(auto)]
 
-ghost use Rattle.std.specs.Prelude.{◌≡◌, ◌+◌, ◌*◌, ◌≤◌, length, take};
-ghost use Rattle.promises.specs.Puts.{Puts};
+ghost use Rattle.std.specs.Prelude.{◌≡◌, ◌+◌, ◌*◌, ◌≤◌, ◌++◌, length};
 ghost use Rattle.lines.specs.Parts.{fields_of};
-ghost use Rattle.lines.specs.Fields.{exactly};
+ghost use Rattle.lines.specs.Fields.{exactly, PutsUnlessMalformed};
 ghost use Rattle.vecdist_lines.specs.Limits.{vecdist_room};
-ghost use Rattle.probe_near.specs.Near.{near_text, nearer_text, candidates_text, near_found_reply, near_reply};
-ghost use Rattle.probe_near.specs.Inner.Parts.{parts_text};
+ghost use Rattle.probe_near.specs.Near.{near_text, nearer_text, near_reply};
 
-use distance::Distance;
-use lines::text::put_malformed;
-use nearer::{Among, Candidate, Near, NearerAnswer};
+use buffer::Buffer;
+use distance::Refused;
+use lines::hex::decode;
+use lines::text::{put_malformed, split_field};
+use nearer::{Among, Candidate, Near, nearer};
 use reply_texts::put_field;
-use vecdist_lines::{Asked, asked_of, put_named_refusal, put_value};
+use vecdist_lines::{asked_of, put_named_refusal, put_value};
 
-// Puts a mark, a candidate's distance and its readings at the start of out.
-fn put_near(mark: &[u8], found: Near, out: &mut [u8]) -> usize
-    requires mark_len { length mark.now ≡ 4 }
-    requires vecdist_room_in_bounds { vecdist_room ≤ length out.old }
-    ensures { Puts (near_text mark.now found) out.old result out.new }
+// Puts a mark, a candidate's distance and its readings.
+fn put_near<const N: usize>(mark: &[u8], found: Near, out: &mut Buffer<N>)
+    requires { length out.old + length mark.now + 37 ≤ N }
+    ensures puts { out.new ≡ out.old ++ near_text mark.now found }
+    ensures size { length out.new ≤ length out.old + length mark.now + 37 }
 {
-    let value = put_value(mark, found.distance, out);
-    let further = put_field(found.readings.0 as u64, &mut out[value..]);
-    value + further
+    put_value(mark, found.distance, out);
+    put_field(found.readings.0 as u64, out);
 }
 
-// Puts which candidate is nearer, its distance and its readings, or a refusal, at the start of out.
-fn put_nearer(answer: NearerAnswer, out: &mut [u8]) -> usize
-    requires { vecdist_room ≤ length out.old }
-    ensures { Puts (nearer_text answer) out.old result out.new }
+// Puts which candidate is nearer, its distance and its readings, or a refusal.
+#[tactic(auto, unfolding(crate::specs::Near::nearer_text))]
+fn put_nearer<const N: usize>(answer: Result<Near, Refused<Among>>, out: &mut Buffer<N>)
+    requires { length out.old + vecdist_room ≤ N }
+    ensures puts { out.new ≡ out.old ++ nearer_text answer }
+    ensures size { length out.new ≤ length out.old + vecdist_room }
 {
     match answer {
-        NearerAnswer::Nearer(found) => {
-            let candidate = found.candidate;
-            match candidate {
-                Candidate::First => put_near(b"N\t1\t", found, out),
-                Candidate::Second => put_near(b"N\t2\t", found, out),
-            }
+        Ok(found) => {
+            let mark = match found.candidate {
+                Candidate::First => b"N\t1\t",
+                Candidate::Second => b"N\t2\t",
+            };
+            put_near(mark, found, out)
         }
-        NearerAnswer::Refused(refusal, among) => match among {
-            Among::Probe => put_named_refusal(refusal, b"p", out),
-            Among::First => put_named_refusal(refusal, b"a", out),
-            Among::Second => put_named_refusal(refusal, b"b", out),
-            Among::Neither => put_named_refusal(refusal, b"-", out),
-        },
+        Err(refused) => {
+            let name = match refused.blob {
+                Some(Among::Probe) => b"p",
+                Some(Among::First) => b"a",
+                Some(Among::Second) => b"b",
+                None => b"-",
+            };
+            put_named_refusal(refused.refusal, name, out)
+        }
     }
 }
 
-// Puts which candidate is nearer, or a refusal, at the start of out. The probe is the first `probe` of
-// these bytes, the first candidate those up to `pair`, and the second one the rest.
-fn put_blobs(distance: Distance, probe: usize, pair: usize, blobs: &[u8], out: &mut [u8]) -> usize
-    requires probe_le_pair { probe ≤ pair }
-    requires pair_in_bounds { pair ≤ length blobs.now }
-    requires vecdist_room_in_bounds { vecdist_room ≤ length out.old }
-    ensures { Puts (parts_text distance probe pair blobs.now) out.old result out.new }
+// Puts the reply to near|D|P|A|B, of which this is D|P|A|B; the blobs are decoded one after the other.
+fn put_reply<const N: usize>(rest: &[u8], decoded: &mut [u8], out: &mut Buffer<N>) -> Option<()>
+    requires rest_len_bound { length rest.now ≤ 2 * length decoded.old }
+    requires room { length out.old + vecdist_room ≤ N }
+    ensures puts { PutsUnlessMalformed (exactly 4 near_reply (fields_of rest.now)) out.old result out.new }
+    ensures size { length out.new ≤ length out.old + vecdist_room }
 {
-    let both = &blobs[..pair];
-    put_nearer(
-        nearer::nearer(distance, &both[..probe], &both[probe..], &blobs[pair..]),
-        out,
-    )
-}
-
-// The reply to near|D|P|A|B, of which D is found, P is the first `probe` bytes of `decoded`, and these
-// are A and B: they are decoded after those bytes, one after the other.
-fn near_candidates(
-    distance: Distance,
-    probe: usize,
-    first: &[u8],
-    second: &[u8],
-    decoded: &mut [u8],
-    out: &mut [u8],
-) -> usize
-    requires second_bound { 2 * probe + (length first.now + length second.now) ≤ 2 * length decoded.old }
-    requires vecdist_room_in_bounds { vecdist_room ≤ length out.old }
-    ensures { Puts (candidates_text distance (take probe decoded.old) first.now second.now) out.old result out.new }
-{
-    let m = lines::hex::bytes(first, &mut decoded[probe..]);
-    if 2 * m != first.len() {
-        return put_malformed(out);
-    }
-    let pair = probe + m;
-    let n = lines::hex::bytes(second, &mut decoded[pair..]);
-    if 2 * n != second.len() {
-        return put_malformed(out);
-    }
-    put_blobs(distance, probe, pair, &decoded[..pair + n], out)
-}
-
-// The reply to near|D|P|A|B, of which D is found and these are P, A and B: they are decoded into
-// `decoded`.
-fn near_found(
-    asked: Asked,
-    probe: &[u8],
-    first: &[u8],
-    second: &[u8],
-    decoded: &mut [u8],
-    out: &mut [u8],
-) -> usize
-    requires second_len_bound { length probe.now + (length first.now + length second.now) ≤ 2 * length decoded.old }
-    requires vecdist_room_in_bounds { vecdist_room ≤ length out.old }
-    ensures { Puts (near_found_reply asked probe.now first.now second.now) out.old result out.new }
-{
-    let Asked::Known(distance) = asked else {
-        return put_malformed(out);
-    };
-    let count = lines::hex::bytes(probe, decoded);
-    if 2 * count != probe.len() {
-        return put_malformed(out);
-    }
-    near_candidates(distance, count, first, second, decoded, out)
+    let (field, blobs) = split_field(rest)?;
+    let (probe, candidates) = split_field(blobs)?;
+    let (first, second) = split_field(candidates)?;
+    let distance = asked_of(field)?;
+    let (front, back) = decoded.split_at_mut(probe.len() / 2);
+    let (middle, end) = back.split_at_mut(first.len() / 2);
+    let p = decode(probe, front)?;
+    let a = decode(first, middle)?;
+    let b = decode(second, end)?;
+    put_nearer(nearer(distance, p, a, b), out);
+    Some(())
 }
 
 // The reply to near|D|P|A|B, of which this is D|P|A|B.
-pub fn near_line(rest: &[u8], decoded: &mut [u8], out: &mut [u8]) -> usize
+pub fn near_line<const N: usize>(rest: &[u8], decoded: &mut [u8], out: &mut Buffer<N>)
     requires rest_len_bound { length rest.now ≤ 2 * length decoded.old }
-    requires vecdist_room_in_bounds { vecdist_room ≤ length out.old }
-    ensures { Puts (exactly 4 near_reply (fields_of rest.now)) out.old result out.new }
+    requires room { length out.old + vecdist_room ≤ N }
+    ensures puts { out.new ≡ out.old ++ exactly 4 near_reply (fields_of rest.now) }
+    ensures size { length out.new ≤ length out.old + vecdist_room }
 {
-    let end = lines::text::field_end(rest);
-    if end == rest.len() {
-        return put_malformed(out);
+    if put_reply(rest, decoded, out).is_none() {
+        put_malformed(out);
     }
-    let asked = asked_of(&rest[..end]);
-    let blobs = &rest[end + 1..];
-    let stop = lines::text::field_end(blobs);
-    if stop == blobs.len() {
-        return put_malformed(out);
-    }
-    let candidates = &blobs[stop + 1..];
-    let middle = lines::text::field_end(candidates);
-    if middle == candidates.len() {
-        return put_malformed(out);
-    }
-    near_found(
-        asked,
-        &blobs[..stop],
-        &candidates[..middle],
-        &candidates[middle + 1..],
-        decoded,
-        out,
-    )
 }

@@ -4,24 +4,23 @@
 --     I|N|N|H    E    R|9    R|19|N
 -- where I has the next place, the dims and the elements as a Float32Dense body, E is the end of the file, and 19 has the place where the
 -- vector starts; or X where a field is none of these.
-use Rattle.std.specs.Prelude.{ℕ, List}
+use Rattle.std.specs.Prelude.{ℕ, List, Option, Some, None, Result, Ok, Err}
+use Rattle.std.specs.Option.{option_map_or}
 use Rattle.lines.specs.Text.{word}
 use Rattle.lines.specs.Fields.{malformed, from_hex}
 use Rattle.lines.specs.Decimal.{numeral_of}
-use Rattle.lines.specs.declared.hex.Parsed.{Parsed}
-use Rattle.lines.specs.declared.hex.Parsed.TheVariants.{Number, Nothing}
+use Rattle.vector_types.specs.declared.Refusal.{Refusal}
 use Rattle.vecs.specs.Vecs.{vector_at, elements_at, byte_floats}
-use Rattle.vecs.specs.declared.VecsAnswer.{VecsAnswer}
-use Rattle.vecs.specs.declared.VecsAnswer.TheVariants.{Vector, End, Refused}
+use Rattle.vecs.specs.declared.Found.{Found}
 use Rattle.reply_texts.specs.Texts.{refusal_text, shown_text}
 use Rattle.probe_vecs.specs.declared.FileKind.{FileKind}
 use Rattle.probe_vecs.specs.declared.FileKind.TheVariants.{Fvecs, Bvecs}
 
 -- the answer about a place, where a vector's elements are this body
-unfoldable pub vecs_text : VecsAnswer → List ℕ → List ℕ
-vecs_text (Vector v) body = shown_text (word "I\t") v.next v.dims.0 body
-vecs_text End body = word "E"
-vecs_text (Refused r) body = refusal_text r
+unfoldable pub vecs_text : Result (Option Found) Refusal → List ℕ → List ℕ
+vecs_text (Ok (Some v)) body = shown_text (word "I\t") v.next v.dims.0 body
+vecs_text (Ok None) body = word "E"
+vecs_text (Err r) body = refusal_text r
 
 -- of a file: the elements of fvecs as they are, those of bvecs as f32, for which there is always room
 unfoldable pub file_text : FileKind → ℕ → List ℕ → List ℕ
@@ -29,11 +28,6 @@ unfolding vecs_text vector_at elements_at
 file_text Fvecs place file = vecs_text (vector_at 4 file place) (elements_at 4 file place)
 file_text Bvecs place file = vecs_text (vector_at 1 file place) (byte_floats (elements_at 1 file place))
 
--- where N is a number
-abbrev pub file_found_reply : FileKind → Parsed → List ℕ → List ℕ
-file_found_reply kind (Number place) field = from_hex (file_text kind place) field
-file_found_reply kind Nothing field = malformed
-
 unfoldable pub file_reply : FileKind → List ℕ → List ℕ → List ℕ
 unfolding file_text from_hex
-file_reply kind place field = file_found_reply kind (numeral_of 10 place) field
+file_reply kind place field = option_map_or (λ n. from_hex (file_text kind n) field) (numeral_of 10 place) malformed

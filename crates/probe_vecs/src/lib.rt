@@ -1,20 +1,22 @@
 // The lines about a file of vectors: fvecs, bvecs.
 #![tactic(auto)]
 
-ghost use Rattle.std.specs.Prelude.{◌≡◌, ◌*◌, ◌≤◌, length};
-ghost use Rattle.promises.specs.Puts.{Puts};
+ghost use Rattle.std.specs.Prelude.{◌≡◌, ◌+◌, ◌*◌, ◌≤◌, ◌++◌, length};
 ghost use Rattle.lines.specs.Parts.{fields_of};
-ghost use Rattle.lines.specs.Fields.{exactly};
+ghost use Rattle.lines.specs.Fields.{exactly, PutsUnlessMalformed};
 ghost use Rattle.vector_types.specs.Layout.{max_dims};
-ghost use Rattle.probe_blobs.specs.Limits.{reply_room, scratch_room};
-ghost use Rattle.probe_vecs.specs.Files.{vecs_text, file_text, file_found_reply, file_reply};
+ghost use Rattle.probe_blobs.specs.Limits.{reply_room, decoded_room};
+ghost use Rattle.probe_vecs.specs.Files.{vecs_text, file_text, file_reply};
 ghost use Rattle.probe_vecs.specs.Inner.Floats.{floats_length};
 ghost use Rattle.probe_vecs.specs.declared.FileKind.TheVariants.{Fvecs, Bvecs};
 
-use lines::hex::Parsed;
-use lines::text::put_malformed;
+use buffer::Buffer;
+use lines::hex::decode;
+use lines::text::{numeral, put_malformed, split_field};
+use probe_blobs::{SCRATCH, WorkRooms};
 use reply_texts::{put_refusal, put_shown};
-use vecs::VecsAnswer;
+use vecs::Found;
+use vector_types::Refusal;
 
 // Which of the two formats a file has.
 #[derive(Clone, Copy)]
@@ -23,110 +25,100 @@ pub enum FileKind {
     Bvecs,
 }
 
-// Puts what stands at a place of a file at the start of out: a vector, of which these are the elements,
-// the end, or a refusal.
-fn put_answer(answer: VecsAnswer, body: &[u8], out: &mut [u8]) -> usize
+// Puts what stands at a place of a file: a vector, of which these are the elements, the end, or a refusal.
+#[tactic(auto, unfolding(crate::specs::Files::vecs_text))]
+fn put_answer<const N: usize>(
+    answer: Result<Option<Found>, Refusal>,
+    body: &[u8],
+    out: &mut Buffer<N>,
+)
     requires body_len_bound { length body.now ≤ 4 * max_dims }
-    requires reply_room_in_bounds { reply_room ≤ length out.old }
-    ensures { Puts (vecs_text answer body.now) out.old result out.new }
+    requires room { length out.old + reply_room ≤ N }
+    ensures puts { out.new ≡ out.old ++ vecs_text answer body.now }
+    ensures size { length out.new ≤ length out.old + reply_room }
 {
     match answer {
-        VecsAnswer::Vector(found) => {
-            let next = found.next;
-            let dims = found.dims;
-            put_shown(b"I\t", next as u64, dims.0 as u64, body, out)
-        }
-        VecsAnswer::End => byte_slices::copy(b"E", out),
-        VecsAnswer::Refused(refusal) => put_refusal(refusal, out),
+        Ok(Some(found)) => put_shown(b"I\t", found.next as u64, found.dims.0 as u64, body, out),
+        Ok(None) => out.push(b'E'),
+        Err(refusal) => put_refusal(refusal, out),
     }
 }
 
 // Puts what stands at a place of an fvecs file.
-fn put_fvecs(place: usize, file: &[u8], out: &mut [u8]) -> usize
-    requires { reply_room ≤ length out.old }
-    ensures { Puts (file_text Fvecs place file.now) out.old result out.new }
+#[tactic(auto, unfolding(crate::specs::Files::file_text), using(crate::proofs::FileTexts::elements_few))]
+fn put_fvecs<const N: usize>(place: usize, file: &[u8], out: &mut Buffer<N>)
+    requires { length out.old + reply_room ≤ N }
+    ensures puts { out.new ≡ out.old ++ file_text Fvecs place file.now }
+    ensures size { length out.new ≤ length out.old + reply_room }
 {
     let answer = vecs::fvecs_at(file, place);
-    put_answer(answer, vecs::fvecs_part(file, place), out)
+    put_answer(answer, vecs::fvecs_part(file, place), out);
 }
 
 // How many bytes the elements of a bvecs file have as f32; none where there is no vector.
-fn floats_length(answer: VecsAnswer) -> usize
+fn floats_length(answer: Result<Option<Found>, Refusal>) -> usize
     requires { floats_length answer ≤ 4 * max_dims }
-    ensures { result ≡ floats_length answer }
+    ensures value { result ≡ floats_length answer }
+    ensures upper_bound { result ≤ 4 * max_dims }
 {
     match answer {
-        VecsAnswer::Vector(found) => 4 * found.dims.0,
-        VecsAnswer::End => 0,
-        VecsAnswer::Refused(_) => 0,
+        Ok(Some(found)) => 4 * found.dims.0,
+        _ => 0,
     }
 }
 
 // Puts what stands at a place of a bvecs file, whose elements are put as f32 into `scratch`.
-fn put_bvecs(place: usize, file: &[u8], scratch: &mut [u8], out: &mut [u8]) -> usize
-    requires scratch_len { length scratch.old ≡ scratch_room }
-    requires reply_room_in_bounds { reply_room ≤ length out.old }
-    ensures { Puts (file_text Bvecs place file.now) out.old result out.new }
+fn put_bvecs<const N: usize>(
+    place: usize,
+    file: &[u8],
+    scratch: &mut [u8; SCRATCH],
+    out: &mut Buffer<N>,
+)
+    requires { length out.old + reply_room ≤ N }
+    ensures puts { out.new ≡ out.old ++ file_text Bvecs place file.now }
+    ensures size { length out.new ≤ length out.old + reply_room }
 {
     let answer = vecs::bvecs_at(file, place, scratch);
-    let length = floats_length(answer);
-    put_answer(answer, &scratch[..length], out)
+    let floats = &scratch[..floats_length(answer)];
+    put_answer(answer, floats, out);
 }
 
-// Puts what stands at a place of a file of a format.
-fn put_file(kind: FileKind, place: usize, file: &[u8], scratch: &mut [u8], out: &mut [u8]) -> usize
-    requires scratch_len { length scratch.old ≡ scratch_room }
-    requires reply_room_in_bounds { reply_room ≤ length out.old }
-    ensures { Puts (file_text kind place file.now) out.old result out.new }
+// Puts the reply to fvecs|N|H or bvecs|N|H, of which this is N|H.
+#[tactic(auto, using(crate::proofs::FileTexts::fields))]
+fn put_file_reply<const N: usize>(
+    kind: FileKind,
+    rest: &[u8],
+    rooms: &mut WorkRooms,
+    out: &mut Buffer<N>,
+) -> Option<()>
+    requires rest_len_bound { length rest.now ≤ 2 * decoded_room }
+    requires room { length out.old + reply_room ≤ N }
+    ensures puts { PutsUnlessMalformed (exactly 2 (file_reply kind) (fields_of rest.now)) out.old result out.new }
+    ensures size { length out.new ≤ length out.old + reply_room }
 {
+    let (number, field) = split_field(rest)?;
+    let place = numeral(10, number)? as usize;
+    let file = decode(field, &mut rooms.decoded)?;
     match kind {
         FileKind::Fvecs => put_fvecs(place, file, out),
-        FileKind::Bvecs => put_bvecs(place, file, scratch, out),
+        FileKind::Bvecs => put_bvecs(place, file, &mut rooms.scratch, out),
     }
-}
-
-// The reply to fvecs|N|H or bvecs|N|H, of which N is found and this is H.
-fn file_found(
-    kind: FileKind,
-    number: Parsed,
-    field: &[u8],
-    decoded: &mut [u8],
-    scratch: &mut [u8],
-    out: &mut [u8],
-) -> usize
-    requires field_len_bound { length field.now ≤ 2 * length decoded.old }
-    requires scratch_len { length scratch.old ≡ scratch_room }
-    requires reply_room_in_bounds { reply_room ≤ length out.old }
-    ensures { Puts (file_found_reply kind number field.now) out.old result out.new }
-{
-    let Parsed::Number(place) = number else {
-        return put_malformed(out);
-    };
-    let count = lines::hex::bytes(field, decoded);
-    if 2 * count != field.len() {
-        return put_malformed(out);
-    }
-    put_file(kind, place as usize, &decoded[..count], scratch, out)
+    Some(())
 }
 
 // The reply to fvecs|N|H or bvecs|N|H, of which this is N|H.
-pub fn file_line(
+pub fn file_line<const N: usize>(
     kind: FileKind,
     rest: &[u8],
-    decoded: &mut [u8],
-    scratch: &mut [u8],
-    out: &mut [u8],
-) -> usize
-    requires rest_len_bound { length rest.now ≤ 2 * length decoded.old }
-    requires scratch_len { length scratch.old ≡ scratch_room }
-    requires reply_room_in_bounds { reply_room ≤ length out.old }
-    ensures { Puts (exactly 2 (file_reply kind) (fields_of rest.now)) out.old result out.new }
+    rooms: &mut WorkRooms,
+    out: &mut Buffer<N>,
+)
+    requires rest_len_bound { length rest.now ≤ 2 * decoded_room }
+    requires room { length out.old + reply_room ≤ N }
+    ensures puts { out.new ≡ out.old ++ exactly 2 (file_reply kind) (fields_of rest.now) }
+    ensures size { length out.new ≤ length out.old + reply_room }
 {
-    let end = lines::text::field_end(rest);
-    if end == rest.len() {
-        return put_malformed(out);
+    if put_file_reply(kind, rest, rooms, out).is_none() {
+        put_malformed(out);
     }
-    let number = lines::text::numeral(10, &rest[..end]);
-    let field = &rest[end + 1..];
-    file_found(kind, number, field, decoded, scratch, out)
 }

@@ -1,2 +1,3 @@
--- That the contract determines its answer
+-- Laws of long words, and that the contract determines its answer
+pub mod Letters
 pub mod Determined

@@ -4,7 +4,6 @@
 ghost use Rattle.std.specs.Prelude.{◌≡◌};
 ghost use Rattle.probe_verbs.specs.Verbs.{verb_of};
 
-use lines::text::word_place;
 use probe_floats::Work;
 use probe_vecs::FileKind;
 use vector_types::Mode;
@@ -20,28 +19,26 @@ pub enum Verb {
     Near,
     File(FileKind),
     Append,
-    Other,
 }
 
 // What a word asks for.
-pub fn verb_of(word: &[u8]) -> Verb
+#[tactic(auto, unfolding(crate::specs::Verbs::verb_of), using(crate::proofs::Letters::letters))]
+pub fn verb_of(word: &[u8]) -> Option<Verb>
     ensures { result ≡ verb_of word.now }
 {
-    let words =
-        b"root\tnarrow\twiden\ttrunc\tread\tstrict\twrite\tconv\tnear\tfvecs\tbvecs\tappend";
-    match word_place(words, word) {
-        0 => Verb::Root,
-        1 => Verb::Float(Work::Narrow),
-        2 => Verb::Float(Work::Widen),
-        3 => Verb::Float(Work::Trunc),
-        4 => Verb::Read(Mode::Plain),
-        5 => Verb::Read(Mode::Strict),
-        6 => Verb::Write,
-        7 => Verb::Convert,
-        8 => Verb::Near,
-        9 => Verb::File(FileKind::Fvecs),
-        10 => Verb::File(FileKind::Bvecs),
-        11 => Verb::Append,
-        _ => Verb::Other,
+    match word {
+        b"root" => Some(Verb::Root),
+        b"narrow" => Some(Verb::Float(Work::Narrow)),
+        b"widen" => Some(Verb::Float(Work::Widen)),
+        b"trunc" => Some(Verb::Float(Work::Trunc)),
+        b"read" => Some(Verb::Read(Mode::Plain)),
+        b"strict" => Some(Verb::Read(Mode::Strict)),
+        b"write" => Some(Verb::Write),
+        b"conv" => Some(Verb::Convert),
+        b"near" => Some(Verb::Near),
+        b"fvecs" => Some(Verb::File(FileKind::Fvecs)),
+        b"bvecs" => Some(Verb::File(FileKind::Bvecs)),
+        b"append" => Some(Verb::Append),
+        _ => None,
     }
 }

@@ -1,10 +1,8 @@
--- The public contract determines its outcome, the answer and the lent bytes: stated over the contract's own reading, so it changes with the contract.
--- Left out are `decoded` and `made`: they are room to work in, and what is in them afterwards is not promised.
-use Prim.Native.Nat.{ℕ}
-use mathlib.Core.List.{List}
+-- The public contract determines its outcome, the bytes that were put: stated over the contract's own reading, so it changes with the contract.
+-- Left out is `rooms`: it is room to work in, and what is in it afterwards is not promised.
+use mathlib.Core.Path.{◌∙◌, sym}
 use Rattle.promises.specs.Determined.{Determined}
-use Rattle.promises.proofs.Puts.{puts-determined}
 use Rattle.probe_write.proofs.write_line.Reads as write-line
 
-pub write-line-determined : (κs : _) (a : _) → Determined {Y = ℕ × List ℕ} (write-line.Post κs a) (λ r x. (r, x.1.1.1.0.now))
-write-line-determined κs a r r' x x' p q = puts-determined p q
+pub write-line-determined : (g : _) (κs : _) (a : _) (v : _) → Determined (write-line.Post g κs a v) (λ r x. x.1.1.0.now)
+write-line-determined g κs a v r r' x x' p q = p.0 ∙ sym q.0

@@ -1,3 +1,2 @@
 pub mod Printed
 pub mod PrintedExamples
-pub mod Inner

@@ -2,7 +2,6 @@
 use Rattle.std.specs.Prelude.{refl, List, [], ◌∷◌}
 use Rattle.std.specs.Float.Ieee.{of_bits, of_int, lt}
 use Rattle.rounding.specs.Truncate.{truncated}
-use Rattle.lines.specs.Text.{same}
 use Rattle.lines.specs.Hex.{digit_of, number_from, pattern_of}
 use Rattle.lines.specs.Decimal.{decimal_of}
 use Rattle.lines.specs.Parts.{parts_of, last_unless_empty}
@@ -19,5 +18,5 @@ table =
     ∷ []
 
 pub table-holds : RepliesAs printed table
-unfolding numbered_replies numbered_reply last_unless_empty parts_of same vecprobe_reply decimal_of pattern_of number_from digit_of truncated of_bits of_int lt
+unfolding numbered_replies numbered_reply last_unless_empty parts_of vecprobe_reply decimal_of pattern_of number_from digit_of truncated of_bits of_int lt
 table-holds = refl

@@ -1,2 +1,0 @@
--- Words of the contracts of helpers: no contract of an entry point names them.
-pub mod WorkRooms

@@ -1,9 +1,0 @@
--- `scratch_room` meets its contract, by a law: to count so many zeros would take the checker too deep.
-use mathlib.Core.Path.{sym}
-use Prim.Native.Nat.{ℕ}
-use lib.ListN.{length-replicate}
-use Rattle.probe_blobs.specs.Limits.{scratch_room}
-use Rattle.vecprobe.proofs.scratch_room.Goals as goal
-
-pub returns : goal.returns
-returns c = sym (length-replicate {0} {A = ℕ} scratch_room 0)
