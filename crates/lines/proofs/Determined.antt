@@ -1,5 +1,5 @@
 -- Each public contract determines its outcome, the answer and the lent bytes: stated over the contract's own reading, so it changes with the contract.
-use Rattle.std.proofs.Common.{◌≡◌, ◌∙◌, sym, refl, ap, ℕ, List, [], ◌∷◌, ◌++◌, Option, Some, None, option_map, MatchOption, ◌<◌, length, eqb, arith}
+use Rattle.std.proofs.Common.{◌≡◌, ◌∙◌, sym, refl, ap, ℕ, List, [], ◌∷◌, Option, Some, None, option_map, MatchOption, ◌<◌, length, eqb, arith}
 use Rattle.std.specs.List.{join_with_byte}
 use Rattle.std.proofs.lemmas.List.Splits.{join_with_byte-slice_split, length-slice_split}
 use denote.Ref.{Bor}

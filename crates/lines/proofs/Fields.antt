@@ -1,5 +1,5 @@
 -- Laws of the reply to a line by its fields: the first field and those after it, and a last field that has to be digits, which a tab is not.
-use Rattle.std.proofs.Common.{◌≡◌, refl, sym, ap, Bool, true, false, cond, List, [], ◌∷◌, ◌++◌, ◌∙◌, ℕ, suc, ◌+◌, ◌*◌, ◌<◌, eqb, ltb, length, arith, Option, Some, None, option_and_then, MatchOption}
+use Rattle.std.proofs.Common.{◌≡◌, refl, sym, ap, Bool, true, false, cond, List, [], ◌∷◌, ℕ, suc, ◌+◌, ◌*◌, ◌<◌, eqb, ltb, length, arith, Option, Some, None, option_and_then}
 use Rattle.std.specs.Option.{option_map_or}
 use Rattle.std.specs.List.{onto_first, join_with_byte}
 use Rattle.std.proofs.lemmas.List.Splits.{slice_split-cons_no, length-slice_split, join_with_byte-slice_split}

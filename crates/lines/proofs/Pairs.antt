@@ -1,10 +1,12 @@
 -- Laws of bytes in hexadecimal, `hex_bytes` and `hex_of`: a turn of the loop of each, their lengths, and that one reads back what the other puts.
-use Rattle.std.proofs.Common.{◌≡◌, ◌∙◌, refl, sym, ap, append_assoc, List, [], ◌∷◌, ◌++◌, ℕ, suc, ◌+◌, ◌*◌, ◌/◌, ◌%◌, ◌<◌, ◌≤◌, length, get_or, drop, arith, add-one, drop-cons, Option, Some, None}
+use Rattle.std.proofs.Common.{◌≡◌, ◌∙◌, refl, sym, ap, append_assoc, List, [], ◌∷◌, ◌++◌, ℕ, suc, ◌+◌, ◌*◌, ◌/◌, ◌%◌, ◌<◌, ◌≤◌, length, get_or, drop, arith, add-one, drop-cons, take, Option, Some, None}
+use Rattle.std.proofs.Math.Seq.{take-append_seam}
 use Rattle.std.proofs.Math.ListN.{drop_of_length-le, length-append}
 use Rattle.std.specs.Option.{option_map_or}
 use borrow.Author.Tests.{lt-ltb, le-ltb, le-leb, lt-leb, eq-eqb}
 use native.Mathlib.Decide.{dec_lt}
 use Rattle.io.specs.Digits.{hex_digit_ascii}
+use Rattle.promises.specs.Puts.{Puts}
 use Rattle.lines.specs.Hex.{digit_of, hex_pair, hex_bytes, decoded_of, hex_of}
 
 -- ---- pairs of digits that are read
@@ -38,25 +40,33 @@ pub hex_of-byte : (s : List ℕ) (i : ℕ) → i < length s
 unfolding hex_of
 hex_of-byte s i less = rw (add-one, drop-cons s i 0)
 
--- what was put, with two digits more, and what is then to come
-pub hex_of-put : (s : List ℕ) (i : ℕ) (o : List ℕ) {o' l : List ℕ} → i < length s → o ++ hex_of (drop i s) ≡ l
-    → o' ≡ (o ++ hex_digit_ascii (get_or s i 0 / 16) ∷ []) ++ hex_digit_ascii (get_or s i 0 % 16) ∷ []
-    → (o' ++ hex_of (drop (i + 1) s) ≡ l) × (length o' ≡ length o + 2)
-hex_of-put s i o less e put =
-    let high = hex_digit_ascii (get_or s i 0 / 16) in
-    let low = hex_digit_ascii (get_or s i 0 % 16) in
-    let rest = hex_of (drop (i + 1) s) in
-    let parts = append_assoc (o ++ high ∷ []) (low ∷ []) rest ∙ append_assoc o (high ∷ []) (low ∷ rest) in
-    (rw put (parts ∙ ap (λ t. o ++ t) (sym (hex_of-byte s i less)) ∙ e), rw (put, length-append, length-append) (omega arith))
-
-pub hex_of-end : (s : List ℕ) (i : ℕ) → length s ≤ i → hex_of (drop i s) ≡ []
-unfolding hex_of
-hex_of-end s i h = rw (drop_of_length-le s h)
-
 pub length-hex_of : (s : List ℕ) → length (hex_of s) ≡ 2 * length s
 unfolding hex_of
 length-hex_of [] = refl
 length-hex_of (b ∷ s) = omega (arith, length-hex_of s)
+
+pub hex_of-append : (s t : List ℕ) → hex_of (s ++ t) ≡ hex_of s ++ hex_of t
+unfolding hex_of
+hex_of-append [] t = refl
+hex_of-append (b ∷ s) t = ap (λ r. hex_digit_ascii (b / 16) ∷ (hex_digit_ascii (b % 16) ∷ r)) (hex_of-append s t)
+
+-- what was put, with a piece more, and what is then to come
+pub hex_of-piece : (s t o : List ℕ) {text o' rest l w : List ℕ} {k n : ℕ} → rest ≡ s ++ t → o ++ hex_of rest ≡ l
+    → Puts (hex_of s) w k text → n ≡ k → o' ≡ o ++ take n text
+    → (o' ++ hex_of t ≡ l) × (length o' + 2 * length t ≡ length o + 2 * length rest)
+hex_of-piece s t o {o' = o'} whole e puts more put =
+    let is-text : o' ≡ o ++ hex_of s = put ∙ ap (λ r. o ++ r) (rw (more, puts.size, puts.left) (take-append_seam (hex_of s) _)) in
+    let parts = append_assoc o (hex_of s) (hex_of t) ∙ ap (λ r. o ++ r) (sym (hex_of-append s t) ∙ sym (ap hex_of whole)) in
+    (rw is-text (parts ∙ e), rw (is-text, whole) (omega (arith, length-append o (hex_of s), length-append s t, length-hex_of s)))
+
+pub hex_of-none : (s : List ℕ) → length s ≡ 0 → hex_of s ≡ []
+unfolding hex_of
+hex_of-none [] e = refl
+hex_of-none (b ∷ s) e = absurd (omega arith)
+
+pub hex_of-end : (s : List ℕ) (i : ℕ) → length s ≤ i → hex_of (drop i s) ≡ []
+unfolding hex_of
+hex_of-end s i h = rw (drop_of_length-le s h)
 
 -- ---- all of a text that is decoded
 pub decoded-whole : (s : List ℕ) {n : ℕ} → n ≡ length (hex_bytes s) → 2 * n ≡ length s → decoded_of s ≡ Some (hex_bytes s)

@@ -108,14 +108,32 @@ fn glyph(d: u8) -> u8
     if d < 10 { b'0' + d } else { b'a' + (d - 10) }
 }
 
-// Puts s in two digits a byte.
+// Puts the digits of s at the start of out.
+fn put_digits(s: &[u8], out: &mut [u8])
+    requires { 2 * length s.now ≤ length out.old }
+    ensures { Puts (hex_of s.now) out.old (2 * length s.now) out.new }
+{
+    for i in 0..s.len() {
+        let b = s[i];
+        let at = 2 * i;
+        out[at] = glyph(b / 16);
+        out[at + 1] = glyph(b % 16);
+    }
+}
+
+// Puts s in two digits a byte, by whole pieces: a push for each digit takes six times as long.
 pub fn put_bytes<const N: usize>(s: &[u8], out: &mut Buffer<N>)
     requires { length out.old + 2 * length s.now ≤ N }
     ensures puts { out.new ≡ out.old ++ hex_of s.now }
     ensures size { length out.new ≡ length out.old + 2 * length s.now }
 {
-    for b in s {
-        out.push(glyph(*b / 16));
-        out.push(glyph(*b % 16));
+    let mut text = [0u8; 64];
+    let mut rest = s;
+    while !rest.is_empty() {
+        let n = if rest.len() < 32 { rest.len() } else { 32 };
+        let (piece, after) = rest.split_at(n);
+        put_digits(piece, &mut text);
+        out.extend_from_slice(&text[..2 * n]);
+        rest = after;
     }
 }

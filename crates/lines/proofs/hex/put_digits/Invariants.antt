@@ -1,0 +1,8 @@
+-- The digits of the bytes passed are written, and those of the others are to come.
+use Rattle.std.proofs.Common.{◌*◌, drop}
+use Rattle.lines.specs.Hex.{hex_of}
+use Rattle.lines.proofs.Writing.{Writing}
+use Rattle.lines.proofs.hex.put_digits.Given as goal
+
+abbrev pub invariant-loop-i : goal.invariant-loop-i
+invariant-loop-i l = Writing (hex_of l.s) l.initial.out l.out (2 * l.i) (hex_of (drop l.i l.s))
