@@ -5,6 +5,20 @@ ghost use Rattle.std.specs.Prelude.{◌≡◌, ◌+◌, ◌-◌, ◌≤◌, ◌<
 
 use std::marker::Model;
 
+/// Bytes that are made where they are to stand.
+pub trait Source {
+    ghost made: { Self → List ℕ };
+
+    // How many bytes are made.
+    fn len(&self) -> usize
+        ensures { result ≡ length (made self.now) };
+
+    // Makes the bytes in a slice that they fill.
+    fn make(&self, out: &mut [u8])
+        requires { length out.old ≡ length (made self.now) }
+        ensures { out.new ≡ made self.now };
+}
+
 /// At most `N` bytes.
 #[derive(Drop)]
 pub struct Buffer<const N: usize> {
@@ -88,6 +102,18 @@ impl<const N: usize> Buffer<N> {
         let end = start + bytes.len();
         let all = &mut self.bytes[..];
         all[start..end].copy_from_slice(bytes);
+        self.filled = end;
+    }
+
+    // Puts bytes that are made in their place, so that they need not be copied there.
+    pub fn extend_from<S: Source>(&mut self, source: &S)
+        requires { length self.old + length (S.made source.now) ≤ N }
+        ensures { self.new ≡ self.old ++ S.made source.now }
+    {
+        let first = self.filled;
+        let end = first + source.len();
+        let all = &mut self.bytes[..];
+        source.make(&mut all[first..end]);
         self.filled = end;
     }
 }

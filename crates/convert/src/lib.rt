@@ -8,7 +8,7 @@ ghost use Rattle.convert_parts.specs.Inner.Fitting.{Fitting};
 ghost use Rattle.convert.specs.Convert.{body_conversion, convert_leaving, outcome_of, convert_outcome};
 
 use dispatch::{put_result, result_length, scratch_length};
-use vector_types::{Dims, Refusal, Vector, VectorType, View};
+use vector_types::{Dims, Mode, Refusal, Vector, VectorType, View};
 
 // Converts a body of a kind and dims.
 #[tactic(auto, unfolding(crate::specs::Convert::body_conversion), using(crate::proofs::Shown::lengths))]
@@ -47,7 +47,7 @@ pub fn convert(
 ) -> Result<View, Refusal>
     ensures { convert_leaving result scratch.new out.new ≡ convert_outcome blob.now target scratch.old out.old }
 {
-    let vector = Vector::from_slice(blob)?;
+    let vector = Vector::from_slice(Mode::Plain, blob)?;
     let View { kind, dims, .. } = vector.view;
     convert_body(kind, dims.0, vector.body(), target, scratch, out)
 }

@@ -31,7 +31,7 @@ same-shown blob (Err e) (Ok w) h p q = absurd cc
 same-shown blob (Err e) (Err f) h p q = cc
 
 pub vector-as-determined : (g : _) (b : _) (c : _) (d : _) (κs : _) (e : _) (a : _) → Determined (vector-as.Post g b c d κs e a) (λ r x. shown_in r)
-vector-as-determined g b c d κs e a r r' x x' p q = same-shown a.1.0 r r' (p.0 ∙ sym q.0) p.1 q.1
+vector-as-determined g b c d κs e a r r' x x' p q = same-shown a.1.1.0 r r' (p.0 ∙ sym q.0) p.1 q.1
 
 pub check-pair-determined : (κs : _) (a : _) → Determined (check-pair.Post κs a) (λ r x. r)
 check-pair-determined κs a r r' x x' p q = p ∙ sym q

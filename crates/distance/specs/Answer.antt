@@ -9,6 +9,7 @@ use Rattle.vector_types.specs.Parts.{body_of}
 use Rattle.vector_types.specs.declared.View.{View}
 use Rattle.vector_types.specs.declared.Refusal.{Refusal}
 use Rattle.vector_types.specs.declared.Refusal.TheVariants.{DimsDiffer, KindsDiffer, L2OfFloat1Bit}
+use Rattle.vector_types.specs.declared.Mode.{Mode}
 use Rattle.vector_types.specs.declared.Mode.TheVariants.{Plain}
 use Rattle.distance.specs.Values.{Formula, value_of}
 use Rattle.distance.specs.declared.Distance.{Distance}
@@ -29,9 +30,9 @@ about_none r = record { refusal = r; blob = None }
 abbrev pub of_all : {A B : Type 0} → Result A Refusal → Result A (Refused B)
 of_all r = result_map_both (λ x. x) about_none r
 
--- what reading a blob answers, with its refusals about that blob
-abbrev pub read_as : {B : Type 0} → B → List ℕ → Result View (Refused B)
-read_as blob s = result_map_both (λ v. v) (about blob) (read_of Plain s)
+-- what reading a blob in a mode answers, with its refusals about that blob
+abbrev pub read_as : {B : Type 0} → B → Mode → List ℕ → Result View (Refused B)
+read_as blob mode s = result_map_both (λ v. v) (about blob) (read_of mode s)
 
 -- the number of an answer by the rules, 0 where nothing is refused
 abbrev pub number_in : {A B : Type 0} → Result A (Refused B) → ℕ
@@ -75,7 +76,7 @@ answer_in value (Ok v) (Ok w) a b = answer_of_views value v w a b
 
 unfoldable pub answer_by : Formula → List ℕ → List ℕ → Result Measured (Refused Which)
 unfolding answer_of_views
-answer_by value s t = answer_in value (read_as First s) (read_as Second t) (body_of s) (body_of t)
+answer_by value s t = answer_in value (read_as First Plain s) (read_as Second Plain t) (body_of s) (body_of t)
 
 unfoldable pub distance_of : Distance → List ℕ → List ℕ → Result Measured (Refused Which)
 unfolding answer_by value_of

@@ -16,7 +16,7 @@ use distance_dot::measure_dot;
 use distance_l2::measure_l2;
 use jaccard::measure_jaccard;
 pub use refused::{Refused, vector_as};
-use vector_types::{Readings, Refusal, Vector, VectorType, View};
+use vector_types::{Mode, Readings, Refusal, Vector, VectorType, View};
 
 #[derive(Clone, Copy, PartialEq, Eq)]
 pub enum Distance {
@@ -134,8 +134,8 @@ pub fn vector_distance(
 ) -> Result<Measured, Refused<Which>>
     ensures { result ≡ distance_of distance first.now second.now }
 {
-    let first = vector_as(Which::First, first)?;
-    let second = vector_as(Which::Second, second)?;
+    let first = vector_as(Which::First, Mode::Plain, first)?;
+    let second = vector_as(Which::Second, Mode::Plain, second)?;
     check_pair(first.view, second.view)?;
     Ok(measure_pair(distance, first, second)?)
 }

@@ -3,7 +3,7 @@ ghost use Rattle.std.specs.Prelude.{◌≡◌, IfOk};
 ghost use Rattle.std.specs.Result.{result_map_both};
 ghost use Rattle.distance.specs.Answer.{about_none, read_as};
 
-use vector_types::{Refusal, Vector};
+use vector_types::{Mode, Refusal, Vector};
 
 // A refusal, and the blob that it is about, if it is about one alone. B names the blobs.
 #[derive(Clone, Copy, PartialEq, Eq)]
@@ -24,12 +24,12 @@ impl<B> From<Refusal> for Refused<B> {
     }
 }
 
-// The vector of a blob; what is refused is about the blob, by its name.
-pub fn vector_as<B: Copy>(name: B, blob: &[u8]) -> Result<Vector<'_>, Refused<B>>
-    ensures read { result_map_both (λ vector. vector.view) (λ refused. refused) result ≡ read_as name blob.now }
+// The vector that a blob shows in a mode; what is refused is about the blob, by its name.
+pub fn vector_as<B: Copy>(name: B, mode: Mode, blob: &[u8]) -> Result<Vector<'_>, Refused<B>>
+    ensures read { result_map_both (λ vector. vector.view) (λ refused. refused) result ≡ read_as name mode blob.now }
     ensures same { IfOk result (λ vector. vector.blob ≡ blob.entry) }
 {
-    Vector::from_slice(blob).map_err(|refusal| Refused {
+    Vector::from_slice(mode, blob).map_err(|refusal| Refused {
         refusal,
         blob: Some(name),
     })

@@ -45,25 +45,6 @@ unfolding hex_of
 length-hex_of [] = refl
 length-hex_of (b ∷ s) = omega (arith, length-hex_of s)
 
-pub hex_of-append : (s t : List ℕ) → hex_of (s ++ t) ≡ hex_of s ++ hex_of t
-unfolding hex_of
-hex_of-append [] t = refl
-hex_of-append (b ∷ s) t = ap (λ r. hex_digit_ascii (b / 16) ∷ (hex_digit_ascii (b % 16) ∷ r)) (hex_of-append s t)
-
--- what was put, with a piece more, and what is then to come
-pub hex_of-piece : (s t o : List ℕ) {text o' rest l w : List ℕ} {k n : ℕ} → rest ≡ s ++ t → o ++ hex_of rest ≡ l
-    → Puts (hex_of s) w k text → n ≡ k → o' ≡ o ++ take n text
-    → (o' ++ hex_of t ≡ l) × (length o' + 2 * length t ≡ length o + 2 * length rest)
-hex_of-piece s t o {o' = o'} whole e puts more put =
-    let is-text : o' ≡ o ++ hex_of s = put ∙ ap (λ r. o ++ r) (rw (more, puts.size, puts.left) (take-append_seam (hex_of s) _)) in
-    let parts = append_assoc o (hex_of s) (hex_of t) ∙ ap (λ r. o ++ r) (sym (hex_of-append s t) ∙ sym (ap hex_of whole)) in
-    (rw is-text (parts ∙ e), rw (is-text, whole) (omega (arith, length-append o (hex_of s), length-append s t, length-hex_of s)))
-
-pub hex_of-none : (s : List ℕ) → length s ≡ 0 → hex_of s ≡ []
-unfolding hex_of
-hex_of-none [] e = refl
-hex_of-none (b ∷ s) e = absurd (omega arith)
-
 pub hex_of-end : (s : List ℕ) (i : ℕ) → length s ≤ i → hex_of (drop i s) ≡ []
 unfolding hex_of
 hex_of-end s i h = rw (drop_of_length-le s h)

@@ -4,7 +4,7 @@ ghost use Rattle.io.specs.Digits.{last_digits, hex_digit_ascii};
 ghost use Rattle.lines.specs.Hex.{digit_of, number_from, pattern_of, hex_pair, hex_bytes, decoded_of, hex_of};
 ghost use Rattle.promises.specs.Puts.{Puts};
 
-use buffer::Buffer;
+use buffer::{Buffer, Source};
 
 // The value of the digit b.
 #[tactic(auto, unfolding(crate::specs::Hex::digit_of))]
@@ -108,32 +108,34 @@ fn glyph(d: u8) -> u8
     if d < 10 { b'0' + d } else { b'a' + (d - 10) }
 }
 
-// Puts the digits of s at the start of out.
-fn put_digits(s: &[u8], out: &mut [u8])
-    requires { 2 * length s.now ≤ length out.old }
-    ensures { Puts (hex_of s.now) out.old (2 * length s.now) out.new }
-{
-    for i in 0..s.len() {
-        let b = s[i];
-        let at = 2 * i;
-        out[at] = glyph(b / 16);
-        out[at + 1] = glyph(b % 16);
+// The digits of bytes, two for each.
+#[derive(Clone, Copy)]
+struct Digits<'a> {
+    bytes: &'a [u8],
+}
+
+impl<'a> Source for Digits<'a> {
+    ghost made = { λ digits. hex_of digits.bytes.now };
+
+    fn len(&self) -> usize {
+        2 * self.bytes.len()
+    }
+
+    fn make(&self, out: &mut [u8]) {
+        for i in 0..self.bytes.len() {
+            let b = self.bytes[i];
+            let at = 2 * i;
+            out[at] = glyph(b / 16);
+            out[at + 1] = glyph(b % 16);
+        }
     }
 }
 
-// Puts s in two digits a byte, by whole pieces: a push for each digit takes six times as long.
+// Puts s in two digits a byte, made in their place: with a push for each digit it takes six times as long.
 pub fn put_bytes<const N: usize>(s: &[u8], out: &mut Buffer<N>)
     requires { length out.old + 2 * length s.now ≤ N }
     ensures puts { out.new ≡ out.old ++ hex_of s.now }
     ensures size { length out.new ≡ length out.old + 2 * length s.now }
 {
-    let mut text = [0u8; 64];
-    let mut rest = s;
-    while !rest.is_empty() {
-        let n = if rest.len() < 32 { rest.len() } else { 32 };
-        let (piece, after) = rest.split_at(n);
-        put_digits(piece, &mut text);
-        out.extend_from_slice(&text[..2 * n]);
-        rest = after;
-    }
+    out.extend_from(&Digits { bytes: s });
 }

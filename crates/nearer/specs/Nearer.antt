@@ -7,6 +7,7 @@ use Rattle.vector_types.specs.Parts.{body_of}
 use Rattle.vector_types.specs.declared.Readings.{Readings}
 use Rattle.vector_types.specs.declared.Refusal.{Refusal}
 use Rattle.vector_types.specs.declared.Refusal.TheVariants.{L2OfFloat1Bit, BothDistancesNan}
+use Rattle.vector_types.specs.declared.Mode.TheVariants.{Plain}
 use Rattle.vector_types.specs.declared.View.{View}
 use Rattle.distance.specs.Values.{value_of}
 use Rattle.distance.specs.Answer.{of_all, read_as, pairing_of}
@@ -55,7 +56,7 @@ nearer_in m (Ok v) (Ok w) (Ok u) p a b = of_all (compared_of m v w u p a b)
 unfoldable pub nearer_of : Distance → List ℕ → List ℕ → List ℕ → Result Near (Refused Among)
 unfolding compared_of
 nearer_of m probe first second =
-    nearer_in m (read_as Probe probe) (read_as TheFirst first) (read_as TheSecond second) (body_of probe) (body_of first) (body_of second)
+    nearer_in m (read_as Probe Plain probe) (read_as TheFirst Plain first) (read_as TheSecond Plain second) (body_of probe) (body_of first) (body_of second)
 
 -- of the two candidates, the one that is meant
 abbrev pub of_both : {A : Type 0} → Candidate → A → A → A

@@ -6,7 +6,7 @@ ghost use Rattle.vector_types.specs.Parts.{body_of};
 ghost use Rattle.nearer.specs.Nearer.{near, nearer_by, compared_of, nearer_of, part_of, place_of};
 
 use distance::{Distance, Measured, Refused, check_pair, measure_pair, vector_as};
-use vector_types::{Readings, Refusal, Vector};
+use vector_types::{Mode, Readings, Refusal, Vector};
 
 #[derive(Clone, Copy, PartialEq, Eq)]
 pub enum Candidate {
@@ -90,9 +90,9 @@ pub fn nearer(
 ) -> Result<Near, Refused<Among>>
     ensures { result ≡ nearer_of distance probe.now first.now second.now }
 {
-    let probe = vector_as(Among::Probe, probe)?;
-    let first = vector_as(Among::First, first)?;
-    let second = vector_as(Among::Second, second)?;
+    let probe = vector_as(Among::Probe, Mode::Plain, probe)?;
+    let first = vector_as(Among::First, Mode::Plain, first)?;
+    let second = vector_as(Among::Second, Mode::Plain, second)?;
     Ok(compare(distance, probe, first, second)?)
 }
 

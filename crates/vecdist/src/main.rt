@@ -1,8 +1,11 @@
 // Distances of two blobs, line by line: reads standard input piece by piece, and writes the replies.
 #![tactic(auto)]
 
+ghost use Rattle.std.specs.Prelude.{◌≡◌};
+ghost use Rattle.lines.specs.Printed.{limited};
 ghost use Rattle.vecdist_lines.specs.Limits.{vecdist_limit, vecdist_room};
 ghost use Rattle.vecdist_lines.specs.Line.{vecdist_reply};
+ghost use Rattle.vecdist.specs.Printed.{reply_to};
 ghost use Rattle.std.proofs.Common.{rules};
 
 use buffer::Buffer;
@@ -47,7 +50,10 @@ impl Replies<OUTPUT> for Distances {
     ghost room_fits = { Prim.search rules };
 }
 
-fn main(rt: HostRuntime) -> ExitCode {
+// The replies that are served are those that are printed.
+fn main(rt: HostRuntime) -> ExitCode
+    ensures { limited ⟦<Distances as Replies<OUTPUT>>⟧.LIMIT ⟦<Distances as Replies<OUTPUT>>⟧.reply_to ≡ reply_to }
+{
     let mut replies = Distances {
         decoded: [0; DECODED],
     };

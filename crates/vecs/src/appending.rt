@@ -4,7 +4,7 @@ ghost use Rattle.promises.specs.Onto.{onto};
 ghost use Rattle.vector_types.specs.Layout.{max_dims};
 ghost use Rattle.vecs.specs.Append.{vector_bytes, append_leaving, append_outcome};
 
-use vector_types::{Dims, Refusal, Vector, VectorType, View};
+use vector_types::{Dims, Mode, Refusal, Vector, VectorType, View};
 
 // Puts the count and the body of a vector at the start of out.
 #[tactic(auto, using(crate::proofs::Appended::appends))]
@@ -23,7 +23,7 @@ fn put_vector(dims: Dims, body: &[u8], out: &mut [u8])
 pub fn fvecs_append(blob: &[u8], out: &mut [u8], fill: usize) -> Result<usize, Refusal>
     ensures { append_leaving result out.new ≡ append_outcome blob.now out.old fill }
 {
-    let vector = Vector::from_slice(blob)?;
+    let vector = Vector::from_slice(Mode::Plain, blob)?;
     let View { kind, dims, .. } = vector.view;
     if kind != VectorType::Float32Dense {
         return Err(Refusal::KindsDiffer);

@@ -72,7 +72,7 @@ pub from-slice-determined : (κs : _) (a : _) → Determined (from-slice.Post κ
 from-slice-determined κs a r r' x x' p q = go r r' (p.0 ∙ sym q.0) p.1 q.1
   where
     go : (r r' : Result Vector Refusal) → result_map_both (λ (v : Vector). v.view) (λ (e : Refusal). e) r ≡ result_map_both (λ (v : Vector). v.view) (λ (e : Refusal). e) r'
-        → IfOk r (λ v. v.blob ≡ a.0) → IfOk r' (λ v. v.blob ≡ a.0) → shown_in r ≡ shown_in r'
+        → IfOk r (λ v. v.blob ≡ a.1.0) → IfOk r' (λ v. v.blob ≡ a.1.0) → shown_in r ≡ shown_in r'
     go (Ok v) (Ok w) e p q = cc
     go (Ok v) (Err f) e p q = absurd cc
     go (Err e) (Ok w) h p q = absurd cc

@@ -14,7 +14,7 @@ pub fn body(blob: &[u8]) -> &[u8]
     ensures result_value { result.now ≡ body_of blob.now }
     ensures ref_ptr_value { result.ref_ptr ≡ blob.entry.ref_ptr }
 {
-    match Vector::from_slice(blob) {
+    match Vector::from_slice(Mode::Plain, blob) {
         Ok(vector) => vector.body(),
         Err(_) => &blob[..0],
     }

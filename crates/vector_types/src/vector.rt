@@ -18,12 +18,12 @@ pub struct Vector<'a> {
 }
 
 impl<'a> Vector<'a> {
-    // The vector that a blob holds, or the first refusal in the order of the rules.
-    pub fn from_slice(blob: &'a [u8]) -> Result<Self, Refusal>
-        ensures read { result_map_both (λ vector. vector.view) (λ refusal. refusal) result ≡ read_of Plain blob.now }
+    // The vector that a blob shows in a mode, or the first refusal in the order of the rules.
+    pub fn from_slice(mode: Mode, blob: &'a [u8]) -> Result<Self, Refusal>
+        ensures read { result_map_both (λ vector. vector.view) (λ refusal. refusal) result ≡ read_of mode blob.now }
         ensures same { IfOk result (λ vector. vector.blob ≡ blob.entry) }
     {
-        let view = read(Mode::Plain, blob)?;
+        let view = read(mode, blob)?;
         Ok(Vector { blob, view })
     }
 
