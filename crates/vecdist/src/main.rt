@@ -30,6 +30,17 @@ struct Distances {
     decoded: [u8; DECODED],
 }
 
+impl Distances {
+    // What is served is what is printed.
+    fn new() -> Self
+        ensures { limited ⟦<Distances as Replies<OUTPUT>>⟧.LIMIT ⟦<Distances as Replies<OUTPUT>>⟧.reply_to ≡ reply_to }
+    {
+        Distances {
+            decoded: [0; DECODED],
+        }
+    }
+}
+
 impl Replies<OUTPUT> for Distances {
     ghost LIMIT = { vecdist_limit };
 
@@ -50,15 +61,9 @@ impl Replies<OUTPUT> for Distances {
     ghost room_fits = { Prim.search rules };
 }
 
-// The replies that are served are those that are printed.
-fn main(rt: HostRuntime) -> ExitCode
-    ensures { limited ⟦<Distances as Replies<OUTPUT>>⟧.LIMIT ⟦<Distances as Replies<OUTPUT>>⟧.reply_to ≡ reply_to }
-{
-    let mut replies = Distances {
-        decoded: [0; DECODED],
-    };
+fn main(rt: HostRuntime) -> ExitCode {
     let ran = run(
-        &mut replies,
+        &mut Distances::new(),
         &mut rt.stdin(),
         &mut rt.stdout(),
         &mut [0; INPUT],
