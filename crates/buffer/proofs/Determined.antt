@@ -10,6 +10,7 @@ use Rattle.buffer.proofs.Buffer.clear.Reads as clear
 use Rattle.buffer.proofs.Buffer.truncate.Reads as truncate
 use Rattle.buffer.proofs.Buffer.push.Reads as push
 use Rattle.buffer.proofs.Buffer.extend_from_slice.Reads as extend-from-slice
+use Rattle.buffer.proofs.Buffer.extend_from.Reads as extend-from
 
 pub new-determined : (g : _) (κs : _) (a : _) (v : _) → Determined (new.Post g κs a v) (λ r x. r)
 new-determined g κs a v r r' x x' p q = p ∙ sym q
@@ -37,3 +38,6 @@ push-determined g κs a v r r' x x' p q = p ∙ sym q
 
 pub extend-from-slice-determined : (g : _) (κs : _) (a : _) (v : _) → Determined (extend-from-slice.Post g κs a v) (λ r x. x.0.now)
 extend-from-slice-determined g κs a v r r' x x' p q = p ∙ sym q
+
+pub extend-from-determined : (g : _) (b : _) (c : _) (d : _) (κs : _) (e : _) (a : _) (v : _) → Determined (extend-from.Post g b c d κs e a v) (λ r x. x.0.now)
+extend-from-determined g b c d κs e a v r r' x x' p q = p ∙ sym q
