@@ -1,11 +1,12 @@
 -- Laws of the replies that append: the text of an outcome, and the reply by the fields of a line.
-use Rattle.std.proofs.Common.{◌≡◌, ◌∙◌, refl, Bool, true, false, cond, List, [], ◌∷◌, ℕ, ◌<◌, ◌≤◌, ltb, length, Option, Some, None}
+use Rattle.std.proofs.Common.{◌≡◌, ◌∙◌, refl, Bool, true, false, cond, List, [], ◌∷◌, ℕ, ◌*◌, ◌<◌, ◌≤◌, ◌⊎◌, inl, inr, eqb, ltb, length, take, arith, length-take, Option, Some, None}
 use Rattle.std.specs.Option.{option_map_or}
-use borrow.Author.Tests.{lt-ltb, le-ltb}
-use Rattle.lines.specs.Hex.{decoded_of}
+use borrow.Author.Tests.{lt-ltb, le-ltb, eqb-true}
+use Rattle.lines.specs.Hex.{hex_bytes, decoded_of}
 use Rattle.lines.specs.Decimal.{numeral_of}
 use Rattle.lines.specs.Parts.{fields_of}
-use Rattle.lines.specs.Fields.{exactly, malformed}
+use Rattle.lines.specs.Fields.{exactly, malformed, from_hex}
+use Rattle.lines.specs.Printed.{limited}
 use Rattle.lines.proofs.Fields.{exactly-first, exactly-one, exactly-last_bytes, from-hex-none, from-hex-some}
 use Rattle.vector_types.specs.Layout.{max_blob_length}
 use Rattle.vecs.specs.Append.{append_outcome}
@@ -18,7 +19,22 @@ append-one rest e = exactly-one 1 append_reply rest e
 pub append-two : (rest number more : List ℕ) → fields_of rest ≡ number ∷ fields_of more → fields_of more ≡ more ∷ [] → exactly 3 append_reply (fields_of rest) ≡ malformed
 append-two rest number more e f = exactly-first 2 append_reply rest number more e ∙ exactly-one 0 (append_reply number) more f
 
--- ---- three: H is no bytes
+-- ---- three: A has more digits than the longest blob, or is no bytes
+over_limit : (reply : List ℕ → List ℕ) (field : List ℕ) → 2 * max_blob_length < length field → from_hex (limited max_blob_length reply) field ≡ malformed
+unfolding decoded_of
+over_limit reply field over = by (eqb (2 * length (hex_bytes field)) (length field)) refl
+  where
+    by : (b : Bool) → eqb (2 * length (hex_bytes field)) (length field) ≡ b → from_hex (limited max_blob_length reply) field ≡ malformed
+    by true e =
+        let all = eqb-true (2 * length (hex_bytes field)) (length field) e in
+        let bytes : decoded_of field ≡ Some (hex_bytes field) = rw e refl in
+        from-hex-some _ field bytes ∙ rw (lt-ltb max_blob_length (length (hex_bytes field)) (omega (arith, all, over)))
+    by false e = let none : decoded_of field ≡ None = rw e refl in from-hex-none _ field none
+
+no_buffer : (fill : ℕ) (first second : List ℕ) → (2 * max_blob_length < length first) ⊎ (decoded_of first ≡ None) → append_fill_reply fill first second ≡ malformed
+no_buffer fill first second none = elim none [ inl over ↦ over_limit _ first over | inr undecoded ↦ from-hex-none _ first undecoded ]
+
+-- ---- H is no bytes
 limited-malformed : (b : Bool) {x : List ℕ} → x ≡ malformed → cond b malformed x ≡ malformed
 limited-malformed true e = refl
 limited-malformed false e = e
@@ -46,19 +62,16 @@ module _ (rest number more first second : List ℕ) (e : fields_of rest ≡ numb
   append-no_fill none = append-numbered None none
 
   module _ (fill : ℕ) (some : Some fill ≡ numeral_of 10 number) where
-    pub append-no_buffer : decoded_of first ≡ None → exactly 3 append_reply (fields_of rest) ≡ malformed
-    append-no_buffer none = append-numbered (Some fill) some ∙ from-hex-none _ first none
+    pub append-no_buffer : (2 * max_blob_length < length first) ⊎ (decoded_of first ≡ None) → exactly 3 append_reply (fields_of rest) ≡ malformed
+    append-no_buffer none = append-numbered (Some fill) some ∙ no_buffer fill first second none
 
     pub append-no_blob : decoded_of second ≡ None → exactly 3 append_reply (fields_of rest) ≡ malformed
     append-no_blob none = append-numbered (Some fill) some ∙ no_blob fill first second none
 
-    module _ (buffer : List ℕ) (bytes : decoded_of first ≡ Some buffer) where
-      pub append-over : max_blob_length < length buffer → exactly 3 append_reply (fields_of rest) ≡ malformed
-      append-over over = append-numbered (Some fill) some ∙ from-hex-some _ first bytes ∙ rw (lt-ltb max_blob_length (length buffer) over)
+    pub append-blob : (size : ℕ) (made blob : List ℕ) → decoded_of first ≡ Some (take size made) → size ≤ max_blob_length → decoded_of second ≡ Some blob
+        → exactly 3 append_reply (fields_of rest) ≡ outcome_text (append_outcome blob (take size made) fill)
+    append-blob size made blob bytes fits whole =
+        let within : length (take size made) ≤ max_blob_length = omega (arith, fits, length-take size made) in
+        append-numbered (Some fill) some ∙ from-hex-some _ first bytes ∙ rw (le-ltb max_blob_length (length (take size made)) within) (from-hex-some _ second whole)
 
-      pub append-blob : length buffer ≤ max_blob_length → (blob : List ℕ) → decoded_of second ≡ Some blob
-          → exactly 3 append_reply (fields_of rest) ≡ outcome_text (append_outcome blob buffer fill)
-      append-blob within blob whole =
-          append-numbered (Some fill) some ∙ from-hex-some _ first bytes ∙ rw (le-ltb max_blob_length (length buffer) within) (from-hex-some _ second whole)
-
-pub ruleset fields = (append-one, append-two, append-no_fill, append-no_buffer, append-no_blob, append-over, append-blob)
+pub ruleset fields = (append-one, append-two, append-no_fill, append-no_buffer, append-no_blob, append-blob)

@@ -6,6 +6,7 @@ ghost use Rattle.lines.specs.Parts.{fields_of};
 ghost use Rattle.lines.specs.Fields.{exactly, PutsUnlessMalformed};
 ghost use Rattle.vector_types.specs.Layout.{max_blob_length};
 ghost use Rattle.probe_blobs.specs.Limits.{reply_room, decoded_room, scratch_room, blob_room};
+ghost use Rattle.probe_blobs.specs.Rooms.{SameRooms};
 ghost use Rattle.probe_blobs.specs.Blobs.{vector_text, read_blob_text, read_reply, kind_of, convert_blob_text, convert_reply};
 
 use buffer::Buffer;
@@ -23,7 +24,16 @@ pub const SCRATCH: usize = 4 * MAX_DIMS;
 /// Room for the longest blob.
 pub const BLOB: usize = MAX_BLOB_LENGTH;
 
-/// Room to work on a line. What is in it afterwards is not promised.
+/// Room to work on a line, as it is lent; what a line has no use for may be empty. What is in it
+/// afterwards is not promised.
+#[derive(Drop)]
+pub struct LentRooms<'d, 's, 'm> {
+    pub decoded: &'d mut [u8],
+    pub scratch: &'s mut [u8],
+    pub made: &'m mut [u8],
+}
+
+/// Room to work on any line. What is in it afterwards is not promised.
 #[derive(Drop)]
 pub struct WorkRooms {
     pub decoded: [u8; DECODED],
@@ -118,11 +128,13 @@ pub fn kind_of(field: &[u8]) -> Result<VectorType, KindError>
 fn put_converted<const N: usize>(
     target: VectorType,
     blob: &[u8],
-    scratch: &mut [u8; SCRATCH],
-    made: &mut [u8; BLOB],
+    scratch: &mut [u8],
+    made: &mut [u8],
     out: &mut Buffer<N>,
 )
-    requires { length out.old + reply_room ≤ N }
+    requires scratch_len { length scratch.old ≡ scratch_room }
+    requires made_len { length made.old ≡ blob_room }
+    requires room { length out.old + reply_room ≤ N }
     ensures puts { out.new ≡ out.old ++ convert_blob_text target blob.now }
     ensures size { length out.new ≤ length out.old + reply_room }
 {
@@ -136,27 +148,33 @@ fn put_converted<const N: usize>(
 #[tactic(auto, using(crate::proofs::BlobTexts::conversions))]
 fn put_convert_reply<const N: usize>(
     rest: &[u8],
-    rooms: &mut WorkRooms,
+    rooms: &mut LentRooms,
     out: &mut Buffer<N>,
 ) -> Option<()>
-    requires rest_len_bound { length rest.now ≤ 2 * decoded_room }
+    requires rest_len_bound { length rest.now ≤ 2 * length rooms.old.decoded.now }
+    requires scratch_len { length rooms.old.scratch.now ≡ scratch_room }
+    requires made_len { length rooms.old.made.now ≡ blob_room }
     requires room { length out.old + reply_room ≤ N }
     ensures puts { PutsUnlessMalformed (exactly 2 convert_reply (fields_of rest.now)) out.old result out.new }
     ensures size { length out.new ≤ length out.old + reply_room }
+    ensures same_rooms { SameRooms rooms.old rooms.new }
 {
     let (kind, field) = split_field(rest)?;
     let target = kind_of(kind).ok()?;
-    let blob = decode(field, &mut rooms.decoded)?;
-    put_converted(target, blob, &mut rooms.scratch, &mut rooms.made, out);
+    let blob = decode(field, rooms.decoded)?;
+    put_converted(target, blob, rooms.scratch, rooms.made, out);
     Some(())
 }
 
 // The reply to conv|K|H, of which this is K|H.
-pub fn convert_line<const N: usize>(rest: &[u8], rooms: &mut WorkRooms, out: &mut Buffer<N>)
-    requires rest_len_bound { length rest.now ≤ 2 * decoded_room }
+pub fn convert_line<const N: usize>(rest: &[u8], rooms: &mut LentRooms, out: &mut Buffer<N>)
+    requires rest_len_bound { length rest.now ≤ 2 * length rooms.old.decoded.now }
+    requires scratch_len { length rooms.old.scratch.now ≡ scratch_room }
+    requires made_len { length rooms.old.made.now ≡ blob_room }
     requires room { length out.old + reply_room ≤ N }
     ensures puts { out.new ≡ out.old ++ exactly 2 convert_reply (fields_of rest.now) }
     ensures size { length out.new ≤ length out.old + reply_room }
+    ensures same_rooms { SameRooms rooms.old rooms.new }
 {
     if put_convert_reply(rest, rooms, out).is_none() {
         put_malformed(out);

@@ -1,5 +1,5 @@
 -- Laws of the reply to a line by its fields.
-use Rattle.std.proofs.Common.{◌≡◌, refl, sym, ◌∙◌, ap, List, [], ◌∷◌, ℕ, Option, Some, None}
+use Rattle.std.proofs.Common.{◌≡◌, refl, List, [], ◌∷◌, ℕ, Option, Some, None}
 use Rattle.lines.specs.Parts.{fields_of}
 use Rattle.lines.specs.Fields.{malformed, exactly}
 use Rattle.std.specs.Option.{option_map_or}

@@ -5,7 +5,8 @@ ghost use Rattle.std.specs.Prelude.{◌≡◌, ◌+◌, ◌*◌, ◌≤◌, ◌+
 ghost use Rattle.lines.specs.Parts.{fields_of};
 ghost use Rattle.lines.specs.Fields.{exactly, PutsUnlessMalformed};
 ghost use Rattle.vector_types.specs.Layout.{max_dims};
-ghost use Rattle.probe_blobs.specs.Limits.{reply_room, decoded_room};
+ghost use Rattle.probe_blobs.specs.Limits.{reply_room, scratch_room};
+ghost use Rattle.probe_blobs.specs.Rooms.{SameRooms};
 ghost use Rattle.probe_vecs.specs.Files.{vecs_text, file_text, file_reply};
 ghost use Rattle.probe_vecs.specs.Inner.Floats.{floats_length};
 ghost use Rattle.probe_vecs.specs.declared.FileKind.TheVariants.{Fvecs, Bvecs};
@@ -13,7 +14,7 @@ ghost use Rattle.probe_vecs.specs.declared.FileKind.TheVariants.{Fvecs, Bvecs};
 use buffer::Buffer;
 use lines::hex::decode;
 use lines::text::{numeral, put_malformed, split_field};
-use probe_blobs::{SCRATCH, WorkRooms};
+use probe_blobs::LentRooms;
 use reply_texts::{put_refusal, put_shown};
 use vecs::Found;
 use vector_types::Refusal;
@@ -68,13 +69,9 @@ fn floats_length(answer: Result<Option<Found>, Refusal>) -> usize
 }
 
 // Puts what stands at a place of a bvecs file, whose elements are put as f32 into `scratch`.
-fn put_bvecs<const N: usize>(
-    place: usize,
-    file: &[u8],
-    scratch: &mut [u8; SCRATCH],
-    out: &mut Buffer<N>,
-)
-    requires { length out.old + reply_room ≤ N }
+fn put_bvecs<const N: usize>(place: usize, file: &[u8], scratch: &mut [u8], out: &mut Buffer<N>)
+    requires scratch_len { length scratch.old ≡ scratch_room }
+    requires room { length out.old + reply_room ≤ N }
     ensures puts { out.new ≡ out.old ++ file_text Bvecs place file.now }
     ensures size { length out.new ≤ length out.old + reply_room }
 {
@@ -88,20 +85,22 @@ fn put_bvecs<const N: usize>(
 fn put_file_reply<const N: usize>(
     kind: FileKind,
     rest: &[u8],
-    rooms: &mut WorkRooms,
+    rooms: &mut LentRooms,
     out: &mut Buffer<N>,
 ) -> Option<()>
-    requires rest_len_bound { length rest.now ≤ 2 * decoded_room }
+    requires rest_len_bound { length rest.now ≤ 2 * length rooms.old.decoded.now }
+    requires scratch_len { length rooms.old.scratch.now ≡ scratch_room }
     requires room { length out.old + reply_room ≤ N }
     ensures puts { PutsUnlessMalformed (exactly 2 (file_reply kind) (fields_of rest.now)) out.old result out.new }
     ensures size { length out.new ≤ length out.old + reply_room }
+    ensures same_rooms { SameRooms rooms.old rooms.new }
 {
     let (number, field) = split_field(rest)?;
     let place = numeral(10, number)? as usize;
-    let file = decode(field, &mut rooms.decoded)?;
+    let file = decode(field, rooms.decoded)?;
     match kind {
         FileKind::Fvecs => put_fvecs(place, file, out),
-        FileKind::Bvecs => put_bvecs(place, file, &mut rooms.scratch, out),
+        FileKind::Bvecs => put_bvecs(place, file, rooms.scratch, out),
     }
     Some(())
 }
@@ -110,13 +109,15 @@ fn put_file_reply<const N: usize>(
 pub fn file_line<const N: usize>(
     kind: FileKind,
     rest: &[u8],
-    rooms: &mut WorkRooms,
+    rooms: &mut LentRooms,
     out: &mut Buffer<N>,
 )
-    requires rest_len_bound { length rest.now ≤ 2 * decoded_room }
+    requires rest_len_bound { length rest.now ≤ 2 * length rooms.old.decoded.now }
+    requires scratch_len { length rooms.old.scratch.now ≡ scratch_room }
     requires room { length out.old + reply_room ≤ N }
     ensures puts { out.new ≡ out.old ++ exactly 2 (file_reply kind) (fields_of rest.now) }
     ensures size { length out.new ≤ length out.old + reply_room }
+    ensures same_rooms { SameRooms rooms.old rooms.new }
 {
     if put_file_reply(kind, rest, rooms, out).is_none() {
         put_malformed(out);

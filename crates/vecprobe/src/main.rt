@@ -10,8 +10,8 @@ ghost use Rattle.probe_lines.specs.Line.{vecprobe_reply};
 
 use buffer::Buffer;
 use line_stream::ending::exit_code;
-use probe_blobs::WorkRooms;
-use probe_lines::LIMIT;
+use probe_blobs::{LentRooms, WorkRooms};
+use probe_lines::{LIMIT, NUMBERED_REPLY};
 use serving::{Replies, run};
 use std::process::ExitCode;
 
@@ -25,8 +25,8 @@ fn input_room() -> [u8; INPUT]
     [0; INPUT]
 }
 
-// Room for replies that are not written yet: a numbered one has up to 22 bytes more than the reply.
-const OUTPUT: usize = LIMIT + 22 + 65536;
+// Room for replies that are not written yet.
+const OUTPUT: usize = NUMBERED_REPLY + 65536;
 
 // Replies to what staff type, and the room to work in.
 #[derive(Drop)]
@@ -54,7 +54,12 @@ impl Replies<OUTPUT> for Probe {
     const ROOM: usize = LIMIT;
 
     fn put_reply(&mut self, line: &[u8], out: &mut Buffer<OUTPUT>) {
-        probe_lines::answer(line, &mut self.rooms, out)
+        let mut rooms = LentRooms {
+            decoded: &mut self.rooms.decoded,
+            scratch: &mut self.rooms.scratch,
+            made: &mut self.rooms.made,
+        };
+        probe_lines::answer(line, &mut rooms, out)
     }
 
     ghost some_room = { Prim.search rules };

@@ -1,5 +1,5 @@
 -- X for a line of one field, or whose first names no verb; else the reply of that verb.
-use Rattle.std.proofs.Common.{◌∙◌, refl}
+use Rattle.std.proofs.Common.{refl}
 use Rattle.probe_lines.proofs.Fields.{reply-one, reply-asked}
 use Rattle.probe_lines.proofs.put_reply.Goals as goal
 
