@@ -1,12 +1,10 @@
 -- Laws of bytes in hexadecimal, `hex_bytes` and `hex_of`: a turn of the loop of each, their lengths, and that one reads back what the other puts.
-use Rattle.std.proofs.Common.{◌≡◌, ◌∙◌, refl, sym, ap, append_assoc, List, [], ◌∷◌, ◌++◌, ℕ, suc, ◌+◌, ◌*◌, ◌/◌, ◌%◌, ◌<◌, ◌≤◌, length, get_or, drop, arith, add-one, drop-cons, take, Option, Some, None}
-use Rattle.std.proofs.Math.Seq.{take-append_seam}
-use Rattle.std.proofs.Math.ListN.{drop_of_length-le, length-append}
+use Rattle.std.proofs.Common.{◌≡◌, refl, ap, List, [], ◌∷◌, ◌++◌, ℕ, suc, ◌+◌, ◌*◌, ◌/◌, ◌%◌, ◌<◌, ◌≤◌, length, get_or, drop, arith, add-one, drop-cons, Option, Some, None}
+use Rattle.std.proofs.Math.ListN.{drop_of_length-le}
 use Rattle.std.specs.Option.{option_map_or}
 use borrow.Author.Tests.{lt-ltb, le-ltb, le-leb, lt-leb, eq-eqb}
 use native.Mathlib.Decide.{dec_lt}
 use Rattle.io.specs.Digits.{hex_digit_ascii}
-use Rattle.promises.specs.Puts.{Puts}
 use Rattle.lines.specs.Hex.{digit_of, hex_pair, hex_bytes, decoded_of, hex_of}
 
 -- ---- pairs of digits that are read

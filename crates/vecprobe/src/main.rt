@@ -4,9 +4,11 @@
 
 ghost use Rattle.std.specs.Prelude.{◌≡◌, length};
 ghost use Rattle.std.proofs.Common.{rules};
+ghost use Rattle.lines.specs.Printed.{limited};
 ghost use Rattle.line_stream.specs.Inner.Rooms.{input_room};
 ghost use Rattle.probe_lines.specs.Limits.{vecprobe_limit};
 ghost use Rattle.probe_lines.specs.Line.{vecprobe_reply};
+ghost use Rattle.vecprobe.specs.Printed.{reply_to};
 
 use buffer::Buffer;
 use line_stream::ending::exit_code;
@@ -35,7 +37,10 @@ struct Probe {
 }
 
 impl Probe {
-    fn new() -> Self {
+    // What is served is what is printed.
+    fn new() -> Self
+        ensures { limited ⟦<Probe as Replies<OUTPUT>>⟧.LIMIT ⟦<Probe as Replies<OUTPUT>>⟧.reply_to ≡ reply_to }
+    {
         Probe {
             rooms: WorkRooms::new(),
         }

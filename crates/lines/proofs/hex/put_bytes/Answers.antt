@@ -1,5 +1,5 @@
 -- There is room for two digits a byte, and they are put.
-use Rattle.std.proofs.Common.{rules, arith, length-append}
+use Rattle.std.proofs.Common.{rules, length-append}
 use Rattle.lines.proofs.Pairs.{length-hex_of}
 use Rattle.lines.proofs.hex.put_bytes.Goals as goal
 
