@@ -16,15 +16,11 @@ pub fn copy(bytes: &[u8], out: &mut [u8]) -> usize
     bytes.len()
 }
 
-// Where b first stands in s. A loop: with the method `position` it takes half as long again.
+// Where b first stands in s. Not inlined, since its callers' counts in the same loop make it half as slow again.
+#[inline(never)]
 pub fn find(s: &[u8], b: u8) -> Option<usize>
     ensures value { result ≡ position (λ x. x == b) s.now }
     ensures in_bounds { IfSome result (λ at. at < length s.now) }
 {
-    for at in 0..s.len() {
-        if s[at] == b {
-            return Some(at);
-        }
-    }
-    None
+    s.iter().position(|x| *x == b)
 }

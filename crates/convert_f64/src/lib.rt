@@ -33,7 +33,9 @@ pub fn result_length(target: VectorType, dims: usize, body: &[u8]) -> usize
     }
 }
 
-// Puts the body as the target's kind, which has `size` bytes, at the start of out.
+// Puts the body as the target's kind, which has `size` bytes, at the start of out. Not inlined: beside the other
+// kinds' loops these, and some of those, take a quarter longer.
+#[inline(never)]
 pub fn put_result(target: VectorType, dims: usize, body: &[u8], size: usize, out: &mut [u8])
     requires fitting { Fitting Float64Dense dims body.now }
     requires size_value { size ≡ length (result_of Float64Dense target dims body.now) }
