@@ -43,6 +43,16 @@ unfolding hex_of
 length-hex_of [] = refl
 length-hex_of (b ∷ s) = omega (arith, length-hex_of s)
 
+pub hex_of-append : (s t : List ℕ) → hex_of (s ++ t) ≡ hex_of s ++ hex_of t
+unfolding hex_of
+hex_of-append [] t = refl
+hex_of-append (b ∷ s) t = ap (λ r. hex_digit_ascii (b / 16) ∷ (hex_digit_ascii (b % 16) ∷ r)) (hex_of-append s t)
+
+pub hex_of-none : (s : List ℕ) → length s ≡ 0 → hex_of s ≡ []
+unfolding hex_of
+hex_of-none [] e = refl
+hex_of-none (b ∷ s) e = absurd (omega arith)
+
 pub hex_of-end : (s : List ℕ) (i : ℕ) → length s ≤ i → hex_of (drop i s) ≡ []
 unfolding hex_of
 hex_of-end s i h = rw (drop_of_length-le s h)

@@ -68,10 +68,14 @@ module _ (rest number more first second : List ℕ) (e : fields_of rest ≡ numb
     pub append-no_blob : decoded_of second ≡ None → exactly 3 append_reply (fields_of rest) ≡ malformed
     append-no_blob none = append-numbered (Some fill) some ∙ no_blob fill first second none
 
+    module _ (buffer : List ℕ) (bytes : decoded_of first ≡ Some buffer) where
+      pub append-over : max_blob_length < length buffer → exactly 3 append_reply (fields_of rest) ≡ malformed
+      append-over over = append-numbered (Some fill) some ∙ from-hex-some _ first bytes ∙ rw (lt-ltb max_blob_length (length buffer) over)
+
     pub append-blob : (size : ℕ) (made blob : List ℕ) → decoded_of first ≡ Some (take size made) → size ≤ max_blob_length → decoded_of second ≡ Some blob
         → exactly 3 append_reply (fields_of rest) ≡ outcome_text (append_outcome blob (take size made) fill)
     append-blob size made blob bytes fits whole =
         let within : length (take size made) ≤ max_blob_length = omega (arith, fits, length-take size made) in
         append-numbered (Some fill) some ∙ from-hex-some _ first bytes ∙ rw (le-ltb max_blob_length (length (take size made)) within) (from-hex-some _ second whole)
 
-pub ruleset fields = (append-one, append-two, append-no_fill, append-no_buffer, append-no_blob, append-blob)
+pub ruleset fields = (append-one, append-two, append-no_fill, append-no_buffer, append-no_blob, append-over, append-blob)
