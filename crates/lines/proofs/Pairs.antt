@@ -48,14 +48,12 @@ unfolding hex_of
 hex_of-append [] t = refl
 hex_of-append (b ∷ s) t = ap (λ r. hex_digit_ascii (b / 16) ∷ (hex_digit_ascii (b % 16) ∷ r)) (hex_of-append s t)
 
-pub hex_of-none : (s : List ℕ) → length s ≡ 0 → hex_of s ≡ []
-unfolding hex_of
-hex_of-none [] e = refl
-hex_of-none (b ∷ s) e = absurd (omega arith)
-
 pub hex_of-end : (s : List ℕ) (i : ℕ) → length s ≤ i → hex_of (drop i s) ≡ []
 unfolding hex_of
 hex_of-end s i h = rw (drop_of_length-le s h)
+
+pub hex_of-none : (s : List ℕ) → length s ≡ 0 → hex_of s ≡ []
+hex_of-none s e = hex_of-end s 0 (omega (arith, e))
 
 -- ---- all of a text that is decoded
 pub decoded-whole : (s : List ℕ) {n : ℕ} → n ≡ length (hex_bytes s) → 2 * n ≡ length s → decoded_of s ≡ Some (hex_bytes s)

@@ -19,7 +19,10 @@ append-one rest e = exactly-one 1 append_reply rest e
 pub append-two : (rest number more : List ℕ) → fields_of rest ≡ number ∷ fields_of more → fields_of more ≡ more ∷ [] → exactly 3 append_reply (fields_of rest) ≡ malformed
 append-two rest number more e f = exactly-first 2 append_reply rest number more e ∙ exactly-one 0 (append_reply number) more f
 
--- ---- three: A has more digits than the longest blob, or is no bytes
+-- ---- three: A is longer than the longest blob, or no bytes
+decoded_over : (reply : List ℕ → List ℕ) (field : List ℕ) {bytes : List ℕ} → decoded_of field ≡ Some bytes → max_blob_length < length bytes → from_hex (limited max_blob_length reply) field ≡ malformed
+decoded_over reply field {bytes = bytes} whole over = from-hex-some _ field whole ∙ rw (lt-ltb max_blob_length (length bytes) over)
+
 over_limit : (reply : List ℕ → List ℕ) (field : List ℕ) → 2 * max_blob_length < length field → from_hex (limited max_blob_length reply) field ≡ malformed
 unfolding decoded_of
 over_limit reply field over = by (eqb (2 * length (hex_bytes field)) (length field)) refl
@@ -27,8 +30,8 @@ over_limit reply field over = by (eqb (2 * length (hex_bytes field)) (length fie
     by : (b : Bool) → eqb (2 * length (hex_bytes field)) (length field) ≡ b → from_hex (limited max_blob_length reply) field ≡ malformed
     by true e =
         let all = eqb-true (2 * length (hex_bytes field)) (length field) e in
-        let bytes : decoded_of field ≡ Some (hex_bytes field) = rw e refl in
-        from-hex-some _ field bytes ∙ rw (lt-ltb max_blob_length (length (hex_bytes field)) (omega (arith, all, over)))
+        let whole : decoded_of field ≡ Some (hex_bytes field) = rw e refl in
+        decoded_over reply field whole (omega (arith, all, over))
     by false e = let none : decoded_of field ≡ None = rw e refl in from-hex-none _ field none
 
 no_buffer : (fill : ℕ) (first second : List ℕ) → (2 * max_blob_length < length first) ⊎ (decoded_of first ≡ None) → append_fill_reply fill first second ≡ malformed
@@ -70,7 +73,7 @@ module _ (rest number more first second : List ℕ) (e : fields_of rest ≡ numb
 
     module _ (buffer : List ℕ) (bytes : decoded_of first ≡ Some buffer) where
       pub append-over : max_blob_length < length buffer → exactly 3 append_reply (fields_of rest) ≡ malformed
-      append-over over = append-numbered (Some fill) some ∙ from-hex-some _ first bytes ∙ rw (lt-ltb max_blob_length (length buffer) over)
+      append-over over = append-numbered (Some fill) some ∙ decoded_over _ first bytes over
 
     pub append-blob : (size : ℕ) (made blob : List ℕ) → decoded_of first ≡ Some (take size made) → size ≤ max_blob_length → decoded_of second ≡ Some blob
         → exactly 3 append_reply (fields_of rest) ≡ outcome_text (append_outcome blob (take size made) fill)
